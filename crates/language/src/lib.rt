@@ -1,0 +1,1 @@
+// Trees, their language, their automaton and the cut automaton: theory alone, in specs/.

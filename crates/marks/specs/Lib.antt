@@ -1,0 +1,3 @@
+-- How words hold marks, and what the tables of a list hold.
+pub mod Words
+pub mod Plan

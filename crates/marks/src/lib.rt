@@ -1,0 +1,1 @@
+// Marks in words: start and step, by moves and sweeps over the pieces of a good list.

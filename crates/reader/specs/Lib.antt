@@ -1,0 +1,4 @@
+-- What an expression is: the table of refusals as a scanner, the prose as a grammar.
+pub mod Bytes
+pub mod Scanner
+pub mod Grammar

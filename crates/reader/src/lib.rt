@@ -1,0 +1,1 @@
+// Reads an expression into tree records, or refuses it by number and place.

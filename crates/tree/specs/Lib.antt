@@ -1,0 +1,3 @@
+-- The cut of a tree into pieces, and the records that a tree is stored as.
+pub mod Cut
+pub mod Records

@@ -1,0 +1,1 @@
+// Tree records: the cut, the numbers of children and pieces, and whether a lent list is good.
