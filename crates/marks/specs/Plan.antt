@@ -6,8 +6,8 @@ use mathlib.Core.Path.{_≡_}
 use mathlib.Core.Logic.{_↔_}
 use mathlib.Core.List.{List, [], _∷_, _++_}
 use lib.ListN.{getD, take, drop}
-use Rattle.language.specs.Automaton.{State, Empty, Path-of}
-use Rattle.language.specs.Nested.{Nested, leaf, catenation, union, star, below, own}
+use Rattle.language.specs.Automaton.{State, Empty, Reads, Path-of}
+use Rattle.language.specs.Nested.{Nested, leaf, catenation, union, star, below, own, Leaf, given, stand-in}
 use Rattle.marks.specs.Words.{Bit, width, run, Own, number}
 
 -- the words of the empty transitions: one for each state of x's own part of its piece, numbered from i, in the order of the numbers.
@@ -81,3 +81,18 @@ Each-below P table (below x) new = P x (row table new (width x)) × Each-below P
 -- in a table, the row of each piece of x, whose top piece is 0, is as P says of the piece
 abbrev pub Each : (Nested ℕ → List ℕ → Type 0) → List ℕ → Nested ℕ → Type 0
 Each P table x = P x (row table 0 (width x)) × Each-below P table x 1
+
+-- r is the word w of x's top piece, closed: its states that empty transitions of its own tree reach from the states of w
+pub record Closes (x : Nested ℕ) (w r : ℕ) : Type 0 where
+  pub exactly : (q : State) → Own x q → Bit r (number x q) ↔ ((p : State) × Own x p × Bit w (number x p) × Path-of (Empty (own x)) p q)
+  pub clean : r < 2 ^ width x
+
+-- a leaf of a piece's own tree reads the byte that it is; a stand-in reads none
+abbrev pub Is-own : Leaf ℕ → ℕ → Type 0
+Is-own (given a) b = a ≡ b
+Is-own stand-in b = ⊥
+
+-- r is the word w of x's top piece, moved along the byte b
+pub record Moves (x : Nested ℕ) (b w r : ℕ) : Type 0 where
+  pub exactly : (q : State) → Own x q → Bit r (number x q) ↔ ((p : State) × Own x p × Bit w (number x p) × Reads Is-own b (own x) p q)
+  pub clean : r < 2 ^ width x
