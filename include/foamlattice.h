@@ -1,0 +1,57 @@
+/* Foamlattice: a proved matcher for regular expressions.
+ *
+ * Every function takes slices as a pointer and a length, ends and answers on all bytes and words that it can be
+ * handed, and keeps nothing. A pointer is never null, also where its length is 0.
+ * The pointers of one call that are written through must not overlap the others.
+ *
+ * Each function answers one number:
+ *   bits  0 to  7  the refusal's number, 0 where nothing is refused
+ *   bits  8 to 15  a flag
+ *   bits 16 to 39  x
+ *   bits 40 to 63  y
+ *
+ *   call          flag                                      x                            y
+ *   foam_read     0                                         records; of a refusal        pieces; 0 of a refusal
+ *                                                           its place
+ *   foam_match    1 yes, 0 no                               0                            0
+ *   foam_search   1 found, 0 nothing                        start                        end, the first byte after
+ *   foam_start    1 where the accepting state is marked     0                            0
+ *   foam_step     1 where the accepting state is marked     0                            0
+ *
+ * A refusal changes no byte and no word that was lent.
+ */
+#ifndef FOAMLATTICE_H
+#define FOAMLATTICE_H
+
+#include <stddef.h>
+#include <stdint.h>
+
+#ifdef __cplusplus
+extern "C" {
+#endif
+
+/* Reads an expression into tree records of 8 bytes. Refusals, in this order: 1 no bytes; 2 more than 1,024 bytes; the
+ * first from left to right of 3 operand due, 4 group left open, 5 `)` with no group open, 6 a 33rd open group, 7 a bad
+ * `\`; 8 more than 128 pieces; 9 the record buffer is too short. Bytes past the records are not written. */
+uint64_t foam_read(const uint8_t *expression, size_t expression_length, uint8_t *records, size_t records_length);
+
+/* Whether the whole text is in the language of the list's tree. Refusals: 10 not a good list; 11 a text of more than
+ * 65,536 bytes. */
+uint64_t foam_match(const uint8_t *records, size_t records_length, const uint8_t *text, size_t text_length);
+
+/* The part of the text that starts earliest and, of those, ends furthest, among the parts in the language; it may be
+ * empty. Refusals as foam_match. */
+uint64_t foam_search(const uint8_t *records, size_t records_length, const uint8_t *text, size_t text_length);
+
+/* Writes the marks to start with: one word for each piece. Refusals: 10 not a good list; 12 fewer words than pieces. */
+uint64_t foam_start(const uint8_t *records, size_t records_length, uint64_t *words, size_t words_length);
+
+/* Turns the marks into those after one more byte. Refusals: 10; 12; 13 a bit past the last state is set, or the two bits
+ * of a shared state differ. */
+uint64_t foam_step(const uint8_t *records, size_t records_length, uint64_t *words, size_t words_length, uint8_t byte);
+
+#ifdef __cplusplus
+}
+#endif
+
+#endif

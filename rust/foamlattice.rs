@@ -1,0 +1,87 @@
+//! Safe wrappers for the proved library: slices in, `Result` out. Add this file to a crate and link `libfoamlattice.a`.
+
+extern "C" {
+    fn foam_read(expression: *const u8, expression_length: usize, records: *mut u8, records_length: usize) -> u64;
+    fn foam_match(records: *const u8, records_length: usize, text: *const u8, text_length: usize) -> u64;
+    fn foam_search(records: *const u8, records_length: usize, text: *const u8, text_length: usize) -> u64;
+    fn foam_start(records: *const u8, records_length: usize, words: *mut u64, words_length: usize) -> u64;
+    fn foam_step(records: *const u8, records_length: usize, words: *mut u64, words_length: usize, byte: u8) -> u64;
+}
+
+/// Why a call was refused: the number of the table of refusals, and the place (0 unless the table names one).
+#[derive(Clone, Copy, Debug, PartialEq, Eq)]
+pub struct Refusal {
+    pub number: u8,
+    pub place: usize,
+}
+
+/// How many records an expression has, and how many pieces its tree is cut into.
+#[derive(Clone, Copy, Debug, PartialEq, Eq)]
+pub struct Counts {
+    pub records: usize,
+    pub pieces: usize,
+}
+
+/// The longest list that a call can write or take: 15 nodes for each of 128 pieces, 8 bytes for each.
+pub const MOST_RECORD_BYTES: usize = 15 * 128 * 8;
+
+/// One word for each piece that a list can have.
+pub const MOST_WORDS: usize = 128;
+
+struct Packed(u64);
+
+impl Packed {
+    fn number(&self) -> u8 {
+        (self.0 & 0xff) as u8
+    }
+    fn flag(&self) -> bool {
+        (self.0 >> 8) & 0xff == 1
+    }
+    fn x(&self) -> usize {
+        ((self.0 >> 16) & 0xff_ffff) as usize
+    }
+    fn y(&self) -> usize {
+        (self.0 >> 40) as usize
+    }
+    fn checked(self) -> Result<Packed, Refusal> {
+        match self.number() {
+            0 => Ok(self),
+            number => Err(Refusal { number, place: self.x() }),
+        }
+    }
+}
+
+/// Reads an expression into `records`; on a refusal no byte of it is changed.
+pub fn read(expression: &[u8], records: &mut [u8]) -> Result<Counts, Refusal> {
+    // SAFETY: both slices are valid for their lengths for the call, and `records` is lent to it alone.
+    let packed = Packed(unsafe { foam_read(expression.as_ptr(), expression.len(), records.as_mut_ptr(), records.len()) });
+    packed.checked().map(|p| Counts { records: p.x(), pieces: p.y() })
+}
+
+/// Whether the whole text is in the language of the list.
+pub fn is_match(records: &[u8], text: &[u8]) -> Result<bool, Refusal> {
+    // SAFETY: both slices are valid for their lengths for the call.
+    let packed = Packed(unsafe { foam_match(records.as_ptr(), records.len(), text.as_ptr(), text.len()) });
+    packed.checked().map(|p| p.flag())
+}
+
+/// The part of the text that starts earliest and then ends furthest, if any part is in the language.
+pub fn find(records: &[u8], text: &[u8]) -> Result<Option<std::ops::Range<usize>>, Refusal> {
+    // SAFETY: both slices are valid for their lengths for the call.
+    let packed = Packed(unsafe { foam_search(records.as_ptr(), records.len(), text.as_ptr(), text.len()) });
+    packed.checked().map(|p| p.flag().then(|| p.x()..p.y()))
+}
+
+/// Marks the start in `words`, one for each piece, and answers whether the empty text is in the language.
+pub fn start(records: &[u8], words: &mut [u64]) -> Result<bool, Refusal> {
+    // SAFETY: both slices are valid for their lengths for the call, and `words` is lent to it alone.
+    let packed = Packed(unsafe { foam_start(records.as_ptr(), records.len(), words.as_mut_ptr(), words.len()) });
+    packed.checked().map(|p| p.flag())
+}
+
+/// Moves the marks in `words` along one byte, and answers whether the bytes so far are in the language.
+pub fn step(records: &[u8], words: &mut [u64], byte: u8) -> Result<bool, Refusal> {
+    // SAFETY: both slices are valid for their lengths for the call, and `words` is lent to it alone.
+    let packed = Packed(unsafe { foam_step(records.as_ptr(), records.len(), words.as_mut_ptr(), words.len(), byte) });
+    packed.checked().map(|p| p.flag())
+}

@@ -1,0 +1,433 @@
+//! The statement of what to build, implemented another way: a reader with an operator stack, membership by sets of ends
+//! over the tree, the fewest pieces by dynamic programming, marks by breadth-first closing of the uncut automaton.
+
+use std::collections::HashMap;
+
+#[derive(Clone, Debug, PartialEq, Eq)]
+pub enum Kind {
+    Character(u8),
+    Catenation,
+    Union,
+    Star,
+}
+
+/// Nodes in postorder: children come before their parent, the root is last.
+#[derive(Clone, Debug)]
+pub struct Node {
+    pub kind: Kind,
+    pub left: usize,
+    pub right: usize,
+}
+
+pub type Tree = Vec<Node>;
+
+pub const NONE: usize = 65_535;
+
+fn is_special(b: u8) -> bool {
+    b"()|*\\".contains(&b)
+}
+
+/// What is waiting on the operator stack: an open group with its place, or a binary sign whose right operand is being read.
+#[derive(Clone, Copy, PartialEq)]
+enum Waiting {
+    Group(usize),
+    Bar,
+    Joint,
+}
+
+struct Stacks {
+    tree: Tree,
+    operands: Vec<usize>,
+    waiting: Vec<Waiting>,
+}
+
+impl Stacks {
+    fn push(&mut self, kind: Kind, left: usize, right: usize) {
+        self.tree.push(Node { kind, left, right });
+        self.operands.push(self.tree.len() - 1);
+    }
+    fn reduce(&mut self, while_waiting: fn(Waiting) -> bool) {
+        while let Some(&top) = self.waiting.last() {
+            if !while_waiting(top) {
+                break;
+            }
+            self.waiting.pop();
+            let right = self.operands.pop().unwrap();
+            let left = self.operands.pop().unwrap();
+            let kind = if top == Waiting::Bar { Kind::Union } else { Kind::Catenation };
+            self.push(kind, left, right);
+        }
+    }
+    fn depth(&self) -> usize {
+        self.waiting.iter().filter(|w| matches!(w, Waiting::Group(_))).count()
+    }
+}
+
+/// The tree of an expression, or its first fault among 1 to 7 by number and place.
+pub fn read(e: &[u8]) -> Result<Tree, (u8, usize)> {
+    if e.is_empty() {
+        return Err((1, 0));
+    }
+    if e.len() > 1024 {
+        return Err((2, 1024));
+    }
+    let mut s = Stacks { tree: vec![], operands: vec![], waiting: vec![] };
+    let mut have = false;
+    let mut i = 0;
+    while i < e.len() {
+        let b = e[i];
+        if !have && b"|*)".contains(&b) {
+            return Err((3, i));
+        }
+        match b {
+            b'*' => {
+                let operand = s.operands.pop().unwrap();
+                s.push(Kind::Star, operand, NONE);
+            }
+            b'|' => {
+                s.reduce(|w| w == Waiting::Bar || w == Waiting::Joint);
+                s.waiting.push(Waiting::Bar);
+                have = false;
+            }
+            b')' => {
+                s.reduce(|w| w == Waiting::Bar || w == Waiting::Joint);
+                match s.waiting.pop() {
+                    Some(Waiting::Group(_)) => {}
+                    _ => return Err((5, i)),
+                }
+            }
+            _ => {
+                if have {
+                    s.reduce(|w| w == Waiting::Joint);
+                    s.waiting.push(Waiting::Joint);
+                }
+                if b == b'(' {
+                    if s.depth() == 32 {
+                        return Err((6, i));
+                    }
+                    s.waiting.push(Waiting::Group(i));
+                    have = false;
+                } else {
+                    let mut c = b;
+                    if b == b'\\' {
+                        if i + 1 >= e.len() || !is_special(e[i + 1]) {
+                            return Err((7, i));
+                        }
+                        c = e[i + 1];
+                        i += 1;
+                    }
+                    s.push(Kind::Character(c), NONE, NONE);
+                    have = true;
+                }
+            }
+        }
+        i += 1;
+    }
+    if !have {
+        return Err((3, e.len()));
+    }
+    s.reduce(|w| w == Waiting::Bar || w == Waiting::Joint);
+    if let Some(Waiting::Group(place)) = s.waiting.pop() {
+        return Err((4, place));
+    }
+    Ok(s.tree)
+}
+
+fn children(n: &Node) -> Vec<usize> {
+    match n.kind {
+        Kind::Character(_) => vec![],
+        Kind::Star => vec![n.left],
+        _ => vec![n.left, n.right],
+    }
+}
+
+/// The fewest pieces of at most 15 nodes, over all sets of cut edges: for each open size the fewest cut edges.
+pub fn fewest_pieces(t: &Tree) -> usize {
+    let many = usize::MAX / 4;
+    let mut best: Vec<[usize; 16]> = vec![];
+    for n in t {
+        let mut here = [many; 16];
+        here[1] = 0;
+        for c in children(n) {
+            let cut = 1 + *best[c].iter().min().unwrap();
+            let mut joined = [many; 16];
+            for size in 1..16 {
+                if here[size] >= many {
+                    continue;
+                }
+                joined[size] = joined[size].min(here[size] + cut);
+                for more in 1..16 - size {
+                    joined[size + more] = joined[size + more].min(here[size] + best[c][more]);
+                }
+            }
+            here = joined;
+        }
+        best.push(here);
+    }
+    1 + *best.last().unwrap().iter().min().unwrap()
+}
+
+/// The piece of each node by the rule of the cut, and the number of pieces.
+pub fn pieces(t: &Tree) -> (Vec<usize>, usize) {
+    let mut open = vec![0usize; t.len()];
+    let mut is_cut = vec![false; t.len()];
+    for (i, n) in t.iter().enumerate() {
+        let mut below = children(n);
+        below.sort_by_key(|&c| (std::cmp::Reverse(open[c]), c));
+        let mut size = 1 + below.iter().map(|&c| open[c]).sum::<usize>();
+        for c in below {
+            if size > 15 {
+                is_cut[c] = true;
+                size -= open[c];
+            }
+        }
+        open[i] = size;
+    }
+    let mut piece = vec![0; t.len()];
+    let mut count = 1;
+    let mut todo = vec![(t.len() - 1, 0)];
+    while let Some((i, parent)) = todo.pop() {
+        piece[i] = if is_cut[i] {
+            count += 1;
+            count - 1
+        } else {
+            parent
+        };
+        for &c in children(&t[i]).iter().rev() {
+            todo.push((c, piece[i]));
+        }
+    }
+    (piece, count)
+}
+
+pub fn records(t: &Tree) -> Vec<u8> {
+    let (piece, _) = pieces(t);
+    let mut out = vec![];
+    for (i, n) in t.iter().enumerate() {
+        let (kind, character) = match n.kind {
+            Kind::Character(c) => (1, c),
+            Kind::Catenation => (2, 0),
+            Kind::Union => (3, 0),
+            Kind::Star => (4, 0),
+        };
+        out.extend([kind, character]);
+        for number in [n.left, n.right, piece[i]] {
+            out.extend((number as u16).to_le_bytes());
+        }
+    }
+    out
+}
+
+/// The tree of a good list.
+pub fn decode(list: &[u8]) -> Option<Tree> {
+    if list.is_empty() || list.len() % 8 != 0 || list.len() > 15 * 128 * 8 {
+        return None;
+    }
+    let mut t: Tree = vec![];
+    let mut roots: Vec<usize> = vec![];
+    for r in list.chunks(8) {
+        let (kind, pops) = match r[0] {
+            1 => (Kind::Character(r[1]), 0),
+            2 => (Kind::Catenation, 2),
+            3 => (Kind::Union, 2),
+            4 => (Kind::Star, 1),
+            _ => return None,
+        };
+        if roots.len() < pops {
+            return None;
+        }
+        let mut below = roots.split_off(roots.len() - pops);
+        below.resize(2, NONE);
+        t.push(Node { kind, left: below[0], right: below[1] });
+        roots.push(t.len() - 1);
+    }
+    (roots.len() == 1 && pieces(&t).1 <= 128 && records(&t) == list).then_some(t)
+}
+
+type Ends = Vec<bool>;
+
+/// The places where a part that starts at one of `starts` can end.
+fn ends(t: &Tree, node: usize, starts: &Ends, text: &[u8]) -> Ends {
+    match t[node].kind {
+        Kind::Character(c) => {
+            let mut out = vec![false; starts.len()];
+            for i in 0..text.len() {
+                out[i + 1] = starts[i] && text[i] == c;
+            }
+            out
+        }
+        Kind::Catenation => {
+            let between = ends(t, t[node].left, starts, text);
+            if between.iter().any(|&b| b) {
+                ends(t, t[node].right, &between, text)
+            } else {
+                between
+            }
+        }
+        Kind::Union => {
+            let mut out = ends(t, t[node].left, starts, text);
+            for (a, b) in out.iter_mut().zip(ends(t, t[node].right, starts, text)) {
+                *a |= b;
+            }
+            out
+        }
+        Kind::Star => {
+            let mut all = starts.clone();
+            let mut fresh = starts.clone();
+            while fresh.iter().any(|&b| b) {
+                let reached = ends(t, t[node].left, &fresh, text);
+                fresh = reached.iter().zip(&all).map(|(&r, &a)| r && !a).collect();
+                for (a, &f) in all.iter_mut().zip(&fresh) {
+                    *a |= f;
+                }
+            }
+            all
+        }
+    }
+}
+
+fn ends_from(t: &Tree, start: usize, text: &[u8]) -> Ends {
+    let mut starts = vec![false; text.len() + 1];
+    starts[start] = true;
+    ends(t, t.len() - 1, &starts, text)
+}
+
+pub fn is_match(t: &Tree, text: &[u8]) -> bool {
+    ends_from(t, 0, text)[text.len()]
+}
+
+pub fn find(t: &Tree, text: &[u8]) -> Option<(usize, usize)> {
+    (0..=text.len()).find_map(|s| ends_from(t, s, text).iter().rposition(|&b| b).map(|e| (s, e)))
+}
+
+/// The uncut automaton: state 2 i is node i's start, 2 i + 1 its accepting state.
+pub struct Automaton {
+    empty: Vec<Vec<usize>>,
+    characters: Vec<Option<u8>>,
+    /// The bits, by piece and number, of each state: one, or two where the state is shared.
+    pub bits: Vec<Vec<(usize, usize)>>,
+    pub widths: Vec<usize>,
+}
+
+pub fn automaton(t: &Tree) -> Automaton {
+    let mut a = Automaton { empty: vec![vec![]; 2 * t.len()], characters: vec![None; t.len()], bits: vec![vec![]; 2 * t.len()], widths: vec![] };
+    for (i, n) in t.iter().enumerate() {
+        let (start, accepting) = (2 * i, 2 * i + 1);
+        let (l, r) = (2 * n.left, 2 * n.right);
+        match n.kind {
+            Kind::Character(c) => a.characters[i] = Some(c),
+            Kind::Catenation => {
+                a.empty[start].push(l);
+                a.empty[l + 1].push(r);
+                a.empty[r + 1].push(accepting);
+            }
+            Kind::Union => {
+                a.empty[start].extend([l, r]);
+                a.empty[l + 1].push(accepting);
+                a.empty[r + 1].push(accepting);
+            }
+            Kind::Star => {
+                a.empty[start].extend([l, accepting]);
+                a.empty[l + 1].extend([accepting, l]);
+            }
+        }
+    }
+    let (piece, count) = pieces(t);
+    a.widths = vec![0; count];
+    number(t, &piece, t.len() - 1, &mut a);
+    a
+}
+
+/// Numbers the states by a walk: each piece counts its own, and a stand-in's two where a child piece begins.
+fn number(t: &Tree, piece: &[usize], root: usize, a: &mut Automaton) {
+    enum Visit {
+        Enter(usize, usize),
+        Leave(usize),
+    }
+    let mut todo = vec![Visit::Enter(root, piece[root])];
+    while let Some(visit) = todo.pop() {
+        match visit {
+            Visit::Enter(i, parent) => {
+                let k = piece[i];
+                if k != parent {
+                    for state in [2 * i, 2 * i + 1] {
+                        a.bits[state].push((parent, a.widths[parent]));
+                        a.widths[parent] += 1;
+                    }
+                }
+                a.bits[2 * i].push((k, a.widths[k]));
+                a.widths[k] += 1;
+                todo.push(Visit::Leave(i));
+                for &c in children(&t[i]).iter().rev() {
+                    todo.push(Visit::Enter(c, k));
+                }
+            }
+            Visit::Leave(i) => {
+                let k = piece[i];
+                a.bits[2 * i + 1].push((k, a.widths[k]));
+                a.widths[k] += 1;
+            }
+        }
+    }
+}
+
+impl Automaton {
+    fn close(&self, marks: &mut [bool]) {
+        let mut todo: Vec<usize> = (0..marks.len()).filter(|&s| marks[s]).collect();
+        while let Some(s) = todo.pop() {
+            for &next in &self.empty[s] {
+                if !marks[next] {
+                    marks[next] = true;
+                    todo.push(next);
+                }
+            }
+        }
+    }
+    pub fn start(&self) -> Vec<bool> {
+        let mut marks = vec![false; self.empty.len()];
+        let root = self.characters.len() - 1;
+        marks[2 * root] = true;
+        self.close(&mut marks);
+        marks
+    }
+    pub fn step(&self, marks: &[bool], byte: u8) -> Vec<bool> {
+        let mut next = vec![false; marks.len()];
+        for (i, &c) in self.characters.iter().enumerate() {
+            next[2 * i + 1] = marks[2 * i] && c == Some(byte);
+        }
+        self.close(&mut next);
+        next
+    }
+    pub fn words(&self, marks: &[bool]) -> Vec<u64> {
+        let mut words = vec![0; self.widths.len()];
+        for (state, bits) in self.bits.iter().enumerate() {
+            for &(k, i) in bits {
+                words[k] |= (marks[state] as u64) << i;
+            }
+        }
+        words
+    }
+    /// The marks that words hold, if no bit past the last state is set and the two bits of shared states agree.
+    pub fn marks(&self, words: &[u64]) -> Option<Vec<bool>> {
+        let mut known: HashMap<(usize, usize), bool> = HashMap::new();
+        for (k, &width) in self.widths.iter().enumerate() {
+            for i in 0..64 {
+                let bit = words[k] >> i & 1 == 1;
+                if i < width {
+                    known.insert((k, i), bit);
+                } else if bit {
+                    return None;
+                }
+            }
+        }
+        let mut marks = vec![];
+        for bits in &self.bits {
+            let first = known[&bits[0]];
+            if bits.iter().any(|b| known[b] != first) {
+                return None;
+            }
+            marks.push(first);
+        }
+        Some(marks)
+    }
+}
