@@ -3,3 +3,7 @@ pub mod Tree
 pub mod Language
 pub mod Automaton
 pub mod Nested
+pub mod Simulation
+pub mod Rest
+pub mod Runs
+pub mod Acceptance

@@ -1,0 +1,56 @@
+-- The plain simulation as a function of its marks: more marks give more, the same marks give the same, and no mark gives none.
+-- Assumes nothing.
+use Prim.Native.Nat.{ℕ}
+use mathlib.Core.List.{List, [], _∷_}
+use mathlib.Core.Logic.{_↔_}
+use Rattle.language.specs.Tree.{Tree}
+use Rattle.language.specs.Automaton.{State, States, Empty, Path-of, here, step, Closed, Moved, Stepped, After}
+
+-- a set that each step of R leads from to itself
+abbrev pub Settled-by : (State → State → Type 0) → States → Type 0
+Settled-by R X = (p q : State) → R p q → X p → X q
+
+-- a path follows its steps
+pub along : {R : State → State → Type 0} {X : States} → Settled-by R X → (p q : State) → Path-of R p q → X p → X q
+along settled p q here x = x
+along settled p q (step {q = m} r rest) x = along settled m q rest (settled p m r x)
+
+-- paths join
+pub then : {R : State → State → Type 0} {p q r : State} → Path-of R p q → Path-of R q r → Path-of R p r
+then here rest = rest
+then (step r path) rest = step r (then path rest)
+
+module _ {A : Type 0} (t : Tree A) where
+  -- closing loses no mark
+  pub closed-keeps : (X : States) (p : State) → X p → Closed t X p
+  closed-keeps X p x = (p, x, here)
+
+  -- what is closed is settled: a path goes one step further
+  pub closed-settled : (X : States) → Settled-by (Empty t) (Closed t X)
+  closed-settled X p q e c = (c .0, c .1, then (c .2) (step e here))
+
+  -- closing is the least: it stays within each settled set
+  pub closed-least : {X Y : States} → Settled-by (Empty t) Y → ((p : State) → X p → Y p) → (p : State) → Closed t X p → Y p
+  closed-least settled within p c = along settled (c .0) p (c .2) (within (c .0) (c .1))
+
+  -- more marks close to more
+  pub closed-more : {X Y : States} → ((p : State) → X p → Y p) → (p : State) → Closed t X p → Closed t Y p
+  closed-more more p c = (c .0, more (c .0) (c .1), c .2)
+
+module _ {A : Type 0} (Takes : A → ℕ → Type 0) (t : Tree A) where
+  -- more marks step to more
+  pub stepped-more : (b : ℕ) {X Y : States} → ((p : State) → X p → Y p) → (p : State) → Stepped Takes t b X p → Stepped Takes t b Y p
+  stepped-more b more = closed-more t (λ p m. (m .0, more (m .0) (m .1), m .2))
+
+  -- more marks come to more after a text
+  pub after-more : (w : List ℕ) {X Y : States} → ((p : State) → X p → Y p) → (p : State) → After Takes t w X p → After Takes t w Y p
+  after-more [] more = more
+  after-more (b ∷ w) more = after-more w (stepped-more b more)
+
+  -- the same marks come to the same after a text
+  pub after-same : (w : List ℕ) {X Y : States} → ((p : State) → X p ↔ Y p) → (p : State) → After Takes t w X p ↔ After Takes t w Y p
+  after-same w same p = (after-more w (λ q. same q .0) p, after-more w (λ q. same q .1) p)
+
+  -- no mark stays no mark
+  pub none-left : (b : ℕ) {X : States} → ((p : State) → X p → ⊥) → (p : State) → Stepped Takes t b X p → ⊥
+  none-left b none p c = none (c .1 .0) (c .1 .1)
