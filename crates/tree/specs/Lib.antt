@@ -1,3 +1,6 @@
 -- The cut of a tree into pieces, and the records that a tree is stored as.
 pub mod Cut
 pub mod Records
+pub mod Lengths
+pub mod Postorder
+pub mod Readback
