@@ -4,3 +4,6 @@ pub mod Records
 pub mod Lengths
 pub mod Postorder
 pub mod Readback
+pub mod Choice
+pub mod Least
+pub mod Bounds
