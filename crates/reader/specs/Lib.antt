@@ -2,3 +2,9 @@
 pub mod Bytes
 pub mod Scanner
 pub mod Grammar
+pub mod Signs
+pub mod Complete
+pub mod Sound
+pub mod Faults
+pub mod Agree
+pub mod Examples

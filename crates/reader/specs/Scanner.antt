@@ -105,7 +105,7 @@ end-at place (after t) before [] = tree (finished before t)
 end-at place (after t) before (group ∷ groups) = refused 4 (group .place)
 
 -- the bytes from a place on
-pub scan : List ℕ → ℕ → Phase → Before → List Group → Outcome
+unfoldable pub scan : List ℕ → ℕ → Phase → Before → List Group → Outcome
 scan [] place phase before groups = end-at place phase before groups
 scan (b ∷ rest) place phase before groups = byte-at b place phase (scan rest (place + 1)) before groups
 
