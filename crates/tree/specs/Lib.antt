@@ -7,3 +7,4 @@ pub mod Readback
 pub mod Choice
 pub mod Least
 pub mod Bounds
+pub mod Nesting
