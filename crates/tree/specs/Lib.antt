@@ -3,8 +3,10 @@ pub mod Cut
 pub mod Records
 pub mod Lengths
 pub mod Postorder
+pub mod Rows
 pub mod Readback
 pub mod Choice
 pub mod Least
 pub mod Bounds
 pub mod Nesting
+pub mod Numbering

@@ -1,28 +1,24 @@
 -- A tree is read back from its list: two trees with the same list are the same.
 -- Assumes nothing.
-use Prim.Native.Nat.{ℕ, _+_, _*_, _-_, _≤_}
+use Prim.Native.Nat.{ℕ, _+_, _*_, _≤_}
 use mathlib.Core.Path.{_≡_, refl, sym, ap, _∙_}
 use mathlib.Core.List.{List, [], _∷_, _++_, append-assoc, append-nil}
 use native.Mathlib.Nat.{add-zero}
-use native.Mathlib.Omega.{arith}
-use lib.ListN.{length, getD, take, drop, length-drop}
-use lib.Seq.{length-take-le, take-add, getD-drop}
+use lib.ListN.{length, getD, take, drop}
+use lib.Seq.{getD-drop}
 use Rattle.language.specs.Tree.{Tree, leaf, catenation, union, star}
 use Rattle.tree.specs.Cut.{Cut, wanted}
 use Rattle.tree.specs.Records.{records, encode, Good, label-of, labels}
+use Rattle.tree.specs.Rows.{Reader, each-record, each-append, each-more, first-record}
 use Rattle.tree.specs.Postorder.{labels-injective}
 
--- the labels of the records in a list: bytes 0 and 1 of every 8
+-- the label of a record, from its bytes 0 and 1
+abbrev pub label-read : Reader
+label-read a b c d e f g h = label-of a b
+
+-- the labels of the records in a list
 abbrev pub labels-of-bytes : List ℕ → List ℕ
-labels-of-bytes [] = []
-labels-of-bytes (a ∷ []) = []
-labels-of-bytes (a ∷ (b ∷ [])) = []
-labels-of-bytes (a ∷ (b ∷ (c ∷ []))) = []
-labels-of-bytes (a ∷ (b ∷ (c ∷ (d ∷ [])))) = []
-labels-of-bytes (a ∷ (b ∷ (c ∷ (d ∷ (e ∷ []))))) = []
-labels-of-bytes (a ∷ (b ∷ (c ∷ (d ∷ (e ∷ (f ∷ [])))))) = []
-labels-of-bytes (a ∷ (b ∷ (c ∷ (d ∷ (e ∷ (f ∷ (g ∷ []))))))) = []
-labels-of-bytes (a ∷ (b ∷ (c ∷ (d ∷ (e ∷ (f ∷ (g ∷ (h ∷ rest)))))))) = label-of a b ∷ labels-of-bytes rest
+labels-of-bytes bytes = each-record label-read bytes
 
 -- the labels of the records of t, with more bytes behind them
 pub labels-of-records : (t : Tree ℕ) (c : Cut t) (first piece new : ℕ) (rest : List ℕ) → labels-of-bytes (records t c first piece new ++ rest) ≡ labels t ++ labels-of-bytes rest
@@ -47,32 +43,9 @@ good-unique bytes s t p q = encode-injective s t (sym (p .of-tree) ∙ q .of-tre
 
 -- in two parts, the first of whole records
 pub labels-of-append : (xs ys : List ℕ) (n : ℕ) → length xs ≡ 8 * n → labels-of-bytes (xs ++ ys) ≡ labels-of-bytes xs ++ labels-of-bytes ys
-labels-of-append [] ys n e = refl
-labels-of-append (a ∷ []) ys n e = absurd (omega arith)
-labels-of-append (a ∷ (b ∷ [])) ys n e = absurd (omega arith)
-labels-of-append (a ∷ (b ∷ (c ∷ []))) ys n e = absurd (omega arith)
-labels-of-append (a ∷ (b ∷ (c ∷ (d ∷ [])))) ys n e = absurd (omega arith)
-labels-of-append (a ∷ (b ∷ (c ∷ (d ∷ (e ∷ []))))) ys n l = absurd (omega arith)
-labels-of-append (a ∷ (b ∷ (c ∷ (d ∷ (e ∷ (f ∷ [])))))) ys n l = absurd (omega arith)
-labels-of-append (a ∷ (b ∷ (c ∷ (d ∷ (e ∷ (f ∷ (g ∷ []))))))) ys n l = absurd (omega arith)
-labels-of-append (a ∷ (b ∷ (c ∷ (d ∷ (e ∷ (f ∷ (g ∷ (h ∷ rest)))))))) ys n l = ap (λ (more : List ℕ). label-of a b ∷ more) (labels-of-append rest ys (n - 1) (omega arith))
-
--- the first record of a list that has one
-labels-of-first : (bytes : List ℕ) → 8 ≤ length bytes → labels-of-bytes (take 8 bytes) ≡ label-of (getD bytes 0 0) (getD bytes 1 0) ∷ []
-labels-of-first [] h = absurd (omega arith)
-labels-of-first (a ∷ []) h = absurd (omega arith)
-labels-of-first (a ∷ (b ∷ [])) h = absurd (omega arith)
-labels-of-first (a ∷ (b ∷ (c ∷ []))) h = absurd (omega arith)
-labels-of-first (a ∷ (b ∷ (c ∷ (d ∷ [])))) h = absurd (omega arith)
-labels-of-first (a ∷ (b ∷ (c ∷ (d ∷ (e ∷ []))))) h = absurd (omega arith)
-labels-of-first (a ∷ (b ∷ (c ∷ (d ∷ (e ∷ (f ∷ [])))))) h = absurd (omega arith)
-labels-of-first (a ∷ (b ∷ (c ∷ (d ∷ (e ∷ (f ∷ (g ∷ []))))))) h = absurd (omega arith)
-labels-of-first (a ∷ (b ∷ (c ∷ (d ∷ (e ∷ (f ∷ (g ∷ (h ∷ rest)))))))) l = refl
+labels-of-append = each-append label-read
 
 -- one record more
-pub labels-of-more : (bytes : List ℕ) (n : ℕ) → 8 * n + 8 ≤ length bytes → labels-of-bytes (take (8 * n + 8) bytes) ≡ labels-of-bytes (take (8 * n) bytes) ++ (label-of (getD bytes (8 * n) 0) (getD bytes (8 * n + 1) 0) ∷ [])
-labels-of-more bytes n h =
-    let before : length (take (8 * n) bytes) ≡ 8 * n = length-take-le (8 * n) bytes (omega arith) in
-    let after : 8 ≤ length (drop (8 * n) bytes) = simp length-drop (omega arith) in
-    let last = labels-of-first (drop (8 * n) bytes) after in
-    rw (take-add (8 * n) 8 bytes, labels-of-append (take (8 * n) bytes) (take 8 (drop (8 * n) bytes)) n before, last, getD-drop (8 * n) bytes 0 0, getD-drop (8 * n) bytes 1 0, add-zero)
+pub labels-of-more : (bytes : List ℕ) (n : ℕ) → 8 * n + 8 ≤ length bytes
+    → labels-of-bytes (take (8 * n + 8) bytes) ≡ labels-of-bytes (take (8 * n) bytes) ++ (label-of (getD bytes (8 * n) 0) (getD bytes (8 * n + 1) 0) ∷ [])
+labels-of-more bytes n h = rw (each-more label-read bytes n h, getD-drop (8 * n) bytes 0 0, getD-drop (8 * n) bytes 1 0, add-zero)
