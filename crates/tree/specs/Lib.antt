@@ -10,3 +10,6 @@ pub mod Least
 pub mod Bounds
 pub mod Nesting
 pub mod Numbering
+pub mod Walk
+pub mod Stored
+pub mod Pieces

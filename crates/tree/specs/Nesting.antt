@@ -55,7 +55,7 @@ every-below f (nested-star x) h = every-below f x h
 every-below f (below x) h = (f x (h .0), every-below f x (h .1))
 
 -- an edge, cut or not: the tree under it, the nodes and the pieces that it adds
-whole-edge : {A : Type 0} (b : Bool) (x : Nested A) → whole (edge b x) ≡ whole x
+pub whole-edge : {A : Type 0} (b : Bool) (x : Nested A) → whole (edge b x) ≡ whole x
 whole-edge true x = refl
 whole-edge false x = refl
 
