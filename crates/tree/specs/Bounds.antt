@@ -39,6 +39,7 @@ paid-of-two k m i j (left-off large larger small) x y = omega arith
 paid-of-two k m i j (right-off large larger small) x y = omega arith
 paid-of-two k m i j (both-off large still) x y = omega arith
 
+-- so does an operand that a star cuts off, of open size 15
 paid-of-one : {n : ℕ} {b : Bool} (k i : ℕ) → Only-choice n b → 8 * k + n ≤ i → 8 * (one b + k) + (1 + kept b n) ≤ i + 1
 paid-of-one k i (stays small) x = omega arith
 paid-of-one k i (goes-off large) x = omega arith

@@ -48,6 +48,7 @@ chosen-fits (left-off large larger small) = omega arith
 chosen-fits (right-off large larger small) = omega arith
 chosen-fits (both-off large still) = omega arith
 
+-- so has a star
 only-fits : {n : ℕ} {b : Bool} → Only-choice n b → 1 + kept b n ≤ 15
 only-fits (stays small) = small
 only-fits (goes-off large) = omega arith

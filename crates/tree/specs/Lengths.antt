@@ -6,8 +6,8 @@ use mathlib.Core.List.{List, [], _∷_, _++_}
 use native.Mathlib.Omega.{arith}
 use lib.ListN.{length, length-append}
 use Rattle.language.specs.Tree.{Tree, leaf, catenation, union, star, nodes}
-use Rattle.tree.specs.Cut.{Cut, one, wanted}
-use Rattle.tree.specs.Records.{child-piece, records, encode, labels}
+use Rattle.tree.specs.Cut.{Cut, wanted}
+use Rattle.tree.specs.Records.{records, encode, labels}
 
 -- a tree has a node: its root
 pub nodes-positive : {A : Type 0} (t : Tree A) → 1 ≤ nodes t

@@ -1,7 +1,7 @@
 -- The pieces of a tree that is cut: how many there are, and that each is small.
 -- Assumes nothing.
 use Prim.Native.Nat.{ℕ, _+_, _≤_}
-use mathlib.Core.Path.{_≡_, refl, ap, ap₂}
+use mathlib.Core.Path.{_≡_, refl}
 use mathlib.Core.Bool.{Bool, true, false}
 use native.Mathlib.Omega.{arith}
 use Rattle.language.specs.Tree.{Tree, leaf, catenation, union, star, nodes}
@@ -54,15 +54,17 @@ every-below f (nested-union x y) h = (every-below f x (h .0), every-below f y (h
 every-below f (nested-star x) h = every-below f x h
 every-below f (below x) h = (f x (h .0), every-below f x (h .1))
 
--- an edge, cut or not: the tree under it, the nodes and the pieces that it adds
+-- an edge, cut or not, leaves the tree under it
 pub whole-edge : {A : Type 0} (b : Bool) (x : Nested A) → whole (edge b x) ≡ whole x
 whole-edge true x = refl
 whole-edge false x = refl
 
+-- it adds the child's nodes to the top piece where it is not cut
 top-nodes-edge : {A : Type 0} (b : Bool) (x : Nested A) → top-nodes (edge b x) ≡ kept b (top-nodes x)
 top-nodes-edge true x = refl
 top-nodes-edge false x = refl
 
+-- and one piece more where it is cut
 pub pieces-below-edge : {A : Type 0} (b : Bool) (x : Nested A) → pieces-below (edge b x) ≡ one b + pieces-below x
 pieces-below-edge true x = refl
 pieces-below-edge false x = omega arith
@@ -123,6 +125,7 @@ small-edge : {A : Type 0} (b : Bool) (s : Tree A) (d : Cut s) → Fits s d → E
 small-edge true s d h e = (small-top s d h, e)
 small-edge false s d h e = e
 
+-- so is every piece below another
 small-below : {A : Type 0} (t : Tree A) (c : Cut t) → Fits t c → Every-below Small (nest t c)
 small-below (leaf a) c h = tt
 small-below (catenation s t) c h = (small-edge (c .0) s (c .1) (h .1) (small-below s (c .1) (h .1)), small-edge (c .2) t (c .3) (h .2) (small-below t (c .3) (h .2)))
@@ -137,6 +140,7 @@ small-pieces t c h = (small-top t c h, small-below t c h)
 abbrev pub Large : {A : Type 0} → Nested A → Type 0
 Large x = 8 ≤ top-nodes x
 
+-- the root's piece of the wanted cut has the open size
 large-top : {A : Type 0} (t : Tree A) → 8 ≤ open-size t → Large (nest t (wanted t))
 large-top t h = rw (top-nodes-nest t (wanted t), part-wanted t) h
 
@@ -148,6 +152,7 @@ large-of-two s t (left-off large larger small) x y = ((large-top s (omega arith)
 large-of-two s t (right-off large larger small) x y = (x, (large-top t (omega arith), y))
 large-of-two s t (both-off large still) x y = ((large-top s (omega arith), x), (large-top t (omega arith), y))
 
+-- so has an operand that a star cuts off
 large-of-one : {A : Type 0} (s : Tree A) {b : Bool} → Only-choice (open-size s) b → Every-below Large (nest s (wanted s)) → Every-below Large (edge b (nest s (wanted s)))
 large-of-one s (stays small) x = x
 large-of-one s (goes-off large) x = (large-top s (omega arith), x)

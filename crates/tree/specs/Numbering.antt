@@ -1,16 +1,15 @@
 -- Pieces are numbered in the order in which a walk (node, left, right) first meets them, and a piece and those below it own a run of numbers with no gap.
 -- Assumes nothing.
-use Prim.Native.Nat.{ℕ, zero, suc, _+_, _*_, _-_, _/_, _%_, _≤_, _<_}
-use mathlib.Core.Path.{_≡_, refl, sym, ap, _∙_}
+use Prim.Native.Nat.{ℕ, _+_, _*_, _/_, _%_, _≤_, _<_}
+use mathlib.Core.Path.{_≡_, refl, ap, _∙_}
 use mathlib.Core.Logic.{_↔_, _⊎_, inl, inr}
-use mathlib.Core.Bool.{Bool, true, false, cond, _||_}
+use mathlib.Core.Bool.{Bool, true, false}
 use mathlib.Core.List.{List, [], _∷_, _++_, map, map-append, append-assoc, append-nil}
 use native.Mathlib.Omega.{arith}
 use native.Mathlib.Decide.{decLt}
-use lib.Dec.{eqb}
 use Rattle.language.specs.Tree.{Tree, leaf, catenation, union, star}
 use Rattle.tree.specs.Cut.{Cut, one, cuts, pieces, wanted}
-use Rattle.tree.specs.Records.{child-piece, records, encode, piece-count, Good}
+use Rattle.tree.specs.Records.{child-piece, records, Good}
 use Rattle.tree.specs.Rows.{Reader, each-record}
 
 -- a tree of numbers, one for each node
@@ -77,6 +76,7 @@ from-child true a piece new k (inr h) = inr (omega arith)
 from-child false a piece new k (inl e) = inl e
 from-child false a piece new k (inr h) = inr (omega arith)
 
+-- and every number of the run is one of the child's
 to-child : (b : Bool) (a piece new k : ℕ) → new ≤ a → a < new + (one b + k) → Root-or-run a (child-piece b piece new) (one b + new) k
 to-child true a piece new k low high = elim (decLt new a) [ yes h ↦ inr (omega arith) | no h ↦ inl (omega arith) ]
 to-child false a piece new k low high = inr (omega arith)
@@ -86,10 +86,12 @@ first-run : (a piece new k m : ℕ) → Root-or-run a piece new k → Root-or-ru
 first-run a piece new k m (inl e) = inl e
 first-run a piece new k m (inr h) = inr (omega arith)
 
+-- the second begins where the first ends
 second-run : (a piece new k m : ℕ) → Root-or-run a piece (k + new) m → Root-or-run a piece new (k + m)
 second-run a piece new k m (inl e) = inl e
 second-run a piece new k m (inr h) = inr (omega arith)
 
+-- at a node with two children: the runs of the left and of the right one are the node's
 exactly-two : (a piece new : ℕ) (b c : Bool) (k m : ℕ) {X Y : Type 0}
     → (X ↔ Root-or-run a (child-piece b piece new) (one b + new) k)
     → (Y ↔ Root-or-run a (child-piece c piece (one b + k + new)) (one c + (one b + k + new)) m)
@@ -109,6 +111,7 @@ exactly-two a piece new b c k m {X} {Y} left right = (there, back)
           | no l ↦ inr (inr (right .1 (to-child c a piece (one b + k + new) m (omega arith) (omega arith))))
         ]
 
+-- at a star: the run of the operand is the star's
 exactly-one : (a piece new : ℕ) (b : Bool) (k : ℕ) {X : Type 0}
     → (X ↔ Root-or-run a (child-piece b piece new) (one b + new) k)
     → ((a ≡ piece) ⊎ X) ↔ Root-or-run a piece new (one b + k)
@@ -122,6 +125,7 @@ exactly-one a piece new b k {X} only = (there, back)
     back (inl e) = inl e
     back (inr h) = inr (only .1 (to-child b a piece new k (h .0) (h .1)))
 
+-- a leaf has no run
 exactly-alone : (a piece new : ℕ) → (a ≡ piece) ↔ Root-or-run a piece new 0
 exactly-alone a piece new = (inl, back)
   where
@@ -141,6 +145,7 @@ numbers-exactly (star s) c piece new a = exactly-one a piece new (c .0) _ (numbe
 held : (n : ℕ) → n < 65536 → in-two-bytes n ≡ n
 held n h = omega arith
 
+-- so is a list of such numbers
 held-in-postorder : (x : Numbers) → ((a : ℕ) → Stands a x → a < 65536) → map in-two-bytes (in-postorder x) ≡ in-postorder x
 held-in-postorder (alone n) h = rw (held n (h n refl))
 held-in-postorder (above-one n x) h =

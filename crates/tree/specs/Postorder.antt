@@ -21,6 +21,7 @@ pub data Asked : Type 0 where
   a-star : Asked
   nothing : Asked
 
+-- what is asked for, by the label's low byte and, of a node with children, by all of it
 abbrev pub asked : ℕ → Asked
 asked label =
     cond (eqb (label % 256) 1) (a-leaf (label / 256))
@@ -122,7 +123,8 @@ pub built-holds : (ls : List ℕ) (stack : List (Tree ℕ)) → Holds-labels (bu
 built-holds [] stack = rw append-nil
 built-holds (label ∷ rest) stack = later (pushed (asked label) stack) (pushed-holds (asked label) label stack (asked-says label)) (built-holds rest)
   where
-    later : (o : Option (List (Tree ℕ))) → Holds-labels o (labels-of-stack stack ++ (label ∷ [])) → ((after : List (Tree ℕ)) → Holds-labels (built rest after) (labels-of-stack after ++ rest)) → Holds-labels (onward o (built rest)) (labels-of-stack stack ++ label ∷ rest)
+    later : (o : Option (List (Tree ℕ))) → Holds-labels o (labels-of-stack stack ++ (label ∷ []))
+        → ((after : List (Tree ℕ)) → Holds-labels (built rest after) (labels-of-stack after ++ rest)) → Holds-labels (onward o (built rest)) (labels-of-stack stack ++ label ∷ rest)
     later none h go-on = tt
     later (some after) h go-on = rw (h, append-snoc) at (go-on after)
 
@@ -144,6 +146,7 @@ pub built-append : (xs ys : List ℕ) (stack : List (Tree ℕ)) → built (xs ++
 built-append [] ys stack = refl
 built-append (label ∷ xs) ys stack = later (pushed (asked label) stack) (built-append xs ys)
   where
-    later : (o : Option (List (Tree ℕ))) → ((after : List (Tree ℕ)) → built (xs ++ ys) after ≡ onward (built xs after) (built ys)) → onward o (built (xs ++ ys)) ≡ onward (onward o (built xs)) (built ys)
+    later : (o : Option (List (Tree ℕ))) → ((after : List (Tree ℕ)) → built (xs ++ ys) after ≡ onward (built xs after) (built ys))
+        → onward o (built (xs ++ ys)) ≡ onward (onward o (built xs)) (built ys)
     later none go-on = refl
     later (some after) go-on = go-on after

@@ -4,12 +4,12 @@ use Prim.Native.Nat.{ℕ, _+_, _*_, _≤_}
 use mathlib.Core.Path.{_≡_, refl, sym, ap, _∙_}
 use mathlib.Core.List.{List, [], _∷_, _++_, append-assoc, append-nil}
 use native.Mathlib.Nat.{add-zero}
-use lib.ListN.{length, getD, take, drop}
+use lib.ListN.{length, getD, take}
 use lib.Seq.{getD-drop}
 use Rattle.language.specs.Tree.{Tree, leaf, catenation, union, star}
 use Rattle.tree.specs.Cut.{Cut, wanted}
 use Rattle.tree.specs.Records.{records, encode, Good, label-of, labels}
-use Rattle.tree.specs.Rows.{Reader, each-record, each-append, each-more, first-record}
+use Rattle.tree.specs.Rows.{Reader, each-record, each-append, each-more}
 use Rattle.tree.specs.Postorder.{labels-injective}
 
 -- the label of a record, from its bytes 0 and 1

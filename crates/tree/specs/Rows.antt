@@ -3,10 +3,9 @@
 use Prim.Native.Nat.{ℕ, _+_, _*_, _-_, _≤_}
 use mathlib.Core.Path.{_≡_, refl, ap}
 use mathlib.Core.List.{List, [], _∷_, _++_}
-use native.Mathlib.Nat.{add-zero}
 use native.Mathlib.Omega.{arith}
 use lib.ListN.{length, getD, take, drop, length-drop}
-use lib.Seq.{length-take-le, take-add, getD-drop}
+use lib.Seq.{length-take-le, take-add}
 
 -- what is read off one record: a number made of its 8 bytes
 abbrev pub Reader : Type 0

@@ -7,7 +7,7 @@ use mathlib.Core.List.{List, _++_}
 use native.Mathlib.Nat.{zero-add}
 use Rattle.language.specs.Tree.{Tree, leaf, catenation, union, star, nodes}
 use Rattle.language.specs.Nested.{Nested, below, whole, leaf as nested-leaf, catenation as nested-catenation, union as nested-union, star as nested-star}
-use Rattle.tree.specs.Cut.{Cut, one, cuts, edge, nest}
+use Rattle.tree.specs.Cut.{Cut, one, edge, nest}
 use Rattle.tree.specs.Records.{record-of, child-piece, records}
 use Rattle.tree.specs.Nesting.{pieces-below, pieces-below-edge, pieces-below-nest, whole-edge, whole-nest}
 

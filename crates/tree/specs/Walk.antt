@@ -2,7 +2,6 @@
 -- Assumes nothing.
 use Prim.Native.Nat.{ℕ, zero, suc, _+_, _-_, _≤_, _<_}
 use mathlib.Core.Path.{_≡_, refl, ap}
-use mathlib.Core.Logic.{_⊎_, inl, inr}
 use mathlib.Core.Bool.{Bool, true, false, cond, _||_, or-true}
 use mathlib.Core.List.{List, [], _∷_, _++_, append-assoc, append-nil}
 use native.Mathlib.Omega.{arith}
@@ -78,6 +77,7 @@ record Goes-on (low k piece new : ℕ) : Type 0 where
   is-met : piece < new
   comes-next : new ≡ low + k
 
+-- the root is met
 goes-on : {low k piece new after : ℕ} → Root-met low k piece new after → Goes-on low after piece new
 goes-on (before l h e f) = record { from-low = l; is-met = omega arith; comes-next = omega arith }
 goes-on (now h e f) = record { from-low = omega arith; is-met = omega arith; comes-next = e }
@@ -94,15 +94,20 @@ root-counted (now h e f) rest = next h (rw f at rest)
 
 -- with cut more pieces below its root, a subtree numbered as x says is counted in its walk, and so is the list behind it from there on
 abbrev Counts : (ℕ → ℕ → Numbers) → ℕ → Type 0
-Counts x cut = (low k piece new after last : ℕ) (rest : List ℕ) (n : ℕ) → Root-met low k piece new after → last ≡ after + cut → Counted low last rest n → Counted low k (in-walk (x piece new) ++ rest) n
+Counts x cut =
+    (low k piece new after last : ℕ) (rest : List ℕ) (n : ℕ) → Root-met low k piece new after → last ≡ after + cut → Counted low last rest n
+    → Counted low k (in-walk (x piece new) ++ rest) n
 
+-- a leaf: its root alone
 counts-alone : Counts (λ piece new. alone piece) 0
 counts-alone low k piece new after last rest n root e later = let none-below : last ≡ after = omega arith in root-counted root (rw none-below at later)
 
+-- a star: its root, then its operand
 counts-one : (b : Bool) (x : ℕ → ℕ → Numbers) (i : ℕ) → Counts x i → Counts (λ piece new. above-one piece (x (child-piece b piece new) (one b + new))) (one b + i)
 counts-one b x i only low k piece new after last rest n root e later =
     root-counted root (only low after _ _ (one b + after) last rest n (child-met b low after piece new (goes-on root)) (omega arith) later)
 
+-- a node with two children: its root, then the left one, then the right one
 counts-two : (b c : Bool) (x y : ℕ → ℕ → Numbers) (i j : ℕ) → Counts x i → Counts y j
     → Counts (λ piece new. above-two piece (x (child-piece b piece new) (one b + new)) (y (child-piece c piece (one b + i + new)) (one c + (one b + i + new)))) (one b + i + (one c + j))
 counts-two b c x y i j left right low k piece new after last rest n root e later =
@@ -111,6 +116,7 @@ counts-two b c x y i j left right low k piece new after last rest n root e later
     root-counted root (rw append-assoc (left low after _ _ (one b + after) (one b + i + after) _ n (child-met b low after piece new g) (omega arith)
     (right low (one b + i + after) _ _ (one c + (one b + i + after)) last rest n (child-met c low (one b + i + after) piece (one b + i + new) further) (omega arith) later)))
 
+-- every subtree is counted in its walk
 counted : {A : Type 0} (t : Tree A) (c : Cut t) → Counts (numbered t c) (cuts t c)
 counted (leaf a) c = counts-alone
 counted (catenation s t) c = counts-two (c .0) (c .2) (numbered s (c .1)) (numbered t (c .3)) _ _ (counted s (c .1)) (counted t (c .3))
@@ -121,7 +127,8 @@ counted (star s) c = counts-one (c .0) (numbered s (c .1)) _ (counted s (c .1))
 -- the walk through it meets the numbers first, first + 1, .. of its pieces in this order, with no gap; for the whole tree `first` is 0
 pub walk-meets-in-order : {A : Type 0} (t : Tree A) (c : Cut t) (first : ℕ) → firsts [] (in-walk (numbered t c first (1 + first))) ≡ upwards first (pieces t c)
 walk-meets-in-order t c first =
-    let all : Counted first 0 (in-walk (numbered t c first (1 + first)) ++ []) (pieces t c) = counted t c first 0 first (1 + first) 1 (pieces t c) [] (pieces t c) (now (omega arith) (omega arith) (omega arith)) refl done in
+    let all : Counted first 0 (in-walk (numbered t c first (1 + first)) ++ []) (pieces t c) =
+    counted t c first 0 first (1 + first) 1 (pieces t c) [] (pieces t c) (now (omega arith) (omega arith) (omega arith)) refl done in
     let from-first : first + 0 ≡ first = omega arith in
     let all-of-them : pieces t c - 0 ≡ pieces t c = omega arith in
     rw (from-first, all-of-them) at (firsts-counted [] (none-met first) (rw append-nil at all))
