@@ -7,3 +7,6 @@ pub mod Simulation
 pub mod Rest
 pub mod Runs
 pub mod Acceptance
+pub mod Settled
+pub mod Walk
+pub mod Visits
