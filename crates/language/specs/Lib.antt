@@ -10,3 +10,5 @@ pub mod Acceptance
 pub mod Settled
 pub mod Walk
 pub mod Visits
+pub mod Copies
+pub mod Sweeps

@@ -58,10 +58,13 @@ module _ {A : Type 0} where
     where
       closed : Settled-by (Empty r) (Visit x (λ p. e (left p)) (Closed r) X)
       closed = visit-settled r x _ X settled
+
       on-left : (q : State) → First (Walked x) (λ p. X (e p)) q → Visit x (λ p. e (left p)) (Closed r) X (e (left q))
       on-left = first-walks r x first e X (λ p q f. stands _ _ (Empty.catenation-left f)) settled (stands _ _ Empty.catenation-in)
+
       on-right : (q : State) → Second (Walked y) (First (Walked x) (λ p. X (e p)) accepting) (λ p. X (e p)) q → Visit (catenation x y) e (Closed r) X (e (right q))
       on-right = second-walks r y second e X _ (λ p q f. stands _ _ (Empty.catenation-right f)) closed (visit-keeps r x _ X) (λ m. closed _ _ (stands _ _ Empty.catenation-over) (on-left accepting m))
+
       go : (q : State) → Walked (catenation x y) (λ p. X (e p)) q → Visit (catenation x y) e (Closed r) X (e q)
       go start m = visit-keeps r (catenation x y) e X _ m
       go accepting (inl m) = visit-keeps r (catenation x y) e X _ m
@@ -74,10 +77,13 @@ module _ {A : Type 0} where
     where
       closed : Settled-by (Empty r) (Visit (union x y) e (Closed r) X)
       closed = visit-settled r (union x y) e X settled
+
       on-left : (q : State) → First (Walked x) (λ p. X (e p)) q → Visit (union x y) e (Closed r) X (e (left q))
       on-left q m = visit-keeps r y _ _ _ (first-walks r x first e X (λ p q f. stands _ _ (Empty.union-left f)) settled (stands _ _ Empty.union-in-left) q m)
+
       on-right : (q : State) → Second (Walked y) (X (e start)) (λ p. X (e p)) q → Visit (union x y) e (Closed r) X (e (right q))
       on-right = second-walks r y second e X _ (λ p q f. stands _ _ (Empty.union-right f)) (visit-settled r x _ X settled) (visit-keeps r x _ X) (λ m. visit-keeps r x _ X _ (settled _ _ (stands _ _ Empty.union-in-right) m))
+
       go : (q : State) → Walked (union x y) (λ p. X (e p)) q → Visit (union x y) e (Closed r) X (e q)
       go start m = visit-keeps r (union x y) e X _ m
       go accepting (inl m) = visit-keeps r (union x y) e X _ m
@@ -91,8 +97,10 @@ module _ {A : Type 0} where
     where
       closed : Settled-by (Empty r) (Visit (star x) e (Closed r) X)
       closed = visit-settled r (star x) e X settled
+
       on-left : (q : State) → First (Walked x) (λ p. X (e p)) q → Visit (star x) e (Closed r) X (e (left q))
       on-left = first-walks r x first e X (λ p q f. stands _ _ (Empty.star-inside f)) settled (stands _ _ Empty.star-in)
+
       go : (q : State) → Walked (star x) (λ p. X (e p)) q → Visit (star x) e (Closed r) X (e q)
       go start m = visit-keeps r (star x) e X _ m
       go accepting (inl m) = visit-keeps r (star x) e X _ m
@@ -107,6 +115,7 @@ module _ {A : Type 0} where
     where
       on-left : (q : State) → First (Walked x) (λ p. X (e p)) q → Sweep x (Down e X) q
       on-left q m = first (λ p. p) (Closed (own x) (Down e X)) (λ p q f. f) (closed-settled (own x) _) q (walked-more x _ _ (entered-within (λ p m. closed-keeps (own x) (Down e X) p (inl m)) (λ m. closed-keeps (own x) (Down e X) start (inr (refl, m)))) q m)
+
       go : (q : State) → Walked (below x) (λ p. X (e p)) q → Visit (below x) e (Closed r) X (e q)
       go start m = visit-keeps r (below x) e X _ m
       go accepting (inl m) = visit-keeps r (below x) e X _ m
@@ -128,10 +137,10 @@ module _ {A : Type 0} where
   visit-within r (union x y) e X Z closed settled within = visit-within r y _ _ Z closed (settled .2) (visit-within r x _ X Z closed (settled .1) within)
   visit-within r (star x) e X Z closed settled within = visit-within r x _ X Z closed (settled .1) within
   visit-within r (below x) e X Z closed settled within =
-    let own-closed : Settled-by (Empty (own x)) (λ p. Z (e (left p))) = settled-own x _ (settled .1) in
-    let down : (p : State) → Down e X p → Z (e (left p)) = down-within e X Z within (settled .0 _ _ Wire.pass-down) in
-    let child : (p : State) → Sweep x (Down e X) p → Z (e (left p)) = visit-within (own x) x (λ p. p) _ _ own-closed (settled .1) (closed-least (own x) own-closed down) in
-    closed-least r closed (up-within e (Sweep x (Down e X)) X Z within child (settled .0 _ _ Wire.pass-up))
+      let own-closed : Settled-by (Empty (own x)) (λ p. Z (e (left p))) = settled-own x _ (settled .1) in
+      let down : (p : State) → Down e X p → Z (e (left p)) = down-within e X Z within (settled .0 _ _ Wire.pass-down) in
+      let child : (p : State) → Sweep x (Down e X) p → Z (e (left p)) = visit-within (own x) x (λ p. p) _ _ own-closed (settled .1) (closed-least (own x) own-closed down) in
+      closed-least r closed (up-within e (Sweep x (Down e X)) X Z within child (settled .0 _ _ Wire.pass-up))
 
   -- a sweep marks what a walk marks
   pub sweep-walked : (x : Nested A) (X : States) (q : State) → Walked x X q → Sweep x X q

@@ -61,9 +61,10 @@ entered-more {Y} {Q} more enter = entered-within (λ q x. entered-keeps Y Q q (m
 
 -- the start marked for P, and then for R or Q, is marked for any of the three
 entered-both : (X : States) (P R Q : Type 0) (q : State) → Entered (Entered X P) (R ⊎ Q) q ↔ Entered X (R ⊎ P ⊎ Q) q
-entered-both X P R Q start =
-  (⊎-elim (⊎-map (λ x. x) (λ p. inr (inl p))) (λ c. inr (⊎-map (λ r. r) inr c)),
-  ⊎-elim (λ x. inl (inl x)) (⊎-elim (λ r. inr (inl r)) (⊎-elim (λ p. inl (inr p)) (λ q. inr (inr q)))))
+entered-both X P R Q start = (
+  ⊎-elim (⊎-map (λ x. x) (λ p. inr (inl p))) (λ c. inr (⊎-map (λ r. r) inr c)),
+  ⊎-elim (λ x. inl (inl x)) (⊎-elim (λ r. inr (inl r)) (⊎-elim (λ p. inl (inr p)) (λ q. inr (inr q)))),
+)
 entered-both X P R Q accepting = Iff·rfl
 entered-both X P R Q (left q) = Iff·rfl
 entered-both X P R Q (right q) = Iff·rfl
@@ -182,9 +183,10 @@ wires-settled (below x) X Q p q Wire.pass-up m = inr m
 
 -- it needs no entering once more: where it came to its accepting state, its start was marked
 operand-same : {A : Type 0} (x : Nested A) (X : States) (P Q : Type 0) (q : State) → Walked x (Entered (Walked x (Entered X P)) (P ⊎ Walked x (Entered X P) accepting ⊎ Q)) q ↔ Entered (Operand x X P Q) (Operand x X P Q accepting) q
-operand-same x X P Q q =
-  (λ m. entered-keeps _ _ q (walked-more x _ _ (λ q. entered-both _ _ P Q q .1) q m),
-  entered-within (walked-more x _ _ (λ q. entered-both _ _ P Q q .0)) (λ a. walked-keeps x _ start (inr (inr (operand-accepts x (second-accepts x) X P Q a)))) q)
+operand-same x X P Q q = (
+  λ m. entered-keeps _ _ q (walked-more x _ _ (λ q. entered-both _ _ P Q q .1) q m),
+  entered-within (walked-more x _ _ (λ q. entered-both _ _ P Q q .0)) (λ a. walked-keeps x _ start (inr (inr (operand-accepts x (second-accepts x) X P Q a)))) q,
+)
 
 -- two walks settle any marks, also where before the second the start is marked besides
 second-settled : {A : Type 0} (x : Nested A) (X : States) (Q : Type 0) → Settled x (Walked x (Entered (Walked x X) Q))
