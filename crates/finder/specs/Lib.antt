@@ -1,0 +1,6 @@
+-- What match and search answer: a text in the language, the earliest and then the longest part of a text that is.
+pub mod Found
+pub mod Progress
+pub mod Reached
+pub mod Decide
+pub mod Searched

@@ -1,0 +1,1 @@
+// Whole-text match and search over a record list.
