@@ -11,4 +11,6 @@ pub mod Settled
 pub mod Walk
 pub mod Visits
 pub mod Copies
+pub mod Same
 pub mod Sweeps
+pub mod Models

@@ -2,7 +2,6 @@
 -- Assumes nothing.
 use Prim.Native.Nat.{ℕ}
 use mathlib.Core.Path.{_≡_, refl, sym}
-use mathlib.Core.Logic.{_↔_}
 use Rattle.language.specs.Automaton.{State, start, States, Empty, Closed, Started, Moved, Stepped}
 use Rattle.language.specs.Nested.{Nested, whole, Has, origin, Models, Move, Sweep}
 use Rattle.language.specs.Simulation.{along, closed-keeps, closed-settled, closed-least}
@@ -10,6 +9,7 @@ use Rattle.language.specs.Settled.{Settled, settled-same}
 use Rattle.language.specs.Walk.{Walked, walked-keeps, walked-more, two-walks-settle}
 use Rattle.language.specs.Visits.{sweep-walked, sweep-within}
 use Rattle.language.specs.Copies.{Full, copy-of-origin, copy-has, start-full, empty-full, reads-full, reading-reads, origin-settled}
+use Rattle.language.specs.Same.{Agree, sweeps-same, models-same}
 
 module _ {A : Type 0} (x : Nested A) where
   -- two sweeps lose no mark
@@ -40,3 +40,10 @@ pub sweeps-step : {A : Type 0} (Takes : A → ℕ → Type 0) (b : ℕ) (x : Nes
 sweeps-step Takes b x marks X models = sweeps-close x _ _
     (λ q (p, m, r). closed-keeps (whole x) _ (origin x q) (origin x p, models p (reading-reads Takes b r .0) .0 m, reading-reads Takes b r .1))
     (λ q (p, m, e). reads-full Takes b x marks _ (sweeps-settle x _) (λ p q r m. sweeps-keep x _ q (p, m, r)) e (λ o c. models o (copy-has c .0) .1 (rw (copy-has c .1) m)))
+
+-- the same for marks of which no more is known, at the beginning and after each sweep, than what they are at the states that there are
+pub swept-start : {A : Type 0} (x : Nested A) {Y once twice : States} → Agree x Y (λ q. q ≡ start) → Agree x once (Sweep x Y) → Agree x twice (Sweep x once) → Models x twice (Started (whole x))
+swept-start x begins first second = models-same x (Started (whole x)) (sweeps-same x begins first second) (sweeps-start x)
+
+pub swept-step : {A : Type 0} (Takes : A → ℕ → Type 0) (b : ℕ) (x : Nested A) (marks X : States) {Y once twice : States} → Models x marks X → Agree x Y (Move Takes b x marks) → Agree x once (Sweep x Y) → Agree x twice (Sweep x once) → Models x twice (Stepped Takes (whole x) b X)
+swept-step Takes b x marks X models moved first second = models-same x (Stepped Takes (whole x) b X) (sweeps-same x moved first second) (sweeps-step Takes b x marks X models)
