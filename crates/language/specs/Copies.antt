@@ -49,7 +49,7 @@ module _ {A : Type 0} where
   -- where the start lies in a settled set, all its copies do: it is passed down
   pub start-full : (x : Nested A) (N : States) → Settled x N → N start → Full x N start
   start-full x N settled m start of-start = m
-  start-full (below x) N settled m (left q) (in-child c) = start-full x (λ p. N (left p)) (settled .1) (settled .0 _ _ Wire.pass-down m) q c
+  start-full (below x) N settled m (left q) (in-child c) = start-full x _ (settled .1) (settled .0 _ _ Wire.pass-down m) q c
 
   -- what is full in a child piece is full with its stand-in, but for the start: the accepting state is passed up
   child-full : (x : Nested A) (N : States) → Settled (below x) N → {p : State} → (p ≡ start → ⊥) → Full x (λ q. N (left q)) p → Full (below x) N p
@@ -66,34 +66,41 @@ module _ {A : Type 0} where
 
   -- an empty transition of the uncut automaton leads from full to full in a settled set
   pub empty-full : (x : Nested A) (N : States) → Settled x N → {p q : State} → Empty (whole x) p q → Full x N p → Full x N q
-  empty-full (catenation x y) N s Empty.catenation-in full (left q) (Copy.catenation-left c) = start-full x (λ p. N (left p)) (s .1) (s .0 _ _ Wire.catenation-in (full start of-start)) q c
-  empty-full (catenation x y) N s Empty.catenation-over full (right q) (Copy.catenation-right c) = start-full y (λ p. N (right p)) (s .2) (s .0 _ _ Wire.catenation-over (full (left accepting) (Copy.catenation-left of-accepting))) q c
+  empty-full (catenation x y) N s Empty.catenation-in full (left q) (Copy.catenation-left c) = start-full x _ (s .1) (s .0 _ _ Wire.catenation-in (full start of-start)) q c
+  empty-full (catenation x y) N s Empty.catenation-over full (right q) (Copy.catenation-right c) =
+      start-full y _ (s .2) (s .0 _ _ Wire.catenation-over (full (left accepting) (Copy.catenation-left of-accepting))) q c
   empty-full (catenation x y) N s Empty.catenation-out full accepting of-accepting = s .0 _ _ Wire.catenation-out (full (right accepting) (Copy.catenation-right of-accepting))
-  empty-full (catenation x y) N s (Empty.catenation-left e) full (left q) (Copy.catenation-left c) = empty-full x (λ p. N (left p)) (s .1) e (λ p d. full (left p) (Copy.catenation-left d)) q c
-  empty-full (catenation x y) N s (Empty.catenation-right e) full (right q) (Copy.catenation-right c) = empty-full y (λ p. N (right p)) (s .2) e (λ p d. full (right p) (Copy.catenation-right d)) q c
-  empty-full (union x y) N s Empty.union-in-left full (left q) (Copy.union-left c) = start-full x (λ p. N (left p)) (s .1) (s .0 _ _ Wire.union-in-left (full start of-start)) q c
-  empty-full (union x y) N s Empty.union-in-right full (right q) (Copy.union-right c) = start-full y (λ p. N (right p)) (s .2) (s .0 _ _ Wire.union-in-right (full start of-start)) q c
+  empty-full (catenation x y) N s (Empty.catenation-left e) full (left q) (Copy.catenation-left c) = empty-full x _ (s .1) e (λ p d. full (left p) (Copy.catenation-left d)) q c
+  empty-full (catenation x y) N s (Empty.catenation-right e) full (right q) (Copy.catenation-right c) = empty-full y _ (s .2) e (λ p d. full (right p) (Copy.catenation-right d)) q c
+  empty-full (union x y) N s Empty.union-in-left full (left q) (Copy.union-left c) = start-full x _ (s .1) (s .0 _ _ Wire.union-in-left (full start of-start)) q c
+  empty-full (union x y) N s Empty.union-in-right full (right q) (Copy.union-right c) = start-full y _ (s .2) (s .0 _ _ Wire.union-in-right (full start of-start)) q c
   empty-full (union x y) N s Empty.union-out-left full accepting of-accepting = s .0 _ _ Wire.union-out-left (full (left accepting) (Copy.union-left of-accepting))
   empty-full (union x y) N s Empty.union-out-right full accepting of-accepting = s .0 _ _ Wire.union-out-right (full (right accepting) (Copy.union-right of-accepting))
-  empty-full (union x y) N s (Empty.union-left e) full (left q) (Copy.union-left c) = empty-full x (λ p. N (left p)) (s .1) e (λ p d. full (left p) (Copy.union-left d)) q c
-  empty-full (union x y) N s (Empty.union-right e) full (right q) (Copy.union-right c) = empty-full y (λ p. N (right p)) (s .2) e (λ p d. full (right p) (Copy.union-right d)) q c
-  empty-full (star x) N s Empty.star-in full (left q) (Copy.star-inside c) = start-full x (λ p. N (left p)) (s .1) (s .0 _ _ Wire.star-in (full start of-start)) q c
+  empty-full (union x y) N s (Empty.union-left e) full (left q) (Copy.union-left c) = empty-full x _ (s .1) e (λ p d. full (left p) (Copy.union-left d)) q c
+  empty-full (union x y) N s (Empty.union-right e) full (right q) (Copy.union-right c) = empty-full y _ (s .2) e (λ p d. full (right p) (Copy.union-right d)) q c
+  empty-full (star x) N s Empty.star-in full (left q) (Copy.star-inside c) = start-full x _ (s .1) (s .0 _ _ Wire.star-in (full start of-start)) q c
   empty-full (star x) N s Empty.star-past full accepting of-accepting = s .0 _ _ Wire.star-past (full start of-start)
   empty-full (star x) N s Empty.star-out full accepting of-accepting = s .0 _ _ Wire.star-out (full (left accepting) (Copy.star-inside of-accepting))
-  empty-full (star x) N s Empty.star-back full (left q) (Copy.star-inside c) = start-full x (λ p. N (left p)) (s .1) (s .0 _ _ Wire.star-back (full (left accepting) (Copy.star-inside of-accepting))) q c
-  empty-full (star x) N s (Empty.star-inside e) full (left q) (Copy.star-inside c) = empty-full x (λ p. N (left p)) (s .1) e (λ p d. full (left p) (Copy.star-inside d)) q c
-  empty-full (below x) N s e full q c = child-full x N s (λ begins. never-empty (rw begins at e)) (empty-full x (λ p. N (left p)) (s .1) e (λ p d. full (left p) (in-child d))) q c
+  empty-full (star x) N s Empty.star-back full (left q) (Copy.star-inside c) = start-full x _ (s .1) (s .0 _ _ Wire.star-back (full (left accepting) (Copy.star-inside of-accepting))) q c
+  empty-full (star x) N s (Empty.star-inside e) full (left q) (Copy.star-inside c) = empty-full x _ (s .1) e (λ p d. full (left p) (Copy.star-inside d)) q c
+  empty-full (below x) N s e full q c = child-full x N s (λ begins. never-empty (rw begins at e)) (empty-full x _ (s .1) e (λ p d. full (left p) (in-child d))) q c
 
   module _ (Takes : A → ℕ → Type 0) (b : ℕ) where
     -- a transition that reads b leads from full in some marks to full in a settled set that has what these move to
     pub reads-full : (x : Nested A) (marks N : States) → Settled x N → ((p q : State) → Reading Takes b x p q → marks p → N q) → {p q : State} → Reads Takes b (whole x) p q → Full x marks p → Full x N q
     reads-full (leaf a) marks N s moved (Reads.at-leaf takes) full accepting of-accepting = moved start accepting (Reading.at-leaf takes) (full start of-start)
-    reads-full (catenation x y) marks N s moved (Reads.catenation-left e) full (left q) (Copy.catenation-left c) = reads-full x (λ p. marks (left p)) (λ p. N (left p)) (s .1) (λ p q r. moved (left p) (left q) (Reading.catenation-left r)) e (λ p d. full (left p) (Copy.catenation-left d)) q c
-    reads-full (catenation x y) marks N s moved (Reads.catenation-right e) full (right q) (Copy.catenation-right c) = reads-full y (λ p. marks (right p)) (λ p. N (right p)) (s .2) (λ p q r. moved (right p) (right q) (Reading.catenation-right r)) e (λ p d. full (right p) (Copy.catenation-right d)) q c
-    reads-full (union x y) marks N s moved (Reads.union-left e) full (left q) (Copy.union-left c) = reads-full x (λ p. marks (left p)) (λ p. N (left p)) (s .1) (λ p q r. moved (left p) (left q) (Reading.union-left r)) e (λ p d. full (left p) (Copy.union-left d)) q c
-    reads-full (union x y) marks N s moved (Reads.union-right e) full (right q) (Copy.union-right c) = reads-full y (λ p. marks (right p)) (λ p. N (right p)) (s .2) (λ p q r. moved (right p) (right q) (Reading.union-right r)) e (λ p d. full (right p) (Copy.union-right d)) q c
-    reads-full (star x) marks N s moved (Reads.star-inside e) full (left q) (Copy.star-inside c) = reads-full x (λ p. marks (left p)) (λ p. N (left p)) (s .1) (λ p q r. moved (left p) (left q) (Reading.star-inside r)) e (λ p d. full (left p) (Copy.star-inside d)) q c
-    reads-full (below x) marks N s moved e full q c = child-full x N s (λ begins. never-reads (rw begins at e)) (reads-full x (λ p. marks (left p)) (λ p. N (left p)) (s .1) (λ p q r. moved (left p) (left q) (Reading.in-child r)) e (λ p d. full (left p) (in-child d))) q c
+    reads-full (catenation x y) marks N s moved (Reads.catenation-left e) full (left q) (Copy.catenation-left c) =
+        reads-full x _ _ (s .1) (λ p q r. moved (left p) (left q) (Reading.catenation-left r)) e (λ p d. full (left p) (Copy.catenation-left d)) q c
+    reads-full (catenation x y) marks N s moved (Reads.catenation-right e) full (right q) (Copy.catenation-right c) =
+        reads-full y _ _ (s .2) (λ p q r. moved (right p) (right q) (Reading.catenation-right r)) e (λ p d. full (right p) (Copy.catenation-right d)) q c
+    reads-full (union x y) marks N s moved (Reads.union-left e) full (left q) (Copy.union-left c) =
+        reads-full x _ _ (s .1) (λ p q r. moved (left p) (left q) (Reading.union-left r)) e (λ p d. full (left p) (Copy.union-left d)) q c
+    reads-full (union x y) marks N s moved (Reads.union-right e) full (right q) (Copy.union-right c) =
+        reads-full y _ _ (s .2) (λ p q r. moved (right p) (right q) (Reading.union-right r)) e (λ p d. full (right p) (Copy.union-right d)) q c
+    reads-full (star x) marks N s moved (Reads.star-inside e) full (left q) (Copy.star-inside c) =
+        reads-full x _ _ (s .1) (λ p q r. moved (left p) (left q) (Reading.star-inside r)) e (λ p d. full (left p) (Copy.star-inside d)) q c
+    reads-full (below x) marks N s moved e full q c =
+        child-full x N s (λ begins. never-reads (rw begins at e)) (reads-full x _ _ (s .1) (λ p q r. moved (left p) (left q) (Reading.in-child r)) e (λ p d. full (left p) (in-child d))) q c
 
     -- the other way round, each reading transition of the cut automaton is one of the uncut automaton
     pub reading-reads : {x : Nested A} {p q : State} → Reading Takes b x p q → Has x p × Reads Takes b (whole x) (origin x p) (origin x q)
@@ -124,7 +131,9 @@ module _ {A : Type 0} where
   -- so the copies of a closed set are settled
   pub origin-settled : (x : Nested A) (X : States) → Settled-by (Empty (whole x)) X → Settled x (λ q. X (origin x q))
   origin-settled (leaf a) X closed = tt
-  origin-settled (catenation x y) X closed = (wires-origin (catenation x y) X closed, origin-settled x (λ p. X (left p)) (λ p q e. closed _ _ (Empty.catenation-left e)), origin-settled y (λ p. X (right p)) (λ p q e. closed _ _ (Empty.catenation-right e)))
-  origin-settled (union x y) X closed = (wires-origin (union x y) X closed, origin-settled x (λ p. X (left p)) (λ p q e. closed _ _ (Empty.union-left e)), origin-settled y (λ p. X (right p)) (λ p q e. closed _ _ (Empty.union-right e)))
+  origin-settled (catenation x y) X closed =
+      (wires-origin (catenation x y) X closed, origin-settled x (λ p. X (left p)) (λ p q e. closed _ _ (Empty.catenation-left e)), origin-settled y (λ p. X (right p)) (λ p q e. closed _ _ (Empty.catenation-right e)))
+  origin-settled (union x y) X closed =
+      (wires-origin (union x y) X closed, origin-settled x (λ p. X (left p)) (λ p q e. closed _ _ (Empty.union-left e)), origin-settled y (λ p. X (right p)) (λ p q e. closed _ _ (Empty.union-right e)))
   origin-settled (star x) X closed = (wires-origin (star x) X closed, origin-settled x (λ p. X (left p)) (λ p q e. closed _ _ (Empty.star-inside e)))
   origin-settled (below x) X closed = (wires-origin (below x) X closed, origin-settled x X closed)

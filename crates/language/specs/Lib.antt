@@ -9,6 +9,7 @@ pub mod Runs
 pub mod Acceptance
 pub mod Settled
 pub mod Walk
+pub mod TwoWalks
 pub mod Visits
 pub mod Copies
 pub mod Same

@@ -1,12 +1,12 @@
 -- Marks of a cut automaton and the set of states of the uncut one that they model: when they model one, and that it is one only.
 -- Assumes nothing.
 use Prim.Native.Nat.{ℕ}
-use mathlib.Core.Path.{_≡_, refl, sym}
+use mathlib.Core.Path.{_≡_, refl}
 use mathlib.Core.Logic.{_↔_, Iff·symm, Iff·trans}
 use Rattle.language.specs.Tree.{Tree, leaf, catenation, union, star}
 use Rattle.language.specs.Automaton.{State, start, accepting, left, right, States, Empty, Reads, Started, Stepped}
 use Rattle.language.specs.Nested.{Nested, below, whole, Has, origin, Models}
-use Rattle.language.specs.Simulation.{Settled-by, closed-least}
+use Rattle.language.specs.Simulation.{_⊆_, closed-least}
 use Rattle.language.specs.Copies.{Copy, of-start, of-accepting, in-child, copy-has}
 
 -- which states the automaton of a tree has: two for each node
@@ -51,11 +51,12 @@ module _ {A : Type 0} where
   models-alike x marks X models p q has-p has-q same m = models q has-q .1 (rw same at (models p has-p .0 m))
 
   -- and where they are, the marks model a set: that of the origins of the marked states
-  pub alike-models : (x : Nested A) (marks : States) → ((p q : State) → Has x p → Has x q → origin x p ≡ origin x q → marks p → marks q) → Models x marks (λ p. (q : State) × Has x q × (origin x q ≡ p) × marks q)
+  pub alike-models : (x : Nested A) (marks : States) → ((p q : State) → Has x p → Has x q → origin x p ≡ origin x q → marks p → marks q) →
+      Models x marks (λ p. (q : State) × Has x q × (origin x q ≡ p) × marks q)
   alike-models x marks alike q has = (λ m. (q, has, refl, m), λ (o, is, same, m). alike o q is has same m)
 
   -- a set of states that there are, which marks model, is that of the origins of the marked states
-  pub models-origins : (x : Nested A) (marks X : States) → Models x marks X → ((p : State) → X p → State-of (whole x) p) → (p : State) → X p ↔ ((q : State) × Has x q × (origin x q ≡ p) × marks q)
+  pub models-origins : (x : Nested A) (marks X : States) → Models x marks X → X ⊆ State-of (whole x) → (p : State) → X p ↔ ((q : State) × Has x q × (origin x q ≡ p) × marks q)
   models-origins x marks X models states p = (
     λ m. let (q, has, stands) = origin-onto x p (states p m) in (q, has, stands, models q has .1 (rw stands m)),
     λ (q, has, stands, m). rw stands at (models q has .0 m),
@@ -89,8 +90,8 @@ module _ {A : Type 0} where
   reads-state (Reads.star-inside e) = reads-state e
 
   -- so the marks of the plain simulation are states that there are
-  pub started-state : (t : Tree A) (p : State) → Started t p → State-of t p
+  pub started-state : (t : Tree A) → Started t ⊆ State-of t
   started-state t = closed-least t (λ p q e m. empty-state e) (λ p begins. rw begins tt)
 
-  pub stepped-state : (Takes : A → ℕ → Type 0) (t : Tree A) (b : ℕ) (X : States) (p : State) → Stepped Takes t b X p → State-of t p
+  pub stepped-state : (Takes : A → ℕ → Type 0) (t : Tree A) (b : ℕ) (X : States) → Stepped Takes t b X ⊆ State-of t
   stepped-state Takes t b X = closed-least t (λ p q e m. empty-state e) (λ q (p, m, e). reads-state e)

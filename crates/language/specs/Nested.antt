@@ -4,7 +4,7 @@ use Prim.Native.Nat.{ℕ}
 use mathlib.Core.Path.{_≡_}
 use mathlib.Core.Logic.{_⊎_, _↔_}
 use Rattle.language.specs.Tree.{Tree}
-use Rattle.language.specs.Automaton.{State, start, accepting, left, right, States, Reads, Closed}
+use Rattle.language.specs.Automaton.{State, start, accepting, left, right, States, Closed}
 
 -- a tree with some edges cut: `below x` stands for a cut edge, with a stand-in above it and the child piece x below it
 pub data Nested (A : Type 0) : Type 0 where

@@ -59,7 +59,8 @@ module _ {A : Type 0} (Takes : A → ℕ → Type 0) where
   through i enter run leave = empty enter (run-out (run-within i run) leave)
 
   -- round a star: from where one can enter or leave it, a run for each text joined
-  round : (s : Tree A) → ((w : List ℕ) → Language Takes s w → Run s start w accepting) → (p : State) → Empty (star s) p (left start) → Empty (star s) p accepting → {w : List ℕ} → Repeated (Language Takes s) w → Run (star s) p w accepting
+  round : (s : Tree A) → ((w : List ℕ) → Language Takes s w → Run s start w accepting) → (p : State) →
+      Empty (star s) p (left start) → Empty (star s) p accepting → {w : List ℕ} → Repeated (Language Takes s) w → Run (star s) p w accepting
   round s runs p enter leave none = empty leave done
   round s runs p enter leave (more {u} l rest) = run-then (empty enter (run-within (in-star s) (runs u l))) (round s runs (left accepting) Empty.star-back Empty.star-out rest)
 
@@ -67,7 +68,9 @@ module _ {A : Type 0} (Takes : A → ℕ → Type 0) where
   pub language-run : (t : Tree A) (w : List ℕ) → Language Takes t w → Run t start w accepting
   language-run (leaf a) w l = rw (l .1) (reads (Reads.at-leaf (l .2)) done)
   language-run (catenation s t) w (u, v, joined, first, second) =
-      rw joined (run-then (through (in-catenation-left s t) Empty.catenation-in (language-run s u first) Empty.catenation-over) (run-out (run-within (in-catenation-right s t) (language-run t v second)) Empty.catenation-out))
+      rw joined (run-then
+      (through (in-catenation-left s t) Empty.catenation-in (language-run s u first) Empty.catenation-over)
+      (run-out (run-within (in-catenation-right s t) (language-run t v second)) Empty.catenation-out))
   language-run (union s t) w (inl l) = through (in-union-left s t) Empty.union-in-left (language-run s w l) Empty.union-out-left
   language-run (union s t) w (inr l) = through (in-union-right s t) Empty.union-in-right (language-run t w l) Empty.union-out-right
   language-run (star s) w l = round s (language-run s) start Empty.star-in Empty.star-past l

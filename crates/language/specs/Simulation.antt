@@ -4,9 +4,14 @@ use Prim.Native.Nat.{ℕ}
 use mathlib.Core.List.{List, [], _∷_}
 use mathlib.Core.Logic.{_↔_}
 use Rattle.language.specs.Tree.{Tree}
-use Rattle.language.specs.Automaton.{State, States, Empty, Path-of, here, step, Closed, Moved, Stepped, After}
+use Rattle.language.specs.Automaton.{State, States, Empty, Path-of, here, step, Closed, Stepped, After}
 
--- a set that each step of R leads from to itself
+-- each state of X is one of Y
+infix 4 _⊆_
+abbrev pub _⊆_ : States → States → Type 0
+X ⊆ Y = (q : State) → X q → Y q
+
+-- a set that no step of R leads out of
 abbrev pub Settled-by : (State → State → Type 0) → States → Type 0
 Settled-by R X = (p q : State) → R p q → X p → X q
 
@@ -22,7 +27,7 @@ then (step r path) rest = step r (then path rest)
 
 module _ {A : Type 0} (t : Tree A) where
   -- closing loses no mark
-  pub closed-keeps : (X : States) (p : State) → X p → Closed t X p
+  pub closed-keeps : (X : States) → X ⊆ Closed t X
   closed-keeps X p x = (p, x, here)
 
   -- what is closed is settled: a path goes one step further
@@ -30,20 +35,20 @@ module _ {A : Type 0} (t : Tree A) where
   closed-settled X p q e c = (c .0, c .1, then (c .2) (step e here))
 
   -- closing is the least: it stays within each settled set
-  pub closed-least : {X Y : States} → Settled-by (Empty t) Y → ((p : State) → X p → Y p) → (p : State) → Closed t X p → Y p
+  pub closed-least : {X Y : States} → Settled-by (Empty t) Y → X ⊆ Y → Closed t X ⊆ Y
   closed-least settled within p c = along settled (c .0) p (c .2) (within (c .0) (c .1))
 
   -- more marks close to more
-  pub closed-more : {X Y : States} → ((p : State) → X p → Y p) → (p : State) → Closed t X p → Closed t Y p
+  pub closed-more : {X Y : States} → X ⊆ Y → Closed t X ⊆ Closed t Y
   closed-more more p c = (c .0, more (c .0) (c .1), c .2)
 
 module _ {A : Type 0} (Takes : A → ℕ → Type 0) (t : Tree A) where
   -- more marks step to more
-  pub stepped-more : (b : ℕ) {X Y : States} → ((p : State) → X p → Y p) → (p : State) → Stepped Takes t b X p → Stepped Takes t b Y p
+  pub stepped-more : (b : ℕ) {X Y : States} → X ⊆ Y → Stepped Takes t b X ⊆ Stepped Takes t b Y
   stepped-more b more = closed-more t (λ p m. (m .0, more (m .0) (m .1), m .2))
 
   -- more marks come to more after a text
-  pub after-more : (w : List ℕ) {X Y : States} → ((p : State) → X p → Y p) → (p : State) → After Takes t w X p → After Takes t w Y p
+  pub after-more : (w : List ℕ) {X Y : States} → X ⊆ Y → After Takes t w X ⊆ After Takes t w Y
   after-more [] more = more
   after-more (b ∷ w) more = after-more w (stepped-more b more)
 
