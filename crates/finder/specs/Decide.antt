@@ -1,7 +1,7 @@
 -- Whether a text lies in the language can be computed: by trying every way to split the text.
 -- Assumes nothing.
 use Prim.Native.Nat.{ℕ, zero, suc, _≤_}
-use mathlib.Core.Path.{_≡_, refl, ap}
+use mathlib.Core.Path.{_≡_, refl, sym, ap}
 use mathlib.Core.Bool.{Bool, true, false, _&&_, _||_, false≢true, or-true}
 use mathlib.Core.Logic.{_↔_, _⊎_, inl, inr, ⊎-elim}
 use mathlib.Core.List.{List, [], _∷_, _++_}
@@ -150,3 +150,12 @@ matches = matched eqb
 
 pub matches-exactly : (t : Tree ℕ) (w : List ℕ) → (matches t w ≡ true) ↔ Matches t w
 matches-exactly = matched-exactly Is eqb (λ a b. (eqb-true a b, eq-eqb a b))
+
+-- an answer that is yes exactly when the text lies in the language is this one
+pub matches-answer : (test : Bool) (t : Tree ℕ) (w : List ℕ) → (test ≡ true) ↔ Matches t w → test ≡ matches t w
+matches-answer true t w says = sym (matches-exactly t w .1 (says .0 refl))
+matches-answer false t w says = go (matches t w) refl
+  where
+    go : (other : Bool) → matches t w ≡ other → false ≡ other
+    go true e = absurd (false≢true (says .1 (matches-exactly t w .0 e)))
+    go false e = refl

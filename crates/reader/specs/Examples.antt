@@ -3,6 +3,7 @@
 use Prim.Native.Nat.{ℕ}
 use mathlib.Core.Path.{_≡_, refl}
 use mathlib.Core.List.{List, [], _∷_}
+use Rattle.reader.specs.Text.{bytes}
 use Rattle.reader.specs.Scanner.{refused, scan, scanned}
 
 -- what is said holds of every row
@@ -22,19 +23,19 @@ Refuses row = scanned (row .expression) ≡ refused (row .number) (row .place)
 
 abbrev pub refusals : List Refusal
 refusals =
-    -- P1: no bytes
-    record { expression = []; number = 1; place = 0 }
-    -- P2: `a|`
-    ∷ record { expression = 97 ∷ 124 ∷ []; number = 3; place = 2 }
-    -- P3: `()`
-    ∷ record { expression = 40 ∷ 41 ∷ []; number = 3; place = 1 }
-    -- P4: `((a)`
-    ∷ record { expression = 40 ∷ 40 ∷ 97 ∷ 41 ∷ []; number = 4; place = 0 }
-    -- P5: `a)` and `)`
-    ∷ record { expression = 97 ∷ 41 ∷ []; number = 5; place = 1 }
-    ∷ record { expression = 41 ∷ []; number = 3; place = 0 }
-    -- P6: `a\b`
-    ∷ record { expression = 97 ∷ 92 ∷ 98 ∷ []; number = 7; place = 1 }
+    -- P1
+    record { expression = bytes ""; number = 1; place = 0 }
+    -- P2
+    ∷ record { expression = bytes "a|"; number = 3; place = 2 }
+    -- P3
+    ∷ record { expression = bytes "()"; number = 3; place = 1 }
+    -- P4
+    ∷ record { expression = bytes "((a)"; number = 4; place = 0 }
+    -- P5
+    ∷ record { expression = bytes "a)"; number = 5; place = 1 }
+    ∷ record { expression = bytes ")"; number = 3; place = 0 }
+    -- P6
+    ∷ record { expression = bytes "a\\b"; number = 7; place = 1 }
     ∷ []
 
 -- every row holds, by computing the scan

@@ -7,4 +7,5 @@ pub mod Complete
 pub mod Sound
 pub mod Faults
 pub mod Agree
+pub mod Text
 pub mod Examples

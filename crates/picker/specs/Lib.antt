@@ -1,0 +1,6 @@
+-- The whole output of `pick`, from the bytes that it reads.
+pub mod Lines
+pub mod Digits
+pub mod Print
+pub mod Sample
+pub mod Room

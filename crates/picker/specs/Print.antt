@@ -1,0 +1,82 @@
+-- The program `pick`: what it prints, from the bytes that it reads.
+-- Assumes nothing.
+use Prim.Native.Nat.{ℕ, _+_, _-_, _≤_, _<_}
+use mathlib.Core.Path.{_≡_}
+use mathlib.Core.Bool.{Bool, true, false}
+use mathlib.Core.List.{List, [], _∷_, _++_}
+use lib.ListN.{length}
+use lib.Dec.{ltb}
+use borrow.Author.Tests.{lt-ltb, le-ltb}
+use Rattle.language.specs.Tree.{Tree}
+use Rattle.tree.specs.Records.{piece-count}
+use Rattle.reader.specs.Text.{bytes}
+use Rattle.reader.specs.Scanner.{Outcome, tree, refused, pick-outcome, scanned}
+use Rattle.finder.specs.Decide.{matches}
+use Rattle.picker.specs.Lines.{lines, expression, texts}
+use Rattle.picker.specs.Digits.{digits}
+
+-- a tree is refused with 8 where its cut has more than 128 pieces
+abbrev pub few-pieces : Outcome → Outcome
+few-pieces (tree t) = pick-outcome (ltb 128 (piece-count t)) (refused 8 0) (tree t)
+few-pieces (refused number place) = refused number place
+
+-- what reading an expression comes to, where there is room for its records
+abbrev pub answered : List ℕ → Outcome
+answered expr = few-pieces (scanned expr)
+
+-- the line of a text: its number, `yes` or `no`, and its rank among the yes lines, or `-`
+abbrev pub text-line : Bool → (number rank : ℕ) → List ℕ
+text-line true number rank = digits number ++ bytes " yes " ++ digits rank ++ bytes "\n"
+text-line false number rank = digits number ++ bytes " no -\n"
+
+-- the last line: how many texts, yes lines and no lines
+abbrev pub total-line : (texts yes-lines : ℕ) → List ℕ
+total-line count yes-lines =
+    bytes "total " ++ digits count ++ bytes " yes " ++ digits yes-lines ++ bytes " no " ++ digits (count - yes-lines) ++ bytes "\n"
+
+-- the only line for an expression that is refused
+abbrev pub refusal-line : (number place : ℕ) → List ℕ
+refusal-line number place = bytes "refused " ++ digits number ++ bytes " at " ++ digits place ++ bytes "\n"
+
+-- the yes lines after one more text
+abbrev pub yes-after : Bool → ℕ → ℕ
+yes-after true yes-lines = yes-lines + 1
+yes-after false yes-lines = yes-lines
+
+abbrev pub pick-bytes : Bool → List ℕ → List ℕ → List ℕ
+pick-bytes true a b = a
+pick-bytes false a b = b
+
+-- whether a text matches a tree is given
+module _ (matching : Tree ℕ → List ℕ → Bool) where
+  -- the lines of the texts that are left, after so many texts and yes lines; then the last line
+  unfoldable pub text-lines : Tree ℕ → (count yes-lines : ℕ) → List (List ℕ) → List ℕ
+  text-lines t count yes-lines [] = total-line count yes-lines
+  text-lines t count yes-lines (text ∷ later) =
+      text-line (matching t text) (count + 1) (yes-lines + 1)
+      ++ text-lines t (count + 1) (yes-after (matching t text) yes-lines) later
+
+  -- what is printed for an expression's outcome and the texts
+  abbrev pub reported : Outcome → List (List ℕ) → List ℕ
+  reported (tree t) later = text-lines t 0 0 later
+  reported (refused number place) later = refusal-line number place
+
+  -- what is printed for an input: with more than 65,536 bytes one line that says so
+  unfoldable pub output : List ℕ → List ℕ
+  output input =
+      pick-bytes (ltb 65536 (length input)) (bytes "input too long\n")
+      (reported (answered (expression (lines input))) (texts (lines input)))
+
+-- the output of `pick`
+abbrev pub picked : List ℕ → List ℕ
+picked = output matches
+
+-- an input over 65,536 bytes has that one line
+pub output-long : (matching : Tree ℕ → List ℕ → Bool) (input : List ℕ) → 65536 < length input → output matching input ≡ bytes "input too long\n"
+unfolding output
+output-long matching input h = rw (lt-ltb 65536 (length input) h)
+
+-- another one is reported by its lines
+pub output-short : (matching : Tree ℕ → List ℕ → Bool) (input : List ℕ) → length input ≤ 65536 → output matching input ≡ reported matching (answered (expression (lines input))) (texts (lines input))
+unfolding output
+output-short matching input h = rw (le-ltb 65536 (length input) h)

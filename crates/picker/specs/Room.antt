@@ -1,0 +1,71 @@
+-- How long the output can be: at most 1,048,575 bytes, so that it fits in 2 to the 20.
+-- Assumes nothing.
+use Prim.Native.Nat.{ℕ, _+_, _*_, _-_, _≤_, _<_}
+use mathlib.Core.Path.{_≡_, refl}
+use mathlib.Core.Bool.{Bool, true, false}
+use mathlib.Core.List.{List, [], _∷_}
+use native.Mathlib.Decide.{decLt}
+use native.Mathlib.Omega.{arith}
+use lib.ListN.{length, length-append}
+use lib.Dec.{ltb}
+use Rattle.language.specs.Tree.{Tree}
+use Rattle.tree.specs.Records.{piece-count}
+use Rattle.reader.specs.Scanner.{Outcome, tree, refused, pick-outcome, scanned}
+use Rattle.reader.specs.Agree.{scanned-exactly, scanned-refusal, written-size}
+use Rattle.picker.specs.Lines.{lines, expression, texts, texts-count}
+use Rattle.picker.specs.Digits.{digits-length}
+use Rattle.picker.specs.Print.{few-pieces, text-line, total-line, refusal-line, yes-after, text-lines, reported, output, output-long, output-short}
+
+-- a text's line has at most 16 bytes
+pub text-line-length : (test : Bool) (number rank : ℕ) → number < 100000 → rank < 100000 → length (text-line test number rank) ≤ 16
+text-line-length true number rank h k = simp length-append (omega (arith, digits-length 4 number h, digits-length 4 rank k))
+text-line-length false number rank h k = simp length-append (omega (arith, digits-length 4 number h))
+
+-- the last line has at most 31
+pub total-line-length : (count yes-lines : ℕ) → count < 100000 → yes-lines ≤ count → length (total-line count yes-lines) ≤ 31
+total-line-length count yes-lines h k =
+    simp length-append (omega (arith, digits-length 4 count h, digits-length 4 yes-lines (omega arith), digits-length 4 (count - yes-lines) (omega arith)))
+
+-- a refusal has at most 18
+pub refusal-line-length : (number place : ℕ) → number < 10 → place < 10000 → length (refusal-line number place) ≤ 18
+refusal-line-length number place h k = simp length-append (omega (arith, digits-length 0 number h, digits-length 3 place k))
+
+-- the yes lines are never more than the texts
+pub yes-after-most : (test : Bool) (count yes-lines : ℕ) → yes-lines ≤ count → yes-after test yes-lines ≤ count + 1
+yes-after-most true count yes-lines h = omega arith
+yes-after-most false count yes-lines h = omega arith
+
+module _ (matching : Tree ℕ → List ℕ → Bool) where
+  pub text-lines-length : (t : Tree ℕ) (later : List (List ℕ)) (count yes-lines : ℕ) → yes-lines ≤ count → count + length later < 100000 → length (text-lines matching t count yes-lines later) ≤ 16 * length later + 31
+  unfolding text-lines
+  text-lines-length t [] count yes-lines h k = omega (arith, total-line-length count yes-lines (omega arith) h)
+  text-lines-length t (text ∷ later) count yes-lines h k =
+      rw length-append
+      (omega (
+        arith,
+        text-line-length (matching t text) (count + 1) (yes-lines + 1) (omega arith) (omega arith),
+        text-lines-length t later (count + 1) (yes-after (matching t text) yes-lines) (yes-after-most (matching t text) count yes-lines h) (omega arith),
+      ))
+
+  -- an expression that is read has a byte, so there are at most 65,534 texts
+  reported-length : (expr : List ℕ) (outcome : Outcome) → scanned expr ≡ outcome → (later : List (List ℕ)) → length later ≤ 65536 - (length expr + 1) → length (reported matching (few-pieces outcome) later) ≤ 1048575
+  reported-length expr (refused number place) e later h =
+      let bounds = scanned-refusal expr number place e in
+      omega (arith, refusal-line-length number place (omega (arith, bounds)) (omega (arith, bounds)))
+  reported-length expr (tree t) e later h = either (ltb 128 (piece-count t))
+    where
+      either : (test : Bool) → length (reported matching (pick-outcome test (refused 8 0) (tree t)) later) ≤ 1048575
+      either true = omega (arith, refusal-line-length 8 0 (omega arith) (omega arith))
+      either false =
+          let long = written-size (scanned-exactly expr t .0 e .1) in
+          omega (arith, text-lines-length t later 0 0 (omega arith) (omega (arith, long)), long)
+
+  -- the whole output has at most 1,048,575 bytes
+  pub output-length : (input : List ℕ) → length (output matching input) ≤ 1048575
+  output-length input =
+      elim (decLt 65536 (length input)) [
+        | yes h ↦ rw (output-long matching input h) (omega arith)
+        | no h ↦
+            rw (output-short matching input (omega arith))
+            (reported-length (expression (lines input)) (scanned (expression (lines input))) refl (texts (lines input)) (omega (arith, texts-count input)))
+      ]

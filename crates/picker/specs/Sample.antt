@@ -1,0 +1,44 @@
+-- The sample of the statement, and the edges of the input, by computing the output.
+-- Assumes nothing.
+use Prim.Native.Nat.{ℕ}
+use mathlib.Core.Path.{_≡_, refl}
+use mathlib.Core.List.{List, [], _∷_}
+use Rattle.reader.specs.Text.{bytes}
+use Rattle.reader.specs.Scanner.{scan, scanned}
+use Rattle.reader.specs.Examples.{Every}
+use Rattle.finder.specs.Decide.{any-split, any-repeat, one-byte, matched}
+use Rattle.picker.specs.Lines.{lines}
+use Rattle.picker.specs.Digits.{digits, digits-within}
+use Rattle.picker.specs.Print.{text-lines, output, picked}
+
+-- an input, and what is printed for it
+pub record Run : Type 0 where
+  pub input : List ℕ
+  pub printed : List ℕ
+
+-- what a run says
+abbrev pub Prints : Run → Type 0
+Prints run = picked (run .input) ≡ run .printed
+
+abbrev pub runs : List Run
+runs =
+    -- the sample
+    record { input = bytes "02-2(8|9)\n02-28\n02-29\n03-01\n"; printed = bytes "1 yes 1\n2 yes 2\n3 no -\ntotal 3 yes 2 no 1\n" }
+    -- no input, and an empty first line
+    ∷ record { input = bytes ""; printed = bytes "refused 1 at 0\n" }
+    ∷ record { input = bytes "\na"; printed = bytes "refused 1 at 0\n" }
+    -- an expression alone, with and without an end
+    ∷ record { input = bytes "a"; printed = bytes "total 0 yes 0 no 0\n" }
+    ∷ record { input = bytes "a\n"; printed = bytes "total 0 yes 0 no 0\n" }
+    -- an empty text is a text, and a last line needs no end
+    ∷ record { input = bytes "a*\n\nb\naa"; printed = bytes "1 yes 1\n2 no -\n3 yes 2\ntotal 3 yes 2 no 1\n" }
+    -- byte 13 is an ordinary byte
+    ∷ record { input = bytes "a\r\na\r\n"; printed = bytes "1 yes 1\ntotal 1 yes 1 no 0\n" }
+    -- a refusal is the only line
+    ∷ record { input = bytes "(a\\b\nx\n"; printed = bytes "refused 7 at 2\n" }
+    ∷ []
+
+-- every run prints so
+pub runs-print : Every Prints runs
+unfolding scan scanned any-split any-repeat one-byte matched lines digits digits-within text-lines output
+runs-print = (refl, (refl, (refl, (refl, (refl, (refl, (refl, (refl, tt))))))))

@@ -1,0 +1,1 @@
+// What `pick` prints, as a function of the bytes that it reads.
