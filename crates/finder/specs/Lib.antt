@@ -4,3 +4,4 @@ pub mod Progress
 pub mod Reached
 pub mod Decide
 pub mod Searched
+pub mod Promise

@@ -1,3 +1,5 @@
 -- How words hold marks, and what the tables of a list hold.
 pub mod Words
 pub mod Plan
+pub mod Tables
+pub mod Promise

@@ -1,1 +1,13 @@
 // Marks in words: start and step, by moves and sweeps over the pieces of a good list.
+
+// What a start or a step answers.
+pub enum Answer {
+    // The marks are made; whether the root's accepting state is now marked.
+    Marked { accepting: bool },
+    // The list is not good.
+    NotGood,
+    // Fewer words are lent than there are pieces.
+    TooFewWords,
+    // A bit past the last state is set, or the two bits of a shared state differ.
+    NotMarks,
+}
