@@ -31,7 +31,7 @@ one-byte test (b ∷ []) = test b
 one-byte test (b ∷ c ∷ w) = false
 
 -- both tests pass
-both : (a b : Bool) → (a && b) ≡ true → (a ≡ true) × (b ≡ true)
+pub both : (a b : Bool) → (a && b) ≡ true → (a ≡ true) × (b ≡ true)
 both true b e = (refl, e)
 both false b e = absurd (false≢true e)
 

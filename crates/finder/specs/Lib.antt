@@ -5,3 +5,5 @@ pub mod Reached
 pub mod Decide
 pub mod Searched
 pub mod Promise
+pub mod Computed
+pub mod Held

@@ -4,3 +4,4 @@ pub mod Digits
 pub mod Print
 pub mod Sample
 pub mod Room
+pub mod Edges

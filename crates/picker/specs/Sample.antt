@@ -5,8 +5,8 @@ use mathlib.Core.Path.{_≡_, refl}
 use mathlib.Core.List.{List, [], _∷_}
 use Rattle.reader.specs.Text.{bytes}
 use Rattle.reader.specs.Scanner.{scan, scanned}
-use Rattle.reader.specs.Examples.{Every}
 use Rattle.finder.specs.Decide.{any-split, any-repeat, one-byte, matched}
+use Rattle.picker.specs.Edges.{Every}
 use Rattle.picker.specs.Lines.{lines}
 use Rattle.picker.specs.Digits.{digits, digits-within}
 use Rattle.picker.specs.Print.{text-lines, output, picked}

@@ -8,4 +8,3 @@ pub mod Sound
 pub mod Faults
 pub mod Agree
 pub mod Text
-pub mod Examples

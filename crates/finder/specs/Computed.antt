@@ -1,0 +1,225 @@
+-- The marks after a text can be computed: sets of states as tests, closed by two walks over the tree.
+-- Assumes nothing.
+use Prim.Native.Nat.{ℕ}
+use mathlib.Core.Path.{_≡_, refl, ap}
+use mathlib.Core.Bool.{Bool, true, false, _&&_, _||_, false≢true}
+use mathlib.Core.Logic.{_↔_, Iff·trans, _⊎_, inl, inr, ⊎-elim}
+use mathlib.Core.List.{List, [], _∷_}
+use Rattle.finder.specs.Decide.{both}
+use Rattle.language.specs.Automaton.{State, start, accepting, left, right, States, Started, Stepped, After}
+use Rattle.language.specs.Nested.{Nested, leaf, catenation, union, star, below, whole, Models, Reading, at-leaf, catenation-left, catenation-right, union-left, union-right, star-inside, in-child, Move, Sweep}
+use Rattle.language.specs.Walk.{Entered, First, Second, Walked, walked-keeps, walked-more, two-walks-settle}
+use Rattle.language.specs.Visits.{sweep-walked, sweep-within}
+use Rattle.language.specs.Sweeps.{sweeps-start, sweeps-step}
+
+-- a set of states that a test decides
+abbrev pub Test : Type 0
+Test = State → Bool
+
+-- the states that pass
+abbrev pub Passing : Test → States
+Passing f q = f q ≡ true
+
+-- the test decides the set
+abbrev pub Decides : Test → States → Type 0
+Decides f X = (q : State) → Passing f q ↔ X q
+
+-- one of two tests passes
+or-exactly : (a b : Bool) {P Q : Type 0} → (a ≡ true) ↔ P → (b ≡ true) ↔ Q → ((a || b) ≡ true) ↔ (P ⊎ Q)
+or-exactly true b p q = (λ e. inl (p .0 refl), λ s. refl)
+or-exactly false b p q = (λ e. inr (q .0 e), ⊎-elim (λ x. absurd (false≢true (p .1 x))) (q .1))
+
+-- a test that fails decides what does not hold
+never : {P : Type 0} → (P → ⊥) → (false ≡ true) ↔ P
+never none = (λ e. absurd (false≢true e), λ p. absurd (none p))
+
+-- what passes, and the start where p passes
+abbrev entered : Test → Bool → Test
+entered f p start = f start || p
+entered f p accepting = f accepting
+entered f p (left q) = f (left q)
+entered f p (right q) = f (right q)
+
+abbrev first : (Test → Test) → Test → Test
+first walk f = walk (entered (λ p. f (left p)) (f start))
+
+abbrev second : (Test → Test) → Bool → Test → Test
+second walk p f = walk (entered (λ q. f (right q)) p)
+
+-- one walk over the states in their order
+unfoldable pub walked : {A : Type 0} → Nested A → Test → Test
+walked (leaf a) f q = f q
+walked (catenation x y) f start = f start
+walked (catenation x y) f (left q) = first (walked x) f q
+walked (catenation x y) f (right q) = second (walked y) (first (walked x) f accepting) f q
+walked (catenation x y) f accepting = f accepting || second (walked y) (first (walked x) f accepting) f accepting
+walked (union x y) f start = f start
+walked (union x y) f (left q) = first (walked x) f q
+walked (union x y) f (right q) = second (walked y) (f start) f q
+walked (union x y) f accepting = f accepting || (first (walked x) f accepting || second (walked y) (f start) f accepting)
+walked (star x) f start = f start
+walked (star x) f (left q) = entered (first (walked x) f) (first (walked x) f accepting) q
+walked (star x) f (right q) = f (right q)
+walked (star x) f accepting = f accepting || (f start || first (walked x) f accepting)
+walked (below x) f start = f start
+walked (below x) f (left q) = first (walked x) f q
+walked (below x) f (right q) = f (right q)
+walked (below x) f accepting = f accepting || first (walked x) f accepting
+
+entered-exactly : {f : Test} {X : States} {p : Bool} {P : Type 0} → Decides f X → (p ≡ true) ↔ P → Decides (entered f p) (Entered X P)
+entered-exactly {f = f} {p = p} d e start = or-exactly (f start) p (d start) e
+entered-exactly d e accepting = d accepting
+entered-exactly d e (left q) = d (left q)
+entered-exactly d e (right q) = d (right q)
+
+-- a function of tests decides what a function of sets gives
+abbrev Follows : (Test → Test) → (States → States) → Type 1
+Follows walk Walk = (f : Test) (X : States) → Decides f X → Decides (walk f) (Walk X)
+
+first-exactly : {walk : Test → Test} {Walk : States → States} → Follows walk Walk → Follows (first walk) (First Walk)
+first-exactly follows f X d = follows _ _ (entered-exactly (λ p. d (left p)) (d start))
+
+second-exactly : {walk : Test → Test} {Walk : States → States} → Follows walk Walk → {p : Bool} {P : Type 0} → (p ≡ true) ↔ P → Follows (second walk p) (Second Walk P)
+second-exactly follows e f X d = follows _ _ (entered-exactly (λ p. d (right p)) e)
+
+-- a walk over tests decides what a walk over sets marks
+walked-exactly : {A : Type 0} (x : Nested A) → Follows (walked x) (Walked x)
+unfolding walked
+walked-exactly (leaf a) f X d q = d q
+walked-exactly (catenation x y) f X d start = d start
+walked-exactly (catenation x y) f X d (left q) = first-exactly (walked-exactly x) f X d q
+walked-exactly (catenation x y) f X d (right q) = second-exactly (walked-exactly y) (first-exactly (walked-exactly x) f X d accepting) f X d q
+walked-exactly (catenation x y) f X d accepting = or-exactly _ _ (d accepting) (second-exactly (walked-exactly y) (first-exactly (walked-exactly x) f X d accepting) f X d accepting)
+walked-exactly (union x y) f X d start = d start
+walked-exactly (union x y) f X d (left q) = first-exactly (walked-exactly x) f X d q
+walked-exactly (union x y) f X d (right q) = second-exactly (walked-exactly y) (d start) f X d q
+walked-exactly (union x y) f X d accepting = or-exactly _ _ (d accepting) (or-exactly _ _ (first-exactly (walked-exactly x) f X d accepting) (second-exactly (walked-exactly y) (d start) f X d accepting))
+walked-exactly (star x) f X d start = d start
+walked-exactly (star x) f X d (left q) = entered-exactly (first-exactly (walked-exactly x) f X d) (first-exactly (walked-exactly x) f X d accepting) q
+walked-exactly (star x) f X d (right q) = d (right q)
+walked-exactly (star x) f X d accepting = or-exactly _ _ (d accepting) (or-exactly _ _ (d start) (first-exactly (walked-exactly x) f X d accepting))
+walked-exactly (below x) f X d start = d start
+walked-exactly (below x) f X d (left q) = first-exactly (walked-exactly x) f X d q
+walked-exactly (below x) f X d (right q) = d (right q)
+walked-exactly (below x) f X d accepting = or-exactly _ _ (d accepting) (first-exactly (walked-exactly x) f X d accepting)
+
+module _ {A : Type 0} (takes : A → ℕ → Bool) (b : ℕ) where
+  -- what passes after moving along the byte b
+  unfoldable pub moved : Nested A → Test → Test
+  moved (leaf a) f start = false
+  moved (leaf a) f accepting = f start && takes a b
+  moved (leaf a) f (left q) = false
+  moved (leaf a) f (right q) = false
+  moved (catenation x y) f start = false
+  moved (catenation x y) f accepting = false
+  moved (catenation x y) f (left q) = moved x (λ p. f (left p)) q
+  moved (catenation x y) f (right q) = moved y (λ p. f (right p)) q
+  moved (union x y) f start = false
+  moved (union x y) f accepting = false
+  moved (union x y) f (left q) = moved x (λ p. f (left p)) q
+  moved (union x y) f (right q) = moved y (λ p. f (right p)) q
+  moved (star x) f start = false
+  moved (star x) f accepting = false
+  moved (star x) f (left q) = moved x (λ p. f (left p)) q
+  moved (star x) f (right q) = false
+  moved (below x) f start = false
+  moved (below x) f accepting = false
+  moved (below x) f (left q) = moved x (λ p. f (left p)) q
+  moved (below x) f (right q) = false
+
+module _ {A : Type 0} (Takes : A → ℕ → Type 0) (takes : A → ℕ → Bool) (exactly : (a : A) (b : ℕ) → (takes a b ≡ true) ↔ Takes a b) (b : ℕ) where
+  -- a reading transition from a state of the set leads to one that passes
+  moved-passes : {x : Nested A} {p q : State} → Reading Takes b x p q → (f : Test) → f p ≡ true → moved takes b x f q ≡ true
+  unfolding moved
+  moved-passes (at-leaf {a = a} h) f e = rw (e, exactly a b .1 h)
+  moved-passes (catenation-left r) f e = moved-passes r (λ p. f (left p)) e
+  moved-passes (catenation-right r) f e = moved-passes r (λ p. f (right p)) e
+  moved-passes (union-left r) f e = moved-passes r (λ p. f (left p)) e
+  moved-passes (union-right r) f e = moved-passes r (λ p. f (right p)) e
+  moved-passes (star-inside r) f e = moved-passes r (λ p. f (left p)) e
+  moved-passes (in-child r) f e = moved-passes r (λ p. f (left p)) e
+
+  -- a move in a part is a move in the whole
+  wider : {x z : Nested A} {X : States} {q : State} (into : State → State) → ((p : State) → Reading Takes b x p q → Reading Takes b z (into p) (into q)) → Move Takes b x (λ p. X (into p)) q → Move Takes b z X (into q)
+  wider into reading m = (into (m .0), m .1, reading (m .0) (m .2))
+
+  -- what passes is reached by a reading transition from what passed
+  moved-found : (x : Nested A) (f : Test) (q : State) → moved takes b x f q ≡ true → Move Takes b x (Passing f) q
+  unfolding moved
+  moved-found (leaf a) f start e = absurd (false≢true e)
+  moved-found (leaf a) f accepting e = let (p, q) = both (f start) (takes a b) e in (start, p, at-leaf (exactly a b .0 q))
+  moved-found (leaf a) f (left q) e = absurd (false≢true e)
+  moved-found (leaf a) f (right q) e = absurd (false≢true e)
+  moved-found (catenation x y) f start e = absurd (false≢true e)
+  moved-found (catenation x y) f accepting e = absurd (false≢true e)
+  moved-found (catenation x y) f (left q) e = wider left (λ p. catenation-left) (moved-found x (λ p. f (left p)) q e)
+  moved-found (catenation x y) f (right q) e = wider right (λ p. catenation-right) (moved-found y (λ p. f (right p)) q e)
+  moved-found (union x y) f start e = absurd (false≢true e)
+  moved-found (union x y) f accepting e = absurd (false≢true e)
+  moved-found (union x y) f (left q) e = wider left (λ p. union-left) (moved-found x (λ p. f (left p)) q e)
+  moved-found (union x y) f (right q) e = wider right (λ p. union-right) (moved-found y (λ p. f (right p)) q e)
+  moved-found (star x) f start e = absurd (false≢true e)
+  moved-found (star x) f accepting e = absurd (false≢true e)
+  moved-found (star x) f (left q) e = wider left (λ p. star-inside) (moved-found x (λ p. f (left p)) q e)
+  moved-found (star x) f (right q) e = absurd (false≢true e)
+  moved-found (below x) f start e = absurd (false≢true e)
+  moved-found (below x) f accepting e = absurd (false≢true e)
+  moved-found (below x) f (left q) e = wider left (λ p. in-child) (moved-found x (λ p. f (left p)) q e)
+  moved-found (below x) f (right q) e = absurd (false≢true e)
+
+  moved-exactly : (x : Nested A) (f : Test) → Decides (moved takes b x f) (Move Takes b x (Passing f))
+  moved-exactly x f q = (moved-found x f q, λ m. moved-passes (m .2) f (m .1))
+
+-- two walks mark what two sweeps mark
+walks-sweep : {A : Type 0} (x : Nested A) (X : States) (q : State) → Walked x (Walked x X) q ↔ Sweep x (Sweep x X) q
+walks-sweep x X q =
+    ( λ m. sweep-walked x (Sweep x X) q (walked-more x (Walked x X) (Sweep x X) (sweep-walked x X) q m)
+    , sweep-within x (Sweep x X) _ (two-walks-settle x X) (sweep-within x X _ (two-walks-settle x X) (λ p m. walked-keeps x _ p (walked-keeps x X p m))) q
+    )
+
+-- two walks over tests decide two sweeps
+swept-exactly : {A : Type 0} (x : Nested A) (f : Test) (X : States) → Decides f X → Decides (walked x (walked x f)) (Sweep x (Sweep x X))
+swept-exactly x f X d q = Iff·trans (walked-exactly x (walked x f) (Walked x X) (walked-exactly x f X d) q) (walks-sweep x X q)
+
+-- only the start
+abbrev pub only-start : Test
+only-start start = true
+only-start accepting = false
+only-start (left q) = false
+only-start (right q) = false
+
+only-start-exactly : Decides only-start (λ q. q ≡ start)
+only-start-exactly start = (λ e. refl, λ e. refl)
+only-start-exactly accepting = (λ e. absurd (false≢true e), ap only-start)
+only-start-exactly (left q) = (λ e. absurd (false≢true e), ap only-start)
+only-start-exactly (right q) = (λ e. absurd (false≢true e), ap only-start)
+
+-- a test that decides what models a set models it too
+decided-models : {A : Type 0} (x : Nested A) (X : States) {f : Test} {marks : States} → Decides f marks → Models x marks X → Models x (Passing f) X
+decided-models x X d models q has = Iff·trans (d q) (models q has)
+
+-- the marks to start with, as a test
+abbrev pub start-test : {A : Type 0} → Nested A → Test
+start-test x = walked x (walked x only-start)
+
+module _ {A : Type 0} (takes : A → ℕ → Bool) (x : Nested A) where
+  -- one byte further: move along it, then two walks
+  abbrev pub step-test : ℕ → Test → Test
+  step-test b f = walked x (walked x (moved takes b x f))
+
+  -- after a text
+  abbrev pub after-test : List ℕ → Test → Test
+  after-test [] f = f
+  after-test (b ∷ w) f = after-test w (step-test b f)
+
+module _ {A : Type 0} (Takes : A → ℕ → Type 0) (takes : A → ℕ → Bool) (exactly : (a : A) (b : ℕ) → (takes a b ≡ true) ↔ Takes a b) (x : Nested A) where
+  after-models : (w : List ℕ) (f : Test) (X : States) → Models x (Passing f) X → Models x (Passing (after-test takes x w f)) (After Takes (whole x) w X)
+  after-models [] f X models = models
+  after-models (b ∷ w) f X models =
+      after-models w (step-test takes x b f) (Stepped Takes (whole x) b X)
+      (decided-models x (Stepped Takes (whole x) b X) (swept-exactly x _ _ (moved-exactly Takes takes exactly b x f)) (sweeps-step Takes b x (Passing f) X models))
+
+  -- the computed test is that of the plain simulation
+  pub computed-models : (w : List ℕ) → Models x (Passing (after-test takes x w (start-test x))) (After Takes (whole x) w (Started (whole x)))
+  computed-models w =
+      after-models w (start-test x) (Started (whole x)) (decided-models x (Started (whole x)) (swept-exactly x only-start _ only-start-exactly) (sweeps-start x))
