@@ -3,3 +3,8 @@ pub mod Words
 pub mod Plan
 pub mod Tables
 pub mod Promise
+pub mod Bits
+pub mod Joining
+pub mod Parts
+pub mod Numbers
+pub mod Closing

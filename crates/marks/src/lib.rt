@@ -11,3 +11,5 @@ pub enum Answer {
     // A bit past the last state is set, or the two bits of a shared state differ.
     NotMarks,
 }
+pub mod bits;
+pub mod close;

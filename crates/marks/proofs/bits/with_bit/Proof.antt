@@ -1,0 +1,17 @@
+-- `marks::bits::with_bit` meets its contract: 1 shifted by less than 64 is a power of two. Assumes nothing.
+use mathlib.Core.Path.{ap}
+use borrow.Author.Needs.{needs}
+use lib.Bits.{bitOr}
+use native.Mathlib.Omega.{arith}
+use Rattle.marks.specs.Bits.{one-shifted}
+use Rattle.marks.proofs.bits.with_bit.Statement.{statement}
+use Rattle.marks.proofs.bits.with_bit.Tie as tie
+
+shl-result : tie.Need-shl-result
+shl-result c = search needs
+
+returns : tie.Need-returns
+returns c = ap (bitOr (c .args .word)) (one-shifted 64 (c .args .i) (omega arith))
+
+pub with-bit-spec : {M : Type 1} → statement M
+with-bit-spec = tie.close (tie.spec shl-result returns)

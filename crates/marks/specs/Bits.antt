@@ -1,0 +1,126 @@
+-- The laws of bits that marks in words rest on: of no bits, of one bit, of two words joined, and that a word is its bits.
+-- Nothing else of words is used.
+-- Assumes nothing.
+use Prim.Native.Nat.{ℕ, zero, suc, _+_, _*_, _/_, _%_, _^_, _≤_, _<_, max}
+use mathlib.Core.Path.{_≡_, refl, sym, ap, _∙_, subst}
+use mathlib.Core.Logic.{_⊎_, inl, inr, _↔_, ⊎-elim}
+use mathlib.Core.Bool.{Bool, true, false}
+use native.Mathlib.Nat.{zero-div, div-eq-of-lt, mod-lt, pow-suc, one-mul, lt-of-lt-of-le}
+use native.Mathlib.Decide.{ℕ-discrete, decLt}
+use native.Mathlib.Omega.{arith}
+use lib.Arith.{bin-ind, digits-mod}
+use lib.Bits.{bitOr, or-step, or-shr}
+use lib.Pow.{pow-pos, pow-mono, shl-exact, shr-shr, split}
+use Rattle.marks.specs.Words.{Bit}
+
+-- whether a bit is set can be tested
+pub dec-bit : (w i : ℕ) → Dec (Bit w i)
+dec-bit w i = ℕ-discrete (w / 2 ^ i % 2) 1
+
+-- a bit that is not set is 0
+pub clear-bit : (w i : ℕ) → (Bit w i → ⊥) → w / 2 ^ i % 2 ≡ 0
+clear-bit w i h = omega (arith, mod-lt (w / 2 ^ i) {m = 2} (omega arith), h)
+
+-- the low bit is the number's parity
+pub bit-low : (w : ℕ) → w / 2 ^ 0 ≡ w
+bit-low w = omega arith
+
+-- bit i + 1 is bit i of the half
+pub bit-half : (w i : ℕ) → w / 2 ^ suc i ≡ w / 2 / 2 ^ i
+bit-half w i = ap (λ (n : ℕ). w / 2 ^ n) (omega arith) ∙ sym (shr-shr w 1 i)
+
+-- no bit of 0 is set
+pub bit-zero : (i : ℕ) → Bit 0 i → ⊥
+bit-zero i h = omega (arith, ap (λ (n : ℕ). n % 2) (zero-div (2 ^ i)), h)
+
+parity-or : (a b : ℕ) → bitOr a b % 2 ≡ max (a % 2) (b % 2)
+parity-or a b = ap (λ (n : ℕ). n % 2) (or-step a b) ∙ digits-mod (bitOr (a / 2) (b / 2)) (omega arith)
+
+-- a bit of two words joined is a bit of one of them
+pub bit-or : (a b i : ℕ) → Bit (bitOr a b) i ↔ (Bit a i ⊎ Bit b i)
+bit-or a b i = (
+  λ h. elim (dec-bit a i) [ yes l ↦ inl l | no l ↦ inr (omega (arith, joined, h, clear-bit a i l)) ],
+  ⊎-elim (λ l. omega (arith, joined, l)) (λ l. omega (arith, joined, l)),
+)
+  where
+    joined : bitOr a b / 2 ^ i % 2 ≡ max (a / 2 ^ i % 2) (b / 2 ^ i % 2)
+    joined = ap (λ (n : ℕ). n % 2) (or-shr a b i) ∙ parity-or (a / 2 ^ i) (b / 2 ^ i)
+
+-- a word shifted once more is the half of what was left
+pub bit-next : (w i : ℕ) → w / 2 ^ (i + 1) ≡ w / 2 ^ i / 2
+bit-next w i = sym (shr-shr w i 1)
+
+-- shifted by n or more, nothing is left of a word below 2 ^ n
+pub nothing-left : {w n i : ℕ} → w < 2 ^ n → n ≤ i → w / 2 ^ i ≡ 0
+nothing-left h l = div-eq-of-lt (lt-of-lt-of-le h (pow-mono l))
+
+-- where something is left of a word below 2 ^ n, it was shifted by less than n
+pub something-left : {w n i : ℕ} → w < 2 ^ n → (w / 2 ^ i ≡ 0 → ⊥) → i < n
+something-left {w} {n} {i} h some = elim (decLt i n) [ yes l ↦ l | no l ↦ absurd (some (nothing-left h (omega arith))) ]
+
+-- a word of which nothing is left is below 2 ^ n
+pub below-of-nothing : (w n : ℕ) → w / 2 ^ n ≡ 0 → w < 2 ^ n
+below-of-nothing w n e = rw (← split w n, e) (omega (arith, mod-lt w (pow-pos n)))
+
+-- in a word below 2 ^ n no bit at or above n is set
+pub bit-below : {w n i : ℕ} → w < 2 ^ n → Bit w i → i < n
+bit-below h b = something-left h (λ e. omega (arith, ap (λ (m : ℕ). m % 2) e, b))
+
+-- bit i + 1 of a word is bit i of its half
+pub bit-suc : (w i : ℕ) → Bit w (suc i) ↔ Bit (w / 2) i
+bit-suc w i = (λ b. ap (λ (n : ℕ). n % 2) (sym (bit-half w i)) ∙ b, λ b. ap (λ (n : ℕ). n % 2) (bit-half w i) ∙ b)
+
+double-half : (j : ℕ) → 2 ^ suc j / 2 ≡ 2 ^ j
+double-half j = omega (arith, pow-suc 2 j)
+
+-- the one bit of 2 ^ j is bit j
+pub bit-power : (j i : ℕ) → Bit (2 ^ j) i ↔ (i ≡ j)
+bit-power zero zero = (λ _. refl, λ _. refl)
+bit-power zero (suc i) = (λ b. absurd (bit-zero i (bit-suc 1 i .0 b)), λ e. absurd (omega arith))
+bit-power (suc j) zero = (λ b. absurd (omega (arith, pow-suc 2 j, bit-low (2 ^ suc j), b)), λ e. absurd (omega arith))
+bit-power (suc j) (suc i) = (
+  λ b. ap suc (bit-power j i .0 (subst (λ (n : ℕ). Bit n i) (double-half j) (bit-suc (2 ^ suc j) i .0 b))),
+  λ e. bit-suc (2 ^ suc j) i .1 (subst (λ (n : ℕ). Bit n i) (sym (double-half j)) (bit-power j i .1 (omega arith))),
+)
+
+no-bits : (w : ℕ) → ((i : ℕ) → Bit w i → ⊥) → w ≡ 0
+no-bits =
+    bin-ind (λ (w : ℕ). ((i : ℕ) → Bit w i → ⊥) → w ≡ 0) (λ _. refl)
+    (λ w ih h. omega (arith, ih (λ i b. h (suc i) (bit-suc w i .1 b)), clear-bit w 0 (h 0), bit-low w))
+
+-- a word is below 2 ^ n where no bit at or above n is set
+pub below-of-bits : (n w : ℕ) → ((i : ℕ) → Bit w i → i < n) → w < 2 ^ n
+below-of-bits n w h =
+    below-of-nothing w n
+    (no-bits (w / 2 ^ n) (λ i b. omega (arith, h (n + i) (ap (λ (m : ℕ). m % 2) (sym (shr-shr w n i)) ∙ b))))
+
+-- two words with the same bits are equal
+pub same-bits : (v w : ℕ) → ((i : ℕ) → Bit v i ↔ Bit w i) → v ≡ w
+same-bits =
+    bin-ind (λ (v : ℕ). (w : ℕ) → ((i : ℕ) → Bit v i ↔ Bit w i) → v ≡ w) (λ w h. sym (no-bits w (λ i b. bit-zero i (h i .1 b))))
+    (λ v ih w h. omega (arith, halves v w h ih, parities v w (h 0)))
+  where
+    halves : (v w : ℕ) → ((i : ℕ) → Bit v i ↔ Bit w i) → ((w : ℕ) → ((i : ℕ) → Bit (v / 2) i ↔ Bit w i) → v / 2 ≡ w) → v / 2 ≡ w / 2
+    halves v w h ih = ih (w / 2) (λ i. (λ b. bit-suc w i .0 (h (suc i) .0 (bit-suc v i .1 b)), λ b. bit-suc v i .0 (h (suc i) .1 (bit-suc w i .1 b))))
+
+    parities : (v w : ℕ) → Bit v 0 ↔ Bit w 0 → v % 2 ≡ w % 2
+    parities v w h = elim (dec-bit v 0) [
+      | yes b ↦ omega (arith, b, h .0 b, bit-low v, bit-low w)
+      | no b ↦ omega (arith, clear-bit v 0 b, clear-bit w 0 (λ c. b (h .1 c)), bit-low v, bit-low w)
+    ]
+
+-- 1 shifted within a word of n bits
+pub one-shifted : (n i : ℕ) → i < n → 1 * 2 ^ i % 2 ^ n ≡ 2 ^ i
+one-shifted n i h = shl-exact 1 i n (omega arith) (omega arith) ∙ one-mul (2 ^ i)
+
+-- a word with bit j set too has that bit and its own
+pub bit-with : (w j i : ℕ) → Bit (bitOr w (2 ^ j)) i ↔ (Bit w i ⊎ (i ≡ j))
+bit-with w j i = (
+  λ b. ⊎-elim inl (λ c. inr (bit-power j i .0 c)) (bit-or w (2 ^ j) i .0 b),
+  λ b. bit-or w (2 ^ j) i .1 (⊎-elim inl (λ e. inr (bit-power j i .1 e)) b),
+)
+
+-- the answer tells whether bit i of w is set
+pub record Tells (w i : ℕ) (answer : Bool) : Type 0 where
+  pub is-set : answer ≡ true → Bit w i
+  pub is-clear : answer ≡ false → Bit w i → ⊥

@@ -1,0 +1,46 @@
+-- What closing a word of one piece promises, and why joining the rows of its set bits closes it.
+-- Assumes nothing.
+use Prim.Native.Nat.{ℕ, _+_, _*_, _^_, _<_}
+use mathlib.Core.Path.{_≡_, sym, ap, _∙_, subst}
+use mathlib.Core.List.{List}
+use lib.ListN.{getD, drop}
+use lib.Seq.{getD-take, getD-drop}
+use Rattle.language.specs.Automaton.{State}
+use Rattle.language.specs.Nested.{Nested}
+use Rattle.marks.specs.Words.{Bit, width, Own, number}
+use Rattle.marks.specs.Plan.{row, Reaches, Closes}
+use Rattle.marks.specs.Bits.{bit-below, below-of-bits}
+use Rattle.marks.specs.Joining.{Joined}
+use Rattle.marks.specs.Numbers.{number-below, number-onto}
+
+-- r is the word w of the piece, closed, for every tree that the piece's row of the table speaks of
+pub record Closing (reach : List ℕ) (piece w r : ℕ) : Type 0 where
+  pub closes : (x : Nested ℕ) → Reaches x (row reach piece (width x)) → w < 2 ^ width x → Closes x w r
+
+-- joining the rows of the states in w closes it: a path from one of them is a bit of its row
+pub closed-by-joining : (reach : List ℕ) (piece w r : ℕ) (x : Nested ℕ) → Reaches x (row reach piece (width x))
+    → Joined reach (64 * piece) w (width x) r → Closes x w r
+closed-by-joining reach piece w r x reaches joined = record {
+  exactly = λ q o. (
+    λ b. let m = joined .exactly (number x q) .0 b in
+        let s = number-onto x (m .0) (m .1) in (
+          s .0,
+          s .1,
+          subst (λ (i : ℕ). Bit w i) (sym (s .2)) (m .2),
+          reaches .exactly (s .0) q (s .1) o .0
+              (subst (λ (v : ℕ). Bit v (number x q)) (sym (at-row (m .0) (m .1)) ∙ ap (λ (i : ℕ). getD (row reach piece (width x)) i 0) (sym (s .2))) (m .3)),
+        ),
+    λ m. joined .exactly (number x q) .1 (
+      number x (m .0),
+      number-below x (m .0) (m .1),
+      m .2,
+      subst (λ (v : ℕ). Bit v (number x q)) (at-row (number x (m .0)) (number-below x (m .0) (m .1)))
+          (reaches .exactly (m .0) q (m .1) o .1 (m .3)),
+    ),
+  );
+  clean = below-of-bits (width x) r (λ j b. let m = joined .exactly j .0 b in
+      bit-below (subst (λ (v : ℕ). v < 2 ^ width x) (at-row (m .0) (m .1)) (reaches .clean (m .0) (m .1))) (m .3));
+}
+  where
+    at-row : (i : ℕ) → i < width x → getD (row reach piece (width x)) i 0 ≡ getD reach (64 * piece + i) 0
+    at-row i h = getD-take (width x) (drop (64 * piece) reach) i 0 h ∙ getD-drop (64 * piece) reach i 0

@@ -1,0 +1,21 @@
+// One bit of a word: whether it is set, and setting it.
+ghost use Prim.Native.Nat.{_^_, _<_};
+ghost use mathlib.Core.Path.{_≡_};
+ghost use lib.Bits.{bitOr};
+ghost use Rattle.marks.specs.Bits.{Tells};
+
+// Whether bit i is set.
+pub fn has_bit(word: u64, i: usize) -> bool
+    requires { ⌜ i < 64 ⌝ }
+    ensures { λ r. ⌜ Tells word i r ⌝ }
+{
+    (word >> i) % 2 == 1
+}
+
+// The word with bit i set too.
+pub fn with_bit(word: u64, i: usize) -> u64
+    requires { ⌜ i < 64 ⌝ }
+    ensures { λ r. ⌜ r ≡ bitOr word (2 ^ i) ⌝ }
+{
+    word | (1 << i)
+}

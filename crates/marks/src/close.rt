@@ -1,0 +1,23 @@
+// Closing inside one piece, by the table of the states that empty transitions reach.
+ghost use Prim.Native.Nat.{_+_, _*_, _≤_};
+ghost use lib.ListN.{length};
+ghost use Rattle.marks.specs.Closing.{Closing};
+
+// The word of a piece, closed: the rows of its set bits, joined. A word with few bits set is quick.
+pub fn close(reach: &[u64], piece: usize, word: u64) -> u64
+    requires { ⌜ 64 * piece + 64 ≤ length (now reach) ⌝ }
+    ensures { λ r. ⌜ Closing (now (reach .entry)) piece word r ⌝ }
+{
+    let base = 64 * piece;
+    let mut rest = word;
+    let mut state: usize = 0;
+    let mut closed: u64 = 0;
+    while rest != 0 {
+        if rest % 2 == 1 {
+            closed = closed | reach[base + state];
+        }
+        rest = rest / 2;
+        state += 1;
+    }
+    closed
+}
