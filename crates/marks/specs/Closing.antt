@@ -1,4 +1,4 @@
--- What closing a word of one piece promises, and why joining the rows of its set bits closes it.
+-- Why joining the rows of the set bits of a piece's word closes it.
 -- Assumes nothing.
 use Prim.Native.Nat.{ℕ, _+_, _*_, _^_, _<_}
 use mathlib.Core.Path.{_≡_, sym, ap, _∙_, subst}
@@ -12,10 +12,6 @@ use Rattle.marks.specs.Plan.{row, Reaches, Closes}
 use Rattle.marks.specs.Bits.{bit-below, below-of-bits}
 use Rattle.marks.specs.Joining.{Joined}
 use Rattle.marks.specs.Numbers.{number-below, number-onto}
-
--- r is the word w of the piece, closed, for every tree that the piece's row of the table speaks of
-pub record Closing (reach : List ℕ) (piece w r : ℕ) : Type 0 where
-  pub closes : (x : Nested ℕ) → Reaches x (row reach piece (width x)) → w < 2 ^ width x → Closes x w r
 
 -- joining the rows of the states in w closes it: a path from one of them is a bit of its row
 pub closed-by-joining : (reach : List ℕ) (piece w r : ℕ) (x : Nested ℕ) → Reaches x (row reach piece (width x))

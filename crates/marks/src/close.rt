@@ -1,12 +1,14 @@
 // Closing inside one piece, by the table of the states that empty transitions reach.
-ghost use Prim.Native.Nat.{_+_, _*_, _≤_};
+ghost use Prim.Native.Nat.{ℕ, _+_, _*_, _^_, _≤_, _<_};
 ghost use lib.ListN.{length};
-ghost use Rattle.marks.specs.Closing.{Closing};
+ghost use Rattle.language.specs.Nested.{Nested};
+ghost use Rattle.marks.specs.Words.{width};
+ghost use Rattle.marks.specs.Plan.{row, Reaches, Closes};
 
 // The word of a piece, closed: the rows of its set bits, joined. A word with few bits set is quick.
 pub fn close(reach: &[u64], piece: usize, word: u64) -> u64
     requires { ⌜ 64 * piece + 64 ≤ length (now reach) ⌝ }
-    ensures { λ r. ⌜ Closing (now (reach .entry)) piece word r ⌝ }
+    ensures { λ r. ⌜ ((x : Nested ℕ) → width x ≤ 62 → Reaches x (row (now (reach .entry)) piece (width x)) → word < 2 ^ width x → Closes x word r) ⌝ }
 {
     let base = 64 * piece;
     let mut rest = word;

@@ -55,11 +55,10 @@ loop-again c =
     )
 
 returns : tie.Need-returns Inv-loop μ-loop
-returns c = record {
-  closes = λ x reaches small.
-      closed-by-joining _ _ _ _ x reaches
-      (joined-all (c .before .loop .inv .2) (sym (c .before .loop .inv .0) ∙ c .loop-test .left) (width x) small);
-}
+returns c =
+    λ x _ reaches small.
+    closed-by-joining _ _ _ _ x reaches
+    (joined-all (c .before .loop .inv .2) (sym (c .before .loop .inv .0) ∙ c .loop-test .left) (width x) small)
 
 pub close-spec : {M : Type 1} → statement M
 close-spec =
