@@ -8,3 +8,7 @@ pub mod Joining
 pub mod Parts
 pub mod Numbers
 pub mod Closing
+pub mod Swept
+pub mod Spots
+pub mod Within
+pub mod Places

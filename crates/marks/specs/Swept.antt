@@ -1,0 +1,132 @@
+-- What a sweep does to the words of a piece's run, word by word.
+-- Assumes nothing.
+use Prim.Native.Nat.{ℕ, suc, _+_, _*_, _/_, _%_, _-_, _^_, _≤_, _<_}
+use mathlib.Core.Path.{_≡_}
+use mathlib.Core.Logic.{_⊎_, _↔_}
+use mathlib.Core.List.{List, [], _∷_, _++_}
+use lib.ListN.{length, getD, take, drop, set}
+use lib.Bits.{bitOr}
+use Rattle.language.specs.Automaton.{State}
+use Rattle.language.specs.Nested.{Nested, leaf, catenation, union, star, below, Has, Sweep}
+use Rattle.marks.specs.Words.{width, run, Holds, Clean}
+use Rattle.marks.specs.Plan.{Pieces, Piece-at, Children-at, row, Reaches, Each-below, Closes}
+
+-- the word with bit `to` set where bit `from` of the other is
+unfoldable pub passed : (other from word to : ℕ) → ℕ
+passed other from word to = bitOr word (other / 2 ^ from % 2 * 2 ^ to)
+
+-- each child piece below x, and each below that, has at most 62 states
+abbrev pub Narrow-below : Nested ℕ → Type 0
+Narrow-below (leaf a) = Unit {0}
+Narrow-below (catenation x y) = Narrow-below x × Narrow-below y
+Narrow-below (union x y) = Narrow-below x × Narrow-below y
+Narrow-below (star x) = Narrow-below x
+Narrow-below (below x) = (width x ≤ 62) × Narrow-below x
+
+-- tables of the pieces with these numbers
+abbrev pub tables : (labels runs stands tops : List ℕ) → Pieces
+tables labels runs stands tops = record { labels = labels; runs = runs; stands = stands; tops = tops }
+
+module _ (reach runs stands tops : List ℕ) where
+  -- the tables speak of the piece k, which is the top piece of x, and of each piece below it; each has at most 62 states
+  pub record Laid (x : Nested ℕ) (k : ℕ) : Type 0 where
+    pub labels : List ℕ
+    pub piece : Piece-at (tables labels runs stands tops) x k
+    pub children : Children-at (tables labels runs stands tops) x 0 (k + 1)
+    pub reaches : Reaches x (row reach k (width x))
+    pub reaches-below : Each-below Reaches reach x (k + 1)
+    pub narrow : width x ≤ 62
+    pub narrow-below : Narrow-below x
+
+  -- the words are the run of x's pieces, the first of which is piece k of the tables, and no bit past a last state is set
+  pub record Sweepable (x : Nested ℕ) (k : ℕ) (words : List ℕ) : Type 0 where
+    pub laid : Laid x k
+    pub whole-run : length words ≡ 1 + run x
+    pub clean : Clean x words
+
+  -- the tables have room for the pieces from k on, one for each word
+  pub record Sized (k : ℕ) (words : List ℕ) : Type 0 where
+    pub reach-sized : length reach ≡ 8192
+    pub runs-sized : length runs ≡ 128
+    pub stands-sized : length stands ≡ 128
+    pub tops-sized : length tops ≡ 128
+    pub within : k + length words ≤ 128
+
+  -- there are pieces that the words are the run of
+  pub record Ready (k : ℕ) (words : List ℕ) : Type 0 where
+    pub sized : Sized k words
+    pub tree : Nested ℕ
+    pub sweepable : Sweepable tree k words
+
+-- what a sweep makes of the words of x's pieces: the marks that they hold then are those of the sweep
+pub record Swept (x : Nested ℕ) (before after : List ℕ) : Type 0 where
+  pub marks : (q : State) → Has x q → Holds x after q ↔ Sweep x (Holds x before) q
+  pub clean : Clean x after
+
+-- a child piece: the number of its stand-in's start in the parent, the place of its run in the parent's, and its tree
+pub record Child : Type 0 where
+  pub stand : ℕ
+  pub from : ℕ
+  pub tree : Nested ℕ
+
+-- the child pieces below x from left to right; x's own states are numbered from i, and the runs of the child pieces stand from n on
+abbrev pub children-of : Nested ℕ → ℕ → ℕ → List Child
+children-of (leaf a) i n = []
+children-of (catenation x y) i n = children-of x (i + 1) n ++ children-of y (i + (1 + width x)) (n + run x)
+children-of (union x y) i n = children-of x (i + 1) n ++ children-of y (i + (1 + width x)) (n + run x)
+children-of (star x) i n = children-of x (i + 1) n
+children-of (below x) i n = record { stand = i; from = n; tree = x } ∷ []
+
+-- the run of the child piece c
+abbrev pub part : Child → List ℕ → List ℕ
+part c words = take (1 + run (c .tree)) (drop (c .from) words)
+
+-- the run of the child piece c, with its start marked where its stand-in's is
+abbrev pub started : Child → List ℕ → List ℕ
+started c words = part c (set words (c .from) (passed (getD words 0 0) (c .stand) (getD words (c .from) 0) 0))
+
+-- what the visit of the child piece c makes of the words of x's pieces: its start is passed down, it is swept, its accepting state is passed up, and x's top piece is closed again
+pub record Visited (x : Nested ℕ) (c : Child) (before after : List ℕ) : Type 0 where
+  pub swept : Swept (c .tree) (started c before) (part c after)
+  pub closed : Closes x (passed (getD after (c .from) 0) (width (c .tree) - 1) (getD before 0 0) (c .stand + 1)) (getD after 0 0)
+  pub others : (o : ℕ) → 0 < o → (o < c .from) ⊎ (c .from + (1 + run (c .tree)) ≤ o) → getD after o 0 ≡ getD before o 0
+
+-- one child piece after the other is visited
+abbrev pub Visits : Nested ℕ → List Child → List ℕ → List ℕ → Type 0
+Visits x [] before after = before ≡ after
+Visits x (c ∷ cs) before after = (between : List ℕ) × Visited x c before between × Visits x cs between after
+
+module _ (reach runs stands tops : List ℕ) where
+  -- the child piece c of x can be visited: its run stands at `at` in the run of x's top piece, which is the piece k of the tables
+  pub record Standing (x : Nested ℕ) (k : ℕ) (c : Child) : Type 0 where
+    pub stood : getD stands (k + c .from) 0 ≡ c .stand
+    pub inside : c .stand + 1 < width x
+    pub after-own : 0 < c .from
+    pub laid : Laid reach runs stands tops (c .tree) (k + c .from)
+
+  -- the child pieces stand one after the other, the first at `at`, and the last ends at `end`
+  abbrev pub Chain : Nested ℕ → ℕ → List Child → ℕ → ℕ → Type 0
+  Chain x k [] at end = at ≡ end
+  Chain x k (c ∷ cs) at end = (c .from ≡ at) × Standing x k c × Chain x k cs (at + (1 + run (c .tree))) end
+
+  -- the child piece c of x can be visited: its run stands at `at` in the words, the run of x's top piece, which is the piece k of the tables
+  pub record Visitable (x : Nested ℕ) (c : Child) (k at : ℕ) (words : List ℕ) : Type 0 where
+    pub here : c .from ≡ at
+    pub standing : Standing x k c
+    pub room : at + (1 + run (c .tree)) ≤ length words
+    pub reaches : Reaches x (row reach k (width x))
+    pub narrow : width x ≤ 62
+    pub own-clean : getD words 0 0 < 2 ^ width x
+    pub child-clean : Clean (c .tree) (part c words)
+
+  -- there is a child piece to visit
+  pub record Awaiting (k at : ℕ) (words : List ℕ) : Type 0 where
+    pub sized : Sized reach runs stands tops k words
+    pub tree : Nested ℕ
+    pub child : Child
+    pub visitable : Visitable tree child k at words
+
+-- what a visit answers and makes of the words: the next child piece's run begins where this one's ends
+pub record Visit-done (x : Nested ℕ) (c : Child) (at next : ℕ) (before after : List ℕ) : Type 0 where
+  pub visited : Visited x c before after
+  pub ended : next ≡ at + (1 + run (c .tree))
