@@ -12,3 +12,6 @@ pub mod Swept
 pub mod Spots
 pub mod Within
 pub mod Places
+pub mod Passing
+pub mod Visiting
+pub mod Chains

@@ -60,14 +60,24 @@ Held (under o b) words = Bit (getD words (suc o) 0) b
 abbrev pub iff-trans : {A B C : Type 0} → A ↔ B → B ↔ C → A ↔ C
 iff-trans f g = (λ a. g .0 (f .0 a), λ c. f .1 (g .1 c))
 
-abbrev iff-both : {A B C D : Type 0} → A ↔ B → C ↔ D → (A × C) ↔ (B × D)
+abbrev pub iff-both : {A B C D : Type 0} → A ↔ B → C ↔ D → (A × C) ↔ (B × D)
 iff-both f g = (λ h. (f .0 (h .0), g .0 (h .1)), λ h. (f .1 (h .0), g .1 (h .1)))
 
-bit-at : (w : ℕ) {i j : ℕ} → i ≡ j → Bit w i ↔ Bit w j
+abbrev pub iff-either : {A B C D : Type 0} → A ↔ B → C ↔ D → (A ⊎ C) ↔ (B ⊎ D)
+iff-either f g = (⊎-elim (λ h. inl (f .0 h)) (λ h. inr (g .0 h)), ⊎-elim (λ h. inl (f .1 h)) (λ h. inr (g .1 h)))
+
+abbrev pub iff-turn : {A B : Type 0} → A ↔ B → B ↔ A
+iff-turn f = (f .1, f .0)
+
+pub bit-at : (w : ℕ) {i j : ℕ} → i ≡ j → Bit w i ↔ Bit w j
 bit-at w e = (subst (λ (n : ℕ). Bit w n) e, subst (λ (n : ℕ). Bit w n) (sym e))
 
-bit-of : {v w : ℕ} (i : ℕ) → v ≡ w → Bit v i ↔ Bit w i
+pub bit-of : {v w : ℕ} (i : ℕ) → v ≡ w → Bit v i ↔ Bit w i
 bit-of i e = (subst (λ (n : ℕ). Bit n i) e, subst (λ (n : ℕ). Bit n i) (sym e))
+
+-- the same spot
+pub held-at : (words : List ℕ) {s t : Spot} → s ≡ t → Held s words ↔ Held t words
+held-at words e = (subst (λ (s : Spot). Held s words) e, subst (λ (s : Spot). Held s words) (sym e))
 
 lit-shift : (s : Spot) (w i j n : ℕ) (ws : List ℕ) → Lit s w (i + j) (drop n ws) ↔ Lit (shift j n s) w i ws
 lit-shift (own b) w i j n ws = bit-at w (add-assoc i j b)
@@ -170,7 +180,7 @@ abbrev pub Under : Spot → Type 0
 Under (own b) = ⊥
 Under (under o b) = Unit {0}
 
-under-shift : (s : Spot) (i n : ℕ) → Under s → Under (shift i n s)
+pub under-shift : (s : Spot) (i n : ℕ) → Under s → Under (shift i n s)
 under-shift (own b) i n h = h
 under-shift (under o b) i n h = h
 
@@ -198,7 +208,7 @@ own-or-under (below x) (left q) h = inr (under-enter (spot x q))
 own-or-under (below x) (right q) h = absurd h
 
 -- the spot of the start
-abbrev First : Spot → Type 0
+abbrev pub First : Spot → Type 0
 First (own b) = b ≡ 0
 First (under o b) = ⊥
 
@@ -254,7 +264,7 @@ getD-left x y o h = List·getD-append (widths x) (widths y) 0 o (omega (arith, l
 pub getD-right : {A : Type 0} (x y : Nested A) (o : ℕ) → getD (widths x ++ widths y) (run x + o) 0 ≡ getD (widths y) o 0
 getD-right x y o = ap (λ (k : ℕ). getD (widths x ++ widths y) (k + o) 0) (sym (length-widths x)) ∙ getD-append-add (widths x) (widths y) o 0
 
-below-power : {v v' : ℕ} {k k' : ℕ} → v' ≡ v → k' ≡ k → v < 2 ^ k → v' < 2 ^ k'
+pub below-power : {v v' : ℕ} {k k' : ℕ} → v' ≡ v → k' ≡ k → v < 2 ^ k → v' < 2 ^ k'
 below-power {v} {v'} {k} {k'} e f h = rw (e, f) h
 
 -- two nodes side by side

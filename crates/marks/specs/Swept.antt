@@ -89,6 +89,7 @@ started c words = part c (set words (c .from) (passed (getD words 0 0) (c .stand
 pub record Visited (x : Nested ℕ) (c : Child) (before after : List ℕ) : Type 0 where
   pub swept : Swept (c .tree) (started c before) (part c after)
   pub closed : Closes x (passed (getD after (c .from) 0) (width (c .tree) - 1) (getD before 0 0) (c .stand + 1)) (getD after 0 0)
+  pub same-length : length after ≡ length before
   pub others : (o : ℕ) → 0 < o → (o < c .from) ⊎ (c .from + (1 + run (c .tree)) ≤ o) → getD after o 0 ≡ getD before o 0
 
 -- one child piece after the other is visited
@@ -97,22 +98,13 @@ Visits x [] before after = before ≡ after
 Visits x (c ∷ cs) before after = (between : List ℕ) × Visited x c before between × Visits x cs between after
 
 module _ (reach runs stands tops : List ℕ) where
-  -- the child piece c of x can be visited: its run stands at `at` in the run of x's top piece, which is the piece k of the tables
-  pub record Standing (x : Nested ℕ) (k : ℕ) (c : Child) : Type 0 where
-    pub stood : getD stands (k + c .from) 0 ≡ c .stand
-    pub inside : c .stand + 1 < width x
-    pub after-own : 0 < c .from
-    pub laid : Laid reach runs stands tops (c .tree) (k + c .from)
-
-  -- the child pieces stand one after the other, the first at `at`, and the last ends at `end`
-  abbrev pub Chain : Nested ℕ → ℕ → List Child → ℕ → ℕ → Type 0
-  Chain x k [] at end = at ≡ end
-  Chain x k (c ∷ cs) at end = (c .from ≡ at) × Standing x k c × Chain x k cs (at + (1 + run (c .tree))) end
-
   -- the child piece c of x can be visited: its run stands at `at` in the words, the run of x's top piece, which is the piece k of the tables
   pub record Visitable (x : Nested ℕ) (c : Child) (k at : ℕ) (words : List ℕ) : Type 0 where
     pub here : c .from ≡ at
-    pub standing : Standing x k c
+    pub after-own : 0 < at
+    pub stood : getD stands (k + at) 0 ≡ c .stand
+    pub inside : c .stand + 1 < width x
+    pub laid : Laid reach runs stands tops (c .tree) (k + at)
     pub room : at + (1 + run (c .tree)) ≤ length words
     pub reaches : Reaches x (row reach k (width x))
     pub narrow : width x ≤ 62
