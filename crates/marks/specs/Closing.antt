@@ -3,13 +3,13 @@
 use Prim.Native.Nat.{ℕ, _+_, _*_, _^_, _<_}
 use mathlib.Core.Path.{_≡_, sym, ap, _∙_, subst}
 use mathlib.Core.List.{List}
-use lib.ListN.{getD, drop}
-use lib.Seq.{getD-take, getD-drop}
+use lib.ListN.{getD}
 use Rattle.language.specs.Automaton.{State}
 use Rattle.language.specs.Nested.{Nested}
 use Rattle.marks.specs.Words.{Bit, width, Own, number}
 use Rattle.marks.specs.Plan.{row, Reaches, Closes}
 use Rattle.marks.specs.Bits.{bit-below, below-of-bits}
+use Rattle.marks.specs.Rows.{row-at}
 use Rattle.marks.specs.Joining.{Joined}
 use Rattle.marks.specs.Numbers.{number-below, number-onto}
 
@@ -24,19 +24,16 @@ closed-by-joining reach piece w r x reaches joined = record {
           s .1,
           subst (λ (i : ℕ). Bit w i) (sym (s .2)) (m .2),
           reaches .exactly (s .0) q (s .1) o .0
-              (subst (λ (v : ℕ). Bit v (number x q)) (sym (at-row (m .0) (m .1)) ∙ ap (λ (i : ℕ). getD (row reach piece (width x)) i 0) (sym (s .2))) (m .3)),
+              (subst (λ (v : ℕ). Bit v (number x q)) (sym (row-at reach piece (width x) (m .0) (m .1)) ∙ ap (λ (i : ℕ). getD (row reach piece (width x)) i 0) (sym (s .2))) (m .3)),
         ),
     λ m. joined .exactly (number x q) .1 (
       number x (m .0),
       number-below x (m .0) (m .1),
       m .2,
-      subst (λ (v : ℕ). Bit v (number x q)) (at-row (number x (m .0)) (number-below x (m .0) (m .1)))
+      subst (λ (v : ℕ). Bit v (number x q)) (row-at reach piece (width x) (number x (m .0)) (number-below x (m .0) (m .1)))
           (reaches .exactly (m .0) q (m .1) o .1 (m .3)),
     ),
   );
   clean = below-of-bits (width x) r (λ j b. let m = joined .exactly j .0 b in
-      bit-below (subst (λ (v : ℕ). v < 2 ^ width x) (at-row (m .0) (m .1)) (reaches .clean (m .0) (m .1))) (m .3));
+      bit-below (subst (λ (v : ℕ). v < 2 ^ width x) (row-at reach piece (width x) (m .0) (m .1)) (reaches .clean (m .0) (m .1))) (m .3));
 }
-  where
-    at-row : (i : ℕ) → i < width x → getD (row reach piece (width x)) i 0 ≡ getD reach (64 * piece + i) 0
-    at-row i h = getD-take (width x) (drop (64 * piece) reach) i 0 h ∙ getD-drop (64 * piece) reach i 0

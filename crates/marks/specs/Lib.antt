@@ -8,10 +8,8 @@ pub mod Joining
 pub mod Parts
 pub mod Numbers
 pub mod Closing
-pub mod Swept
-pub mod Spots
-pub mod Within
-pub mod Places
-pub mod Passing
-pub mod Visiting
-pub mod Chains
+pub mod Transitions
+pub mod Rows
+pub mod Reaching
+pub mod Reached
+pub mod Table

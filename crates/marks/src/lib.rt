@@ -13,3 +13,4 @@ pub enum Answer {
 }
 pub mod bits;
 pub mod close;
+pub mod reach;

@@ -1,0 +1,64 @@
+-- A table of which some entries in a row were made anew and the others kept.
+-- Assumes nothing.
+use Prim.Native.Nat.{ℕ, _+_, _*_, _≤_, _<_}
+use mathlib.Core.Path.{_≡_, refl, sym, ap, _∙_, subst}
+use mathlib.Core.Logic.{_⊎_, inl, inr, ⊎-elim}
+use mathlib.Core.List.{List}
+use native.Mathlib.Decide.{ℕ-discrete}
+use native.Mathlib.Omega.{arith}
+use lib.ListN.{length, getD, drop, set, length-set, length-take, length-drop}
+use lib.Seq.{getD-set-same, getD-set-other, getD-take, getD-drop, ext-getD}
+use Rattle.marks.specs.Plan.{row}
+
+-- the n entries from base on are as Row says, each by its number, and the others are as before
+pub record Rows (Row : ℕ → ℕ → Type 0) (before after : List ℕ) (base n : ℕ) : Type 0 where
+  pub same-length : length after ≡ length before
+  pub rows : (i : ℕ) → i < n → Row i (getD after (base + i) 0)
+  pub others : (k : ℕ) → (k < base) ⊎ (base + n ≤ k) → getD after k 0 ≡ getD before k 0
+
+-- at first all are as before
+pub rows-none : (Row : ℕ → ℕ → Type 0) (before : List ℕ) (base : ℕ) → Rows Row before before base 0
+rows-none Row before base = record { same-length = refl; rows = λ i h. absurd (omega arith); others = λ k _. refl }
+
+module _ {Row : ℕ → ℕ → Type 0} {before after : List ℕ} {base n : ℕ} (so-far : Rows Row before after base n) where
+  -- all that were to be made
+  pub rows-all : {m : ℕ} → n ≡ m → Rows Row before after base m
+  rows-all e = subst (λ (k : ℕ). Rows Row before after base k) e so-far
+
+  -- one more that is right already
+  pub rows-same : Row n (getD after (base + n) 0) → Rows Row before after base (n + 1)
+  rows-same r = record {
+    same-length = so-far .same-length;
+    rows = λ i h. elim (ℕ-discrete i n) [
+      | yes e ↦ subst (λ (k : ℕ). Row k (getD after (base + k) 0)) (sym e) r
+      | no l ↦ so-far .rows i (omega arith)
+    ];
+    others = λ k h. so-far .others k (⊎-elim inl (λ l. inr (omega arith)) h);
+  }
+
+  -- one more, stored
+  pub rows-set : (w : ℕ) → base + n < length before → Row n w → Rows Row before (set after (base + n) w) base (n + 1)
+  rows-set w l r = record {
+    same-length = simp length-set (so-far .same-length);
+    rows = λ i h. elim (ℕ-discrete i n) [
+      | yes e ↦ subst (λ (k : ℕ). Row k (getD (set after (base + n) w) (base + k) 0)) (sym e)
+          (subst (λ (v : ℕ). Row n v) (sym (getD-set-same after (base + n) w 0 (omega (arith, so-far .same-length)))) r)
+      | no m ↦ subst (λ (v : ℕ). Row i v) (sym (getD-set-other after (base + n) (base + i) w 0 (omega arith))) (so-far .rows i (omega arith))
+    ];
+    others = λ k h. getD-set-other after (base + n) k w 0 (⊎-elim (λ m. omega arith) (λ m. omega arith) h)
+        ∙ so-far .others k (⊎-elim inl (λ m. inr (omega arith)) h);
+  }
+
+-- an entry of the row of piece k, by its place in the table
+pub row-at : (table : List ℕ) (k n i : ℕ) → i < n → getD (row table k n) i 0 ≡ getD table (64 * k + i) 0
+row-at table k n i h = getD-take n (drop (64 * k) table) i 0 h ∙ getD-drop (64 * k) table i 0
+
+-- the row of a piece is the same in two tables that have the same entries there
+pub row-same : (table table′ : List ℕ) (k n : ℕ) → length table ≡ length table′
+    → ((i : ℕ) → i < n → getD table (64 * k + i) 0 ≡ getD table′ (64 * k + i) 0) → row table k n ≡ row table′ k n
+row-same table table′ k n e h =
+    ext-getD 0 (row table k n) (row table′ k n) (simp (length-take, length-drop, e))
+    (λ i l. row-at table k n i (within i l) ∙ h i (within i l) ∙ sym (row-at table′ k n i (within i l)))
+  where
+    within : (i : ℕ) → i < length (row table k n) → i < n
+    within i l = omega (arith, length-take n (drop (64 * k) table))
