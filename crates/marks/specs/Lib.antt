@@ -13,3 +13,5 @@ pub mod Rows
 pub mod Reaching
 pub mod Reached
 pub mod Table
+pub mod Labels
+pub mod Moving

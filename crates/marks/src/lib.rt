@@ -13,4 +13,5 @@ pub enum Answer {
 }
 pub mod bits;
 pub mod close;
+pub mod moves;
 pub mod reach;

@@ -1,0 +1,85 @@
+-- The labels of the states hold the transitions that read a byte: they lead from a state with the byte's label to the next in number.
+-- Assumes nothing.
+use Prim.Native.Nat.{ℕ, _+_, _<_}
+use mathlib.Core.Path.{_≡_, refl, sym, ap, _∙_}
+use mathlib.Core.List.{List, [], _∷_, _++_}
+use native.Mathlib.Omega.{arith}
+use lib.ListN.{length, getD}
+use Rattle.language.specs.Automaton.{State, start, accepting, left, right, Reads}
+use Rattle.language.specs.Nested.{Nested, leaf, catenation, union, star, below, own, given}
+use Rattle.marks.specs.Words.{width, Own, number}
+use Rattle.marks.specs.Plan.{takes, Is-own}
+use Rattle.marks.specs.Parts.{one-length, one-inside, one-end, two-length, two-left, two-right, two-end}
+use Rattle.marks.specs.Numbers.{number-below}
+
+-- one label for each state
+pub length-takes : (x : Nested ℕ) → length (takes x) ≡ width x
+length-takes (leaf a) = refl
+length-takes (catenation x y) = two-length 0 0 (takes x) (takes y) (length-takes x) (length-takes y)
+length-takes (union x y) = two-length 0 0 (takes x) (takes y) (length-takes x) (length-takes y)
+length-takes (star x) = one-length 0 0 (takes x) (length-takes x)
+length-takes (below x) = refl
+
+-- in the list for a node of two parts, where the labels of the parts' states are
+module _ (x y : Nested ℕ) where
+  left-label : (p : State) → Own x p → getD (takes (catenation x y)) (1 + number x p) 0 ≡ getD (takes x) (number x p) 0
+  left-label p o = two-left 0 0 (takes x) (takes y) (length-takes x) (length-takes y) 0 (number x p) (number-below x p o)
+
+  right-label : (p : State) → Own y p → getD (takes (catenation x y)) (1 + width x + number y p) 0 ≡ getD (takes y) (number y p) 0
+  right-label p o = two-right 0 0 (takes x) (takes y) (length-takes x) (length-takes y) 0 (number y p) (number-below y p o)
+
+  end-label : getD (takes (catenation x y)) (1 + width x + width y) 0 ≡ 0
+  end-label = two-end 0 0 (takes x) (takes y) (length-takes x) (length-takes y) 0
+
+-- and for a node of one part
+module _ (x : Nested ℕ) where
+  inside-label : (p : State) → Own x p → getD (takes (star x)) (1 + number x p) 0 ≡ getD (takes x) (number x p) 0
+  inside-label p o = one-inside 0 0 (takes x) (length-takes x) 0 (number x p) (number-below x p o)
+
+  last-label : getD (takes (star x)) (1 + width x) 0 ≡ 0
+  last-label = one-end 0 0 (takes x) (length-takes x) 0
+
+module _ (b : ℕ) where
+  -- a transition that reads b leads from a state with b's label to the next in number
+  pub record Reads-on (x : Nested ℕ) (p q : State) : Type 0 where
+    pub from-own : Own x p
+    pub to-own : Own x q
+    pub next : number x q ≡ number x p + 1
+    pub label : getD (takes x) (number x p) 0 ≡ b + 1
+
+  pub reads-on : (x : Nested ℕ) {p q : State} → Reads Is-own b (own x) p q → Reads-on x p q
+  reads-on (leaf a) (Reads.at-leaf e) = record { from-own = tt; to-own = tt; next = refl; label = ap (λ (n : ℕ). n + 1) e }
+  reads-on (catenation x y) (Reads.catenation-left {p = p} r) = let s = reads-on x r in
+      record { from-own = s .from-own; to-own = s .to-own; next = omega (arith, s .next); label = left-label x y p (s .from-own) ∙ s .label }
+  reads-on (catenation x y) (Reads.catenation-right {p = p} r) = let s = reads-on y r in
+      record { from-own = s .from-own; to-own = s .to-own; next = omega (arith, s .next); label = right-label x y p (s .from-own) ∙ s .label }
+  reads-on (union x y) (Reads.union-left {p = p} r) = let s = reads-on x r in
+      record { from-own = s .from-own; to-own = s .to-own; next = omega (arith, s .next); label = left-label x y p (s .from-own) ∙ s .label }
+  reads-on (union x y) (Reads.union-right {p = p} r) = let s = reads-on y r in
+      record { from-own = s .from-own; to-own = s .to-own; next = omega (arith, s .next); label = right-label x y p (s .from-own) ∙ s .label }
+  reads-on (star x) (Reads.star-inside {p = p} r) = let s = reads-on x r in
+      record { from-own = s .from-own; to-own = s .to-own; next = omega (arith, s .next); label = inside-label x p (s .from-own) ∙ s .label }
+  reads-on (below x) (Reads.at-leaf e) = absurd e
+
+  -- from a state with b's label a transition that reads b leads
+  pub reads-from : (x : Nested ℕ) (p : State) → Own x p → getD (takes x) (number x p) 0 ≡ b + 1 → (q : State) × Reads Is-own b (own x) p q
+  reads-from (leaf a) start o e = (accepting, Reads.at-leaf {a = given a} (omega arith))
+  reads-from (leaf a) accepting o e = absurd (omega arith)
+  reads-from (catenation x y) start o e = absurd (omega arith)
+  reads-from (catenation x y) accepting o e = absurd (omega (arith, end-label x y))
+  reads-from (catenation x y) (left p) o e =
+      let r = reads-from x p o (sym (left-label x y p o) ∙ e) in (left (r .0), Reads.catenation-left (r .1))
+  reads-from (catenation x y) (right p) o e =
+      let r = reads-from y p o (sym (right-label x y p o) ∙ e) in (right (r .0), Reads.catenation-right (r .1))
+  reads-from (union x y) start o e = absurd (omega arith)
+  reads-from (union x y) accepting o e = absurd (omega (arith, end-label x y))
+  reads-from (union x y) (left p) o e =
+      let r = reads-from x p o (sym (left-label x y p o) ∙ e) in (left (r .0), Reads.union-left (r .1))
+  reads-from (union x y) (right p) o e =
+      let r = reads-from y p o (sym (right-label x y p o) ∙ e) in (right (r .0), Reads.union-right (r .1))
+  reads-from (star x) start o e = absurd (omega arith)
+  reads-from (star x) accepting o e = absurd (omega (arith, last-label x))
+  reads-from (star x) (left p) o e =
+      let r = reads-from x p o (sym (inside-label x p o) ∙ e) in (left (r .0), Reads.star-inside (r .1))
+  reads-from (below x) start o e = absurd (omega arith)
+  reads-from (below x) accepting o e = absurd (omega arith)

@@ -1,0 +1,112 @@
+-- Moving the word of one piece along a byte: the bits of the states with the byte's label, each one place up.
+-- Assumes nothing.
+use Prim.Native.Nat.{ℕ, zero, suc, _+_, _*_, _/_, _%_, _^_, _≤_, _<_}
+use mathlib.Core.Path.{_≡_, refl, sym, ap, _∙_, subst}
+use mathlib.Core.Logic.{_⊎_, inl, inr, _↔_, ⊎-elim}
+use mathlib.Core.List.{List}
+use native.Mathlib.Decide.{ℕ-discrete}
+use native.Mathlib.Nat.{mod-eq-of-lt, lt-of-lt-of-le}
+use native.Mathlib.Omega.{arith}
+use lib.Bits.{bitOr}
+use lib.Pow.{pow-mono}
+use lib.ListN.{getD}
+use Rattle.language.specs.Automaton.{State, Reads}
+use Rattle.language.specs.Nested.{Nested, own}
+use Rattle.marks.specs.Words.{Bit, width, Own, number}
+use Rattle.marks.specs.Plan.{row, takes, Is-own, Moves}
+use Rattle.marks.specs.Bits.{bit-zero, bit-with, bit-below, bit-low, bit-suc, below-of-nothing, below-of-bits}
+use Rattle.marks.specs.Numbers.{number-below, number-onto, number-injective}
+use Rattle.marks.specs.Rows.{row-at}
+use Rattle.marks.specs.Labels.{reads-on, reads-from}
+
+-- of the bits of w below n, those whose states have the label are the bits of r
+pub record Picked (labels : List ℕ) (base label w n r : ℕ) : Type 0 where
+  pub exactly : (j : ℕ) → Bit r j ↔ ((j < n) × Bit w j × (getD labels (base + j) 0 ≡ label))
+
+pub picked-none : (labels : List ℕ) (base label w : ℕ) → Picked labels base label w 0 0
+picked-none labels base label w = record { exactly = λ j. (λ b. absurd (bit-zero j b), λ m. absurd (omega (arith, m .0))) }
+
+module _ {labels : List ℕ} {base label w n r : ℕ} (so-far : Picked labels base label w n r) where
+  -- a set bit with the label is picked
+  pub picked-more : {r′ : ℕ} → Bit w n → getD labels (base + n) 0 ≡ label → r′ ≡ bitOr r (2 ^ n) → Picked labels base label w (n + 1) r′
+  picked-more b l e = subst (λ (v : ℕ). Picked labels base label w (n + 1) v) (sym e) record {
+    exactly = λ j. (
+      λ c. ⊎-elim
+          (λ d. let m = so-far .exactly j .0 d in (omega (arith, m .0), m .1, m .2))
+          (λ d. (omega arith, subst (λ (i : ℕ). Bit w i) (sym d) b, ap (λ (i : ℕ). getD labels (base + i) 0) d ∙ l))
+          (bit-with r n j .0 c),
+      λ m. bit-with r n j .1 (elim (ℕ-discrete j n) [
+        | yes d ↦ inr d
+        | no d ↦ inl (so-far .exactly j .1 (omega (arith, m .0), m .1, m .2))
+      ]),
+    );
+  }
+
+  -- any other is not
+  pub picked-same : {r′ : ℕ} → (Bit w n → getD labels (base + n) 0 ≡ label → ⊥) → r′ ≡ r → Picked labels base label w (n + 1) r′
+  picked-same b e = subst (λ (v : ℕ). Picked labels base label w (n + 1) v) (sym e) record {
+    exactly = λ j. (
+      λ c. let m = so-far .exactly j .0 c in (omega (arith, m .0), m .1, m .2),
+      λ m. so-far .exactly j .1 (elim (ℕ-discrete j n) [
+        | yes d ↦ absurd (b (subst (λ (i : ℕ). Bit w i) d (m .1)) (ap (λ (i : ℕ). getD labels (base + i) 0) (sym d) ∙ m .2))
+        | no d ↦ (omega (arith, m .0), m .1, m .2)
+      ]),
+    );
+  }
+
+-- a word one place up
+bit-up : (w j : ℕ) → Bit (w * 2) (suc j) ↔ Bit w j
+bit-up w j =
+    (λ b. subst (λ (v : ℕ). Bit v j) half (bit-suc (w * 2) j .0 b), λ b. bit-suc (w * 2) j .1 (subst (λ (v : ℕ). Bit v j) (sym half) b))
+  where
+    half : w * 2 / 2 ≡ w
+    half = omega arith
+
+no-bit-up : (w : ℕ) → Bit (w * 2) 0 → ⊥
+no-bit-up w b = omega (arith, bit-low (w * 2), b)
+
+-- the picked bits, one place up, are the word moved
+pub moves-by-picking : (labels : List ℕ) (piece b w n r : ℕ) (x : Nested ℕ) → width x ≤ 62 → row labels piece (width x) ≡ takes x → w < 2 ^ width x
+    → w / 2 ^ n ≡ 0 → Picked labels (64 * piece) (b + 1) w n r → Moves x b w (r * 2 % 2 ^ 64)
+moves-by-picking labels piece b w n r x narrow labelled small nothing picked =
+    subst (λ (v : ℕ). Moves x b w v) (sym (mod-eq-of-lt fits)) record {
+      exactly = λ q o. (back q o, forth q o);
+      clean = below-of-bits (width x) (r * 2) (λ j c. let m = up j c in omega (arith, number-below x (m .1) (reads-on b x (m .5) .to-own), m .4));
+    }
+  where
+    picked-small : r < 2 ^ 62
+    picked-small = lt-of-lt-of-le (below-of-bits (width x) r (λ j c. bit-below small (picked .exactly j .0 c .1))) (pow-mono narrow)
+
+    fits : r * 2 < 2 ^ 64
+    fits = omega (arith, picked-small)
+
+    label-at : (p : State) (j : ℕ) → number x p ≡ j → j < width x → getD (takes x) (number x p) 0 ≡ getD labels (64 * piece + j) 0
+    label-at p j e h =
+        ap (λ (i : ℕ). getD (takes x) i 0) e ∙ ap (λ (l : List ℕ). getD l j 0) (sym labelled) ∙ row-at labels piece (width x) j h
+
+    up : (j : ℕ) → Bit (r * 2) j → (p : State) × (q : State) × Own x p × Bit w (number x p) × (number x q ≡ j) × Reads Is-own b (own x) p q
+    up zero c = absurd (no-bit-up r c)
+    up (suc j) c =
+        let m = picked .exactly j .0 (bit-up r j .0 c) in
+        let s = number-onto x j (bit-below small (m .1)) in
+        let t = reads-from b x (s .0) (s .1) (label-at (s .0) j (s .2) (bit-below small (m .1)) ∙ m .2) in
+        (s .0, t .0, s .1, subst (λ (i : ℕ). Bit w i) (sym (s .2)) (m .1), omega (arith, reads-on b x (t .1) .next, s .2), t .1)
+
+    back : (q : State) → Own x q → Bit (r * 2) (number x q) → (p : State) × Own x p × Bit w (number x p) × Reads Is-own b (own x) p q
+    back q o c =
+        let m = up (number x q) c in (
+          m .0,
+          m .2,
+          m .3,
+          subst (λ (s : State). Reads Is-own b (own x) (m .0) s) (number-injective x (m .1) q (reads-on b x (m .5) .to-own) o (m .4)) (m .5),
+        )
+
+    forth : (q : State) → Own x q → (p : State) × Own x p × Bit w (number x p) × Reads Is-own b (own x) p q → Bit (r * 2) (number x q)
+    forth q o m =
+        let s = reads-on b x (m .3) in
+        subst (λ (i : ℕ). Bit (r * 2) i) (omega (arith, s .next))
+        (bit-up r (number x (m .0)) .1 (picked .exactly (number x (m .0)) .1 (
+          bit-below (below-of-nothing w n nothing) (m .2),
+          m .2,
+          sym (label-at (m .0) (number x (m .0)) refl (number-below x (m .0) (m .1))) ∙ s .label,
+        )))

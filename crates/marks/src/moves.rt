@@ -1,0 +1,30 @@
+// Moving along a byte: from each marked start of a leaf that is that byte to the leaf's accepting state.
+use crate::bits::with_bit;
+ghost use mathlib.Core.Path.{_≡_};
+ghost use Prim.Native.Nat.{ℕ, _+_, _*_, _^_, _≤_, _<_};
+ghost use lib.ListN.{length};
+ghost use Rattle.language.specs.Nested.{Nested};
+ghost use Rattle.marks.specs.Words.{width};
+ghost use Rattle.marks.specs.Plan.{row, takes, Moves};
+
+// The word of a piece, moved along the byte: a state that takes it has the label one above it, and leads to the next state.
+pub fn moved(labels: &[u16], piece: usize, word: u64, byte: u8) -> u64
+    requires { ⌜ 64 * piece + 64 ≤ length (now labels) ⌝ }
+    ensures { λ r. ⌜ ((x : Nested ℕ) → width x ≤ 62 → row (now (labels .entry)) piece (width x) ≡ takes x → word < 2 ^ width x → Moves x byte word r) ⌝ }
+{
+    let base = 64 * piece;
+    let label = byte as u16 + 1;
+    let mut rest = word;
+    let mut state: usize = 0;
+    let mut picked: u64 = 0;
+    while rest != 0 {
+        if rest % 2 == 1 {
+            if labels[base + state] == label {
+                picked = with_bit(picked, state);
+            }
+        }
+        rest = rest / 2;
+        state += 1;
+    }
+    picked << 1
+}
