@@ -22,3 +22,4 @@ pub mod Places
 pub mod Passing
 pub mod Visiting
 pub mod Chains
+pub mod Sweeping

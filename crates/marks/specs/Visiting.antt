@@ -70,6 +70,27 @@ module _ (x : Nested ℕ) (before after : List ℕ) (closes : Closes x (getD bef
 pub part-at : (c : Child) (words : List ℕ) (o : ℕ) → o < 1 + run (c .tree) → getD (part c words) o 0 ≡ getD words (c .from + o) 0
 part-at c words o l = getD-take (1 + run (c .tree)) (drop (c .from) words) o 0 l ∙ getD-drop (c .from) words o 0
 
+-- the first entry of a child's run with its start passed down
+pub started-own : (c : Child) (words : List ℕ) → c .from < length words
+    → getD (started c words) 0 0 ≡ passed (getD words 0 0) (c .stand) (getD (part c words) 0 0) 0
+started-own c words room =
+    part-at c changed 0 (omega arith) ∙ ap (λ (o : ℕ). getD changed o 0) (omega arith) ∙ getD-set-same words (c .from) given 0 room
+    ∙ ap (λ (w : ℕ). passed (getD words 0 0) (c .stand) w 0) (ap (λ (o : ℕ). getD words o 0) (omega arith) ∙ sym (part-at c words 0 (omega arith)))
+  where
+    given : ℕ
+    given = passed (getD words 0 0) (c .stand) (getD words (c .from) 0) 0
+
+    changed : List ℕ
+    changed = set words (c .from) given
+
+-- the others are as before
+pub started-below : (c : Child) (words : List ℕ) (o : ℕ) → suc o < 1 + run (c .tree) → getD (started c words) (suc o) 0 ≡ getD (part c words) (suc o) 0
+started-below c words o l =
+    part-at c (set words (c .from) given) (suc o) l ∙ getD-set-other words (c .from) (c .from + suc o) given 0 (λ e. omega arith) ∙ sym (part-at c words (suc o) l)
+  where
+    given : ℕ
+    given = passed (getD words 0 0) (c .stand) (getD words (c .from) 0) 0
+
 module _ (c : Child) (i n k : ℕ) (from : c .from ≡ suc n) where
   part-held : (s : Spot) (words : List ℕ) → Within k (run (c .tree)) s → Held s (part c words) ↔ Held (shift i n (enter s)) words
   part-held (own b) words l = bit-of b (part-at c words 0 (omega arith) ∙ ap (λ (o : ℕ). getD words o 0) (omega arith))
@@ -78,24 +99,9 @@ module _ (c : Child) (i n k : ℕ) (from : c .from ≡ suc n) where
   started-held : (s : Spot) (words : List ℕ) → Within k (run (c .tree)) s → c .from < length words
       → Held s (started c words) ↔ (Held s (part c words) ⊎ (First s × Bit (getD words 0 0) (c .stand)))
   started-held (own b) words l room =
-      iff-trans (bit-of b (part-at c changed 0 (omega arith) ∙ ap (λ (o : ℕ). getD changed o 0) (omega arith) ∙ getD-set-same words (c .from) given 0 room))
-      (iff-trans (bit-passed (getD words 0 0) (c .stand) (getD words (c .from) 0) 0 b)
-      (iff-either (bit-of b (ap (λ (o : ℕ). getD words o 0) (omega arith) ∙ sym (part-at c words 0 (omega arith)))) Iff·rfl))
-    where
-      given : ℕ
-      given = passed (getD words 0 0) (c .stand) (getD words (c .from) 0) 0
-
-      changed : List ℕ
-      changed = set words (c .from) given
+      iff-trans (bit-of b (started-own c words room)) (bit-passed (getD words 0 0) (c .stand) (getD (part c words) 0 0) 0 b)
   started-held (under o b) words l room =
-      iff-trans (bit-of b (part-at c changed (suc o) (omega arith) ∙ getD-set-other words (c .from) (c .from + suc o) given 0 (λ e. omega arith) ∙ sym (part-at c words (suc o) (omega arith))))
-      (inl, ⊎-elim (λ h. h) (λ h. absurd (h .0)))
-    where
-      given : ℕ
-      given = passed (getD words 0 0) (c .stand) (getD words (c .from) 0) 0
-
-      changed : List ℕ
-      changed = set words (c .from) given
+      iff-trans (bit-of b (started-below c words o (omega arith))) (inl, ⊎-elim (λ h. h) (λ h. absurd (h .0)))
 
 -- the child piece c stands at e in the piece of x
 module _ (x : Nested ℕ) (e : State → State) (c : Child) (n : ℕ) (place : Placed x (below (c .tree)) e (c .stand) n) (from : c .from ≡ suc n) where

@@ -15,3 +15,4 @@ pub mod bits;
 pub mod close;
 pub mod moves;
 pub mod reach;
+pub mod sweep;
