@@ -1,0 +1,38 @@
+// A catenation: operands one after the other, up to a `|`, a `)` or the end.
+use crate::operand::operand;
+use crate::part::Part;
+ghost use Rattle.reader.specs.Grammar.{joined};
+ghost use Rattle.reader.specs.Reading.{Room, Reading};
+
+// Reads a catenation from a place on.
+pub fn catenation(expr: &[u8], at: usize, depth: usize, labels: &mut [u16], count: usize) -> Part
+    requires { ⌜ Room (now expr) at depth count (now labels) ⌝ }
+    ensures { λ r. ⌜ Reading joined (now (expr .entry)) at depth count (now (labels .entry)) (now (labels .exit)) r ⌝ }
+{
+    let first = operand(expr, at, depth, labels, count);
+    let Part::Read { next, count } = first else {
+        return first;
+    };
+    let mut place = next;
+    let mut n = count;
+    while place < expr.len() {
+        let byte = expr[place];
+        if byte == b'|' {
+            break;
+        }
+        if byte == b')' {
+            break;
+        }
+        let part = operand(expr, place, depth, labels, n);
+        let Part::Read { next, count } = part else {
+            return part;
+        };
+        labels[count] = 2;
+        n = count + 1;
+        place = next;
+    }
+    Part::Read {
+        next: place,
+        count: n,
+    }
+}

@@ -1,0 +1,35 @@
+// An operand with its stars: a character, or a group.
+use crate::character::character;
+use crate::part::Part;
+use crate::stars::stars;
+use crate::union::union;
+ghost use Rattle.reader.specs.Grammar.{starred};
+ghost use Rattle.reader.specs.Reading.{Room, Reading};
+
+// Reads the operand at a place: 3 where none stands there, 4 and 6 at a `(`, and 7.
+pub fn operand(expr: &[u8], at: usize, depth: usize, labels: &mut [u16], count: usize) -> Part
+    requires { ⌜ Room (now expr) at depth count (now labels) ⌝ }
+    ensures { λ r. ⌜ Reading starred (now (expr .entry)) at depth count (now (labels .entry)) (now (labels .exit)) r ⌝ }
+{
+    if at == expr.len() {
+        return Part::Refused { number: 3, place: at };
+    }
+    if expr[at] == b'(' {
+        if depth >= 32 {
+            return Part::Refused { number: 6, place: at };
+        }
+        let inner = union(expr, at + 1, depth + 1, labels, count);
+        let Part::Read { next, count } = inner else {
+            return inner;
+        };
+        if next == expr.len() {
+            return Part::Refused { number: 4, place: at };
+        }
+        return stars(expr, next + 1, labels, count);
+    }
+    let single = character(expr, at, labels, count);
+    let Part::Read { next, count } = single else {
+        return single;
+    };
+    stars(expr, next, labels, count)
+}

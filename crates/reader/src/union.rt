@@ -1,0 +1,34 @@
+// A union: catenations with `|` between them, up to a `)` or the end.
+use crate::catenation::catenation;
+use crate::part::Part;
+ghost use Rattle.reader.specs.Grammar.{united};
+ghost use Rattle.reader.specs.Reading.{Room, Reading};
+
+// Reads a union from a place on.
+pub fn union(expr: &[u8], at: usize, depth: usize, labels: &mut [u16], count: usize) -> Part
+    requires { ⌜ Room (now expr) at depth count (now labels) ⌝ }
+    ensures { λ r. ⌜ Reading united (now (expr .entry)) at depth count (now (labels .entry)) (now (labels .exit)) r ⌝ }
+{
+    let first = catenation(expr, at, depth, labels, count);
+    let Part::Read { next, count } = first else {
+        return first;
+    };
+    let mut place = next;
+    let mut n = count;
+    while place < expr.len() {
+        if expr[place] != b'|' {
+            break;
+        }
+        let part = catenation(expr, place + 1, depth, labels, n);
+        let Part::Read { next, count } = part else {
+            return part;
+        };
+        labels[count] = 3;
+        n = count + 1;
+        place = next;
+    }
+    Part::Read {
+        next: place,
+        count: n,
+    }
+}
