@@ -12,7 +12,7 @@ use Rattle.language.specs.Tree.{Tree, leaf, catenation, union, star}
 use Rattle.tree.specs.Records.{labels, label-of}
 use Rattle.reader.specs.Bytes.{sign-of}
 use Rattle.reader.specs.Grammar.{Level, starred, joined, united}
-use Rattle.reader.specs.Surroundings.{Leads, Fails, Stops, beginning, leads-star, leads-joined, leads-united, leads-factor, leads-branch, fails-factor, fails-branch}
+use Rattle.reader.specs.Surroundings.{Leads, Fails, Stops, beginning, leads-star, leads-group, closes-united, leads-joined, leads-united, leads-factor, leads-branch, fails-factor, fails-branch}
 use Rattle.reader.specs.declared.part.Part.{Part}
 use Rattle.reader.specs.declared.part.Part.the-variants.{Read, Refused}
 
@@ -80,13 +80,16 @@ both later middle front s t n v e f h = one-more later _ n v f h ∙ simp (e, ap
 pub character-read : {bytes : List ℕ} {at count : ℕ} (earlier : List ℕ) {later : List ℕ} {answer : Part} (next b : ℕ) → ((depth : ℕ) → Leads starred bytes depth at (leaf b) next) → at < next → next ≤ length bytes → count < length earlier → answer ≡ Read next (count + 1) → later ≡ set earlier count (label-of 1 b) → Single bytes at count earlier later answer
 character-read {count = count} earlier next b leads further within room answered written =
     rw (answered, written)
-    (record { went = λ depth. record {
+    (record {
+      went = λ depth. record {
         read = leaf b;
         leads = leads depth;
         written = one-more earlier _ count (label-of 1 b) refl room;
         further = further;
         within = within;
-        bounded = omega arith } })
+        bounded = omega arith;
+      };
+    })
 
 module _ {bytes : List ℕ} {depth at count : ℕ} {earlier : List ℕ} where
   -- what was read, with a star
@@ -98,7 +101,25 @@ module _ {bytes : List ℕ} {depth at count : ℕ} {earlier : List ℕ} where
         written = one-more later _ n 4 (w .written) room ∙ append-assoc (take count earlier) (labels (w .read)) (4 ∷ []);
         further = omega arith;
         within = omega arith;
-        bounded = omega arith }
+        bounded = omega arith;
+      }
+
+  -- a closed group
+  pub went-group : {next total : ℕ} {later : List ℕ} → Whole united bytes (depth + 1) (at + 1) count earlier next total later → next < length bytes → depth < 32 → at < length bytes → getD bytes at 0 ≡ 40 → Went starred bytes depth at count earlier (next + 1) total later
+  went-group {next = next} r inside few h e =
+      record {
+        read = r .went .read;
+        leads = leads-group bytes at next (r .went .leads) inside (closes-united bytes next (r .stops) inside) few h e;
+        written = r .went .written;
+        further = omega arith;
+        within = omega arith;
+        bounded = omega arith;
+      }
+
+  -- an operand is read when its stars are
+  pub then-stars : {next total : ℕ} {middle : List ℕ} (later : List ℕ) (answer : Part) → Went starred bytes depth at count earlier next total middle → Stars bytes next total middle later answer → Reading starred bytes at depth count earlier later answer
+  then-stars later (Read last sum) w s = record { went = s .carries depth .on at count earlier w; stops = s .stops }
+  then-stars later (Refused number place) w s = absurd s
 
   -- an operand is a catenation, and a catenation a union
   pub went-joined : {next total : ℕ} {later : List ℕ} → Went starred bytes depth at count earlier next total later → Went joined bytes depth at count earlier next total later
@@ -117,7 +138,8 @@ module _ {bytes : List ℕ} {depth at count : ℕ} {earlier : List ℕ} where
           written = both later (take n middle) (take count earlier) (labels (w .read)) (labels (r .went .read)) total 2 (w .written) (r .went .written) room;
           further = omega arith;
           within = omega arith;
-          bounded = omega arith }
+          bounded = omega arith;
+        }
 
     -- a union with one more branch
     pub went-branch : Went united bytes depth at count earlier place n middle → place < length bytes → getD bytes place 0 ≡ 124 → Whole joined bytes depth (place + 1) n middle next total later → total < length later → Went united bytes depth at count earlier next (total + 1) (set later total 3)
@@ -128,4 +150,5 @@ module _ {bytes : List ℕ} {depth at count : ℕ} {earlier : List ℕ} where
           written = both later (take n middle) (take count earlier) (labels (w .read)) (labels (r .went .read)) total 3 (w .written) (r .went .written) room;
           further = omega arith;
           within = omega arith;
-          bounded = omega arith }
+          bounded = omega arith;
+        }

@@ -213,29 +213,37 @@ module _ (bytes : List ℕ) where
   -- a special byte after a `\` stands for itself
   pub leads-escaped : (depth at : ℕ) → at + 1 < length bytes → byte at ≡ 92 → special (sign-of (byte (at + 1))) ≡ true → Leads starred bytes depth at (leaf (byte (at + 1))) (at + 1 + 1)
   leads-escaped depth at h e s =
-      record { onward = λ before groups d.
-      at-due at before groups (omega arith) (ap sign-of e) ∙ from-byte (at + 1) (escaping at) before groups h ∙ ap (λ (b : Bool). pick-outcome b (from bytes (at + 1 + 1) (after (leaf (byte (at + 1)))) before groups) (refused 7 at)) s }
+      record {
+        onward = λ before groups d.
+            at-due at before groups (omega arith) (ap sign-of e) ∙ from-byte (at + 1) (escaping at) before groups h ∙ ap (λ (b : Bool). pick-outcome b (from bytes (at + 1 + 1) (after (leaf (byte (at + 1)))) before groups) (refused 7 at)) s;
+      }
 
   -- every other byte after a `\`, and the end, is a fault
   pub fails-escaped : (depth at : ℕ) → at + 1 < length bytes → byte at ≡ 92 → special (sign-of (byte (at + 1))) ≡ false → Fails starred bytes depth at 7 at
   fails-escaped depth at h e s =
-      record { onward = λ before groups d.
-      at-due at before groups (omega arith) (ap sign-of e) ∙ from-byte (at + 1) (escaping at) before groups h ∙ ap (λ (b : Bool). pick-outcome b (from bytes (at + 1 + 1) (after (leaf (byte (at + 1)))) before groups) (refused 7 at)) s }
+      record {
+        onward = λ before groups d.
+            at-due at before groups (omega arith) (ap sign-of e) ∙ from-byte (at + 1) (escaping at) before groups h ∙ ap (λ (b : Bool). pick-outcome b (from bytes (at + 1 + 1) (after (leaf (byte (at + 1)))) before groups) (refused 7 at)) s;
+      }
 
   pub fails-last : (depth at : ℕ) → at + 1 ≡ length bytes → byte at ≡ 92 → Fails starred bytes depth at 7 at
   fails-last depth at h e =
-      record { onward = λ before groups d.
-      at-due at before groups (omega arith) (ap sign-of e) ∙ rw h (from-end (escaping at) before groups) }
+      record {
+        onward = λ before groups d.
+            at-due at before groups (omega arith) (ap sign-of e) ∙ rw h (from-end (escaping at) before groups);
+      }
 
   -- the end where an operand is due
-  pub fails-end : (depth : ℕ) → Fails starred bytes depth (length bytes) 3 (length bytes)
-  fails-end depth = record { onward = λ before groups d. from-end due before groups }
+  pub fails-end : (depth at : ℕ) → at ≡ length bytes → Fails starred bytes depth at 3 at
+  fails-end depth at e = record { onward = λ before groups d. rw e (from-end due before groups) }
 
   -- a `|`, `*` or `)` where an operand is due
   pub fails-special : (depth at : ℕ) → at < length bytes → (byte at ≡ 40 → ⊥) → (byte at ≡ 92 → ⊥) → special (sign-of (byte at)) ≡ true → Fails starred bytes depth at 3 at
   fails-special depth at h no-opening no-backslash e =
-      record { onward = λ before groups d.
-      from-byte at due before groups h ∙ due-special (sign-of (byte at)) (byte at) at (from bytes (at + 1)) before groups (sign-means (byte at)) no-opening no-backslash e }
+      record {
+        onward = λ before groups d.
+            from-byte at due before groups h ∙ due-special (sign-of (byte at)) (byte at) at (from bytes (at + 1)) before groups (sign-means (byte at)) no-opening no-backslash e;
+      }
 
   -- a star of what was read
   pub leads-star : {depth at : ℕ} {t : Tree ℕ} (place : ℕ) → Leads starred bytes depth at t place → place < length bytes → byte place ≡ 42 → Leads starred bytes depth at (star t) (place + 1)
@@ -256,9 +264,11 @@ module _ (bytes : List ℕ) where
   -- a 33rd group
   pub fails-deep : (depth at : ℕ) → 32 ≤ depth → at < length bytes → byte at ≡ 40 → Fails starred bytes depth at 6 at
   fails-deep depth at deep h e =
-      record { onward = λ before groups d.
-      at-due at before groups h (ap sign-of e)
-      ∙ ap (λ (b : Bool). pick-outcome b (from bytes (at + 1) due nothing (opened at before ∷ groups)) (refused 6 at)) (le-ltb (length groups) 32 (omega arith)) }
+      record {
+        onward = λ before groups d.
+            at-due at before groups h (ap sign-of e)
+            ∙ ap (λ (b : Bool). pick-outcome b (from bytes (at + 1) due nothing (opened at before ∷ groups)) (refused 6 at)) (le-ltb (length groups) 32 (omega arith));
+      }
 
   -- a fault in a group
   pub fails-group : {depth number place : ℕ} (at : ℕ) → Fails united bytes (depth + 1) (at + 1) number place → depth < 32 → at < length bytes → byte at ≡ 40 → Fails starred bytes depth at number place
@@ -267,14 +277,18 @@ module _ (bytes : List ℕ) where
   -- the end comes with a group open
   pub fails-open : {depth : ℕ} {t : Tree ℕ} (at next : ℕ) → Leads united bytes (depth + 1) (at + 1) t next → next ≡ length bytes → depth < 32 → at < length bytes → byte at ≡ 40 → Fails starred bytes depth at 4 at
   fails-open at next l end few h e =
-      record { onward = λ before groups d.
-      opens before groups d few h e ∙ l .onward nothing (opened at before ∷ groups) (length-opened (opened at before) groups d) ∙ rw end (from-end (after _) nothing (opened at before ∷ groups)) }
+      record {
+        onward = λ before groups d.
+            opens before groups d few h e ∙ l .onward nothing (opened at before ∷ groups) (length-opened (opened at before) groups d) ∙ rw end (from-end (after _) nothing (opened at before ∷ groups));
+      }
 
   -- a group that is closed
   pub leads-group : {depth : ℕ} {t : Tree ℕ} (at next : ℕ) → Leads united bytes (depth + 1) (at + 1) t next → next < length bytes → byte next ≡ 41 → depth < 32 → at < length bytes → byte at ≡ 40 → Leads starred bytes depth at t (next + 1)
   leads-group at next l inside closes few h e =
-      record { onward = λ before groups d.
-      opens before groups d few h e ∙ l .onward nothing (opened at before ∷ groups) (length-opened (opened at before) groups d) ∙ at-after next _ nothing (opened at before ∷ groups) inside (ap sign-of closes) }
+      record {
+        onward = λ before groups d.
+            opens before groups d few h e ∙ l .onward nothing (opened at before ∷ groups) (length-opened (opened at before) groups d) ∙ at-after next _ nothing (opened at before ∷ groups) inside (ap sign-of closes);
+      }
 
   -- an operand is a catenation, and a catenation a union
   pub leads-joined : {depth at next : ℕ} {t : Tree ℕ} → Leads starred bytes depth at t next → Leads joined bytes depth at t next
@@ -302,11 +316,13 @@ module _ (bytes : List ℕ) where
   module _ {depth at : ℕ} {s : Tree ℕ} (place : ℕ) (l : Leads joined bytes depth at s place) (h : place < length bytes) (more : beginning (sign-of (byte place)) ≡ true) where
     pub leads-factor : {next : ℕ} {t : Tree ℕ} → Leads starred bytes depth place t next → Stops starred bytes next → Leads joined bytes depth at (catenation s t) next
     leads-factor {next} {t} r stop =
-        record { onward = λ before groups d.
-        l .onward before groups d
-        ∙ begins place s (seen joined before) groups h more
-        ∙ r .onward (next-factor (seen joined before) s) groups d
-        ∙ stopped t (catenation s t) (next-factor (seen joined before) s) (seen joined before) groups next stop refl (λ sign e. factor-follow (before .unions) s t sign (byte next) next (from bytes (next + 1)) groups e) }
+        record {
+          onward = λ before groups d.
+              l .onward before groups d
+              ∙ begins place s (seen joined before) groups h more
+              ∙ r .onward (next-factor (seen joined before) s) groups d
+              ∙ stopped t (catenation s t) (next-factor (seen joined before) s) (seen joined before) groups next stop refl (λ sign e. factor-follow (before .unions) s t sign (byte next) next (from bytes (next + 1)) groups e);
+        }
 
     pub fails-factor : {number fault : ℕ} → Fails starred bytes depth place number fault → Fails joined bytes depth at number fault
     fails-factor f = record { onward = λ before groups d. l .onward before groups d ∙ begins place s (seen joined before) groups h more ∙ f .onward (next-factor (seen joined before) s) groups d }
@@ -318,10 +334,12 @@ module _ (bytes : List ℕ) where
 
     pub leads-branch : {next : ℕ} {t : Tree ℕ} → Leads joined bytes depth (place + 1) t next → Stops joined bytes next → Leads united bytes depth at (union s t) next
     leads-branch {next} {t} r stop =
-        record { onward = λ before groups d.
-        branches groups d
-        ∙ r .onward (next-union nothing s) groups d
-        ∙ stopped t (union s t) (next-union nothing s) nothing groups next stop refl (λ sign e. branch-follow s t sign (byte next) next (from bytes (next + 1)) groups e) }
+        record {
+          onward = λ before groups d.
+              branches groups d
+              ∙ r .onward (next-union nothing s) groups d
+              ∙ stopped t (union s t) (next-union nothing s) nothing groups next stop refl (λ sign e. branch-follow s t sign (byte next) next (from bytes (next + 1)) groups e);
+        }
 
     pub fails-branch : {number fault : ℕ} → Fails joined bytes depth (place + 1) number fault → Fails united bytes depth at number fault
     fails-branch f = record { onward = λ before groups d. branches groups d ∙ f .onward (next-union nothing s) groups d }

@@ -50,16 +50,25 @@ pub fn character(expr: &[u8], at: usize, labels: &mut [u16], count: usize) -> Pa
     if byte == b'\\' {
         let place = at + 1;
         if place == expr.len() {
-            return Part::Refused { number: 7, place: at };
+            return Part::Refused {
+                number: 7,
+                place: at,
+            };
         }
         let escaped = expr[place];
         if is_special(escaped) {
             return leaf(escaped, place + 1, labels, count);
         }
-        return Part::Refused { number: 7, place: at };
+        return Part::Refused {
+            number: 7,
+            place: at,
+        };
     }
     if is_special(byte) {
-        return Part::Refused { number: 3, place: at };
+        return Part::Refused {
+            number: 3,
+            place: at,
+        };
     }
     leaf(byte, at + 1, labels, count)
 }

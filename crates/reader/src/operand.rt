@@ -12,18 +12,27 @@ pub fn operand(expr: &[u8], at: usize, depth: usize, labels: &mut [u16], count: 
     ensures { λ r. ⌜ Reading starred (now (expr .entry)) at depth count (now (labels .entry)) (now (labels .exit)) r ⌝ }
 {
     if at == expr.len() {
-        return Part::Refused { number: 3, place: at };
+        return Part::Refused {
+            number: 3,
+            place: at,
+        };
     }
     if expr[at] == b'(' {
         if depth >= 32 {
-            return Part::Refused { number: 6, place: at };
+            return Part::Refused {
+                number: 6,
+                place: at,
+            };
         }
         let inner = union(expr, at + 1, depth + 1, labels, count);
         let Part::Read { next, count } = inner else {
             return inner;
         };
         if next == expr.len() {
-            return Part::Refused { number: 4, place: at };
+            return Part::Refused {
+                number: 4,
+                place: at,
+            };
         }
         return stars(expr, next + 1, labels, count);
     }

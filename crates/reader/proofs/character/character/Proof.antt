@@ -110,4 +110,3 @@ character-spec =
     leaf-requires-2
     same-length-2
     returns-5)
-
