@@ -11,3 +11,4 @@ pub mod Text
 pub mod Examples
 pub mod Surroundings
 pub mod Reading
+pub mod Expression

@@ -343,3 +343,11 @@ module _ (bytes : List ℕ) where
 
     pub fails-branch : {number fault : ℕ} → Fails joined bytes depth (place + 1) number fault → Fails united bytes depth at number fault
     fails-branch f = record { onward = λ before groups d. branches groups d ∙ f .onward (next-union nothing s) groups d }
+
+  -- the whole expression was read: nothing is before it, and no group is open
+  module _ {t : Tree ℕ} (next : ℕ) (l : Leads united bytes 0 0 t next) where
+    pub accepts : next ≡ length bytes → from bytes 0 due nothing [] ≡ tree t
+    accepts e = l .onward nothing [] refl ∙ rw e (from-end (after t) nothing [])
+
+    pub closes-none : next < length bytes → byte next ≡ 41 → from bytes 0 due nothing [] ≡ refused 5 next
+    closes-none h e = l .onward nothing [] refl ∙ at-after next t nothing [] h (ap sign-of e)

@@ -1,6 +1,7 @@
 // Reads an expression into tree records, or refuses it by number and place.
 mod catenation;
 mod character;
+mod expression;
 mod operand;
 mod part;
 mod stars;

@@ -1,0 +1,36 @@
+// A whole expression.
+use crate::part::Part;
+use crate::union::union;
+ghost use Prim.Native.Nat.{_≤_};
+ghost use lib.ListN.{length};
+ghost use Rattle.reader.specs.Expression.{Expression};
+
+// Writes the labels of an expression's tree: refuses by 1, 2, or the first fault from left to right.
+pub fn expression(expr: &[u8], labels: &mut [u16]) -> Part
+    requires { ⌜ 2047 ≤ length (now labels) ⌝ }
+    ensures { λ r. ⌜ Expression (now (expr .entry)) (now (labels .exit)) r ⌝ }
+{
+    if expr.len() == 0 {
+        return Part::Refused {
+            number: 1,
+            place: 0,
+        };
+    }
+    if expr.len() > 1024 {
+        return Part::Refused {
+            number: 2,
+            place: 1024,
+        };
+    }
+    let whole = union(expr, 0, 0, labels, 0);
+    let Part::Read { next, count } = whole else {
+        return whole;
+    };
+    if next < expr.len() {
+        return Part::Refused {
+            number: 5,
+            place: next,
+        };
+    }
+    Part::Read { next, count }
+}
