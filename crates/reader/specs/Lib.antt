@@ -12,3 +12,5 @@ pub mod Examples
 pub mod Surroundings
 pub mod Reading
 pub mod Expression
+pub mod Answer
+pub mod TooLarge

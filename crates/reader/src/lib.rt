@@ -1,4 +1,5 @@
 // Reads an expression into tree records, or refuses it by number and place.
+mod answer;
 mod catenation;
 mod character;
 mod expression;
