@@ -12,7 +12,8 @@ use Rattle.language.specs.Tree.{Tree}
 use Rattle.tree.specs.Records.{labels}
 use Rattle.reader.specs.Scanner.{Outcome, tree, refused, due, nothing, pick-outcome, scan, scanned}
 use Rattle.reader.specs.Grammar.{united}
-use Rattle.reader.specs.Surroundings.{from, Fails, accepts, closes-none, closes-united}
+use Rattle.reader.specs.Stopping.{closes-united}
+use Rattle.reader.specs.Surroundings.{from, Fails, accepts, closes-none}
 use Rattle.reader.specs.Reading.{Whole}
 use Rattle.reader.specs.declared.part.Part.{Part}
 use Rattle.reader.specs.declared.part.Part.the-variants.{Read, Refused}

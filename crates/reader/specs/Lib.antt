@@ -9,6 +9,7 @@ pub mod Faults
 pub mod Agree
 pub mod Text
 pub mod Examples
+pub mod Stopping
 pub mod Surroundings
 pub mod Reading
 pub mod Expression

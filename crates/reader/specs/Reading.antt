@@ -12,7 +12,8 @@ use Rattle.language.specs.Tree.{Tree, leaf, catenation, union, star}
 use Rattle.tree.specs.Records.{labels, label-of}
 use Rattle.reader.specs.Bytes.{sign-of}
 use Rattle.reader.specs.Grammar.{Level, starred, joined, united}
-use Rattle.reader.specs.Surroundings.{Leads, Fails, Stops, beginning, leads-star, leads-group, closes-united, leads-joined, leads-united, leads-factor, leads-branch, fails-factor, fails-branch}
+use Rattle.reader.specs.Stopping.{Stops, beginning, closes-united}
+use Rattle.reader.specs.Surroundings.{Leads, Fails, leads-star, leads-group, leads-joined, leads-united, leads-factor, leads-branch, fails-factor, fails-branch}
 use Rattle.reader.specs.declared.part.Part.{Part}
 use Rattle.reader.specs.declared.part.Part.the-variants.{Read, Refused}
 

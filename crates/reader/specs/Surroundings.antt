@@ -16,6 +16,7 @@ use Rattle.reader.specs.Bytes.{Sign, opening, closing, bar, asterisk, ba
 use Rattle.reader.specs.Signs.{Means, sign-means}
 use Rattle.reader.specs.Scanner.{Outcome, tree, refused, Phase, due, escaping, after, Before, Group, nothing, catenated, finished, next-union, next-factor, Onward, pick-outcome, operand, follow, byte-at, end-at, scan}
 use Rattle.reader.specs.Grammar.{Level, single, starred, joined, united}
+use Rattle.reader.specs.Stopping.{stopping, Stops, at-end, at-sign, beginning}
 
 -- the scan of the bytes from a place on
 unfoldable pub from : List ℕ → ℕ → Onward
@@ -36,36 +37,9 @@ pub record Leads (level : Level) (bytes : List ℕ) (depth at : ℕ) (t : Tree �
 pub record Fails (level : Level) (bytes : List ℕ) (depth at number place : ℕ) : Type 0 where
   pub onward : (before : Before) (groups : List Group) → length groups ≡ depth → from bytes at due (seen level before) groups ≡ refused number place
 
--- whether a reading of this level stops before a byte: an operand takes every `*`, a catenation goes on to `|` or `)`, a union to `)`
-abbrev pub stopping : Level → Sign → Bool
-stopping single s = true
-stopping starred asterisk = false
-stopping starred opening = true
-stopping starred closing = true
-stopping starred bar = true
-stopping starred backslash = true
-stopping starred plain = true
-stopping joined closing = true
-stopping joined bar = true
-stopping joined opening = false
-stopping joined asterisk = false
-stopping joined backslash = false
-stopping joined plain = false
-stopping united closing = true
-stopping united bar = false
-stopping united opening = false
-stopping united asterisk = false
-stopping united backslash = false
-stopping united plain = false
-
--- where a reading of this level stops: at the end, or before such a byte
-pub data Stops (level : Level) (bytes : List ℕ) (place : ℕ) : Type 0 where
-  at-end : place ≡ length bytes → Stops level bytes place
-  at-sign : place < length bytes → stopping level (sign-of (getD bytes place 0)) ≡ true → Stops level bytes place
-
 -- where an operand stops it makes no difference whether it is still a factor of its own or the catenation's last
 factor-follow : (u : Option (Tree ℕ)) (s t : Tree ℕ) (sign : Sign) (b place : ℕ) (on : Onward) (groups : List Group) → stopping starred sign ≡ true → follow sign b t place on (record { unions = u; factors = some s }) groups ≡ follow sign b (catenation s t) place on (record { unions = u; factors = none }) groups
-factor-follow u s t asterisk b place on groups stop = let z : _≡_ {A = ℕ} 0 1 = cc in absurd (omega arith)
+factor-follow u s t asterisk b place on groups stop = cc
 factor-follow u s t opening b place on groups stop = refl
 factor-follow u s t bar b place on groups stop = refl
 factor-follow u s t backslash b place on groups stop = refl
@@ -75,22 +49,13 @@ factor-follow u s t closing b place on (group ∷ groups) stop = refl
 
 -- where a catenation stops it makes no difference whether it is still a branch of its own or the union's last
 branch-follow : (s t : Tree ℕ) (sign : Sign) (b place : ℕ) (on : Onward) (groups : List Group) → stopping joined sign ≡ true → follow sign b t place on (record { unions = some s; factors = none }) groups ≡ follow sign b (union s t) place on nothing groups
-branch-follow s t asterisk b place on groups stop = let z : _≡_ {A = ℕ} 0 1 = cc in absurd (omega arith)
-branch-follow s t opening b place on groups stop = let z : _≡_ {A = ℕ} 0 1 = cc in absurd (omega arith)
-branch-follow s t backslash b place on groups stop = let z : _≡_ {A = ℕ} 0 1 = cc in absurd (omega arith)
-branch-follow s t plain b place on groups stop = let z : _≡_ {A = ℕ} 0 1 = cc in absurd (omega arith)
+branch-follow s t asterisk b place on groups stop = cc
+branch-follow s t opening b place on groups stop = cc
+branch-follow s t backslash b place on groups stop = cc
+branch-follow s t plain b place on groups stop = cc
 branch-follow s t bar b place on groups stop = refl
 branch-follow s t closing b place on [] stop = refl
 branch-follow s t closing b place on (group ∷ groups) stop = refl
-
--- a sign after an operand that begins the next one
-abbrev pub beginning : Sign → Bool
-beginning opening = true
-beginning backslash = true
-beginning plain = true
-beginning asterisk = false
-beginning bar = false
-beginning closing = false
 
 -- at the end only the finished tree counts
 end-same : (t : Tree ℕ) (place : ℕ) (before : Before) (s : Tree ℕ) (other : Before) (groups : List Group) → finished before t ≡ finished other s → end-at place (after t) before groups ≡ end-at place (after s) other groups
@@ -102,9 +67,9 @@ begin-follow : (sign : Sign) (b : ℕ) (t : Tree ℕ) (place : ℕ) (on : Onward
 begin-follow opening b t place on before groups e = refl
 begin-follow backslash b t place on before groups e = refl
 begin-follow plain b t place on before groups e = refl
-begin-follow asterisk b t place on before groups e = let z : _≡_ {A = ℕ} 0 1 = cc in absurd (omega arith)
-begin-follow bar b t place on before groups e = let z : _≡_ {A = ℕ} 0 1 = cc in absurd (omega arith)
-begin-follow closing b t place on before groups e = let z : _≡_ {A = ℕ} 0 1 = cc in absurd (omega arith)
+begin-follow asterisk b t place on before groups e = cc
+begin-follow bar b t place on before groups e = cc
+begin-follow closing b t place on before groups e = cc
 
 -- where an operand is due, a special byte other than `(` and `\` is a fault
 due-special : (sign : Sign) (b place : ℕ) (on : Onward) (before : Before) (groups : List Group) → Means b sign → (b ≡ 40 → ⊥) → (b ≡ 92 → ⊥) → special sign ≡ true → operand sign b place on before groups ≡ refused 3 place
@@ -113,76 +78,9 @@ due-special bar b place on before groups means no-opening no-backslash e = refl
 due-special asterisk b place on before groups means no-opening no-backslash e = refl
 due-special opening b place on before groups means no-opening no-backslash e = absurd (no-opening means)
 due-special backslash b place on before groups means no-opening no-backslash e = absurd (no-backslash means)
-due-special plain b place on before groups means no-opening no-backslash e = let z : _≡_ {A = ℕ} 0 1 = cc in absurd (omega arith)
-
--- a byte that is not special stands for itself
-pub not-special : (sign : Sign) → special sign ≡ false → sign ≡ plain
-not-special plain e = refl
-not-special opening e = cc
-not-special closing e = cc
-not-special bar e = cc
-not-special asterisk e = cc
-not-special backslash e = cc
-
--- after an operand with its stars, a byte other than `|` and `)` begins the next operand
-next-begins : (sign : Sign) (b : ℕ) → Means b sign → (b ≡ 124 → ⊥) → (b ≡ 41 → ⊥) → stopping starred sign ≡ true → beginning sign ≡ true
-next-begins opening b means no-bar no-closing e = refl
-next-begins backslash b means no-bar no-closing e = refl
-next-begins plain b means no-bar no-closing e = refl
-next-begins asterisk b means no-bar no-closing e = cc
-next-begins bar b means no-bar no-closing e = absurd (no-bar means)
-next-begins closing b means no-bar no-closing e = absurd (no-closing means)
-
--- a catenation that stops at a byte other than `|` stops at a `)`
-only-closing : (sign : Sign) (b : ℕ) → Means b sign → (b ≡ 124 → ⊥) → stopping joined sign ≡ true → stopping united sign ≡ true
-only-closing closing b means no-bar e = refl
-only-closing bar b means no-bar e = absurd (no-bar means)
-only-closing opening b means no-bar e = cc
-only-closing asterisk b means no-bar e = cc
-only-closing backslash b means no-bar e = cc
-only-closing plain b means no-bar e = cc
-
--- a byte other than `*` ends an operand
-no-star : (sign : Sign) (b : ℕ) → Means b sign → (b ≡ 42 → ⊥) → stopping starred sign ≡ true
-no-star asterisk b means no-asterisk = absurd (no-asterisk means)
-no-star opening b means no-asterisk = refl
-no-star closing b means no-asterisk = refl
-no-star bar b means no-asterisk = refl
-no-star backslash b means no-asterisk = refl
-no-star plain b means no-asterisk = refl
-
--- a union stops at a `)`
-closes : (sign : Sign) (b : ℕ) → Means b sign → stopping united sign ≡ true → b ≡ 41
-closes closing b means e = means
-closes opening b means e = let z : _≡_ {A = ℕ} 0 1 = cc in absurd (omega arith)
-closes bar b means e = let z : _≡_ {A = ℕ} 0 1 = cc in absurd (omega arith)
-closes asterisk b means e = let z : _≡_ {A = ℕ} 0 1 = cc in absurd (omega arith)
-closes backslash b means e = let z : _≡_ {A = ℕ} 0 1 = cc in absurd (omega arith)
-closes plain b means e = let z : _≡_ {A = ℕ} 0 1 = cc in absurd (omega arith)
+due-special plain b place on before groups means no-opening no-backslash e = cc
 
 module _ (bytes : List ℕ) where
-  -- the same at a place
-  pub stops-starred : (place : ℕ) → place < length bytes → (getD bytes place 0 ≡ 42 → ⊥) → Stops starred bytes place
-  stops-starred place h no-asterisk = at-sign h (no-star (sign-of (getD bytes place 0)) (getD bytes place 0) (sign-means (getD bytes place 0)) no-asterisk)
-
-  pub stops-bar : (place : ℕ) → place < length bytes → getD bytes place 0 ≡ 124 → Stops joined bytes place
-  stops-bar place h e = at-sign h (ap (λ (b : ℕ). stopping joined (sign-of b)) e)
-
-  pub stops-closing : (place : ℕ) → place < length bytes → getD bytes place 0 ≡ 41 → Stops joined bytes place
-  stops-closing place h e = at-sign h (ap (λ (b : ℕ). stopping joined (sign-of b)) e)
-
-  pub stops-united : (place : ℕ) → place < length bytes → (getD bytes place 0 ≡ 124 → ⊥) → Stops joined bytes place → Stops united bytes place
-  stops-united place h no-bar (at-end e) = at-end e
-  stops-united place h no-bar (at-sign h′ e) = at-sign h (only-closing (sign-of (getD bytes place 0)) (getD bytes place 0) (sign-means (getD bytes place 0)) no-bar e)
-
-  pub begins-next : (place : ℕ) → place < length bytes → (getD bytes place 0 ≡ 124 → ⊥) → (getD bytes place 0 ≡ 41 → ⊥) → Stops starred bytes place → beginning (sign-of (getD bytes place 0)) ≡ true
-  begins-next place h no-bar no-closing (at-end e) = absurd (omega arith)
-  begins-next place h no-bar no-closing (at-sign h′ e) = next-begins (sign-of (getD bytes place 0)) (getD bytes place 0) (sign-means (getD bytes place 0)) no-bar no-closing e
-
-  pub closes-united : (place : ℕ) → Stops united bytes place → place < length bytes → getD bytes place 0 ≡ 41
-  closes-united place (at-end e) h = absurd (omega arith)
-  closes-united place (at-sign h′ e) h = closes (sign-of (getD bytes place 0)) (getD bytes place 0) (sign-means (getD bytes place 0)) e
-
   -- at a byte the scan takes it, and goes on from the next place
   pub from-byte : (at : ℕ) (phase : Phase) (before : Before) (groups : List Group) → at < length bytes → from bytes at phase before groups ≡ byte-at (getD bytes at 0) at phase (from bytes (at + 1)) before groups
   unfolding from scan

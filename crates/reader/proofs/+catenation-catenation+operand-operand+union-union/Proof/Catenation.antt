@@ -6,7 +6,8 @@ use native.Mathlib.Omega.{arith}
 use borrow.Author.Needs.{needs}
 use lib.ListN.{length, length-set}
 use Rattle.reader.specs.Grammar.{starred, joined, united}
-use Rattle.reader.specs.Surroundings.{Stops, at-end, stops-bar, stops-closing, begins-next, fails-joined, fails-factor}
+use Rattle.reader.specs.Stopping.{Stops, at-end, stops-bar, stops-closing, begins-next}
+use Rattle.reader.specs.Surroundings.{fails-joined, fails-factor}
 use Rattle.reader.specs.Reading.{Carries, Whole, Went, went-joined, went-factor}
 use Rattle.reader.proofs.catenation.catenation.Reads as catenation
 use Rattle.reader.proofs.+catenation-catenation+operand-operand+union-union.Lts-catenation-catenation as lts

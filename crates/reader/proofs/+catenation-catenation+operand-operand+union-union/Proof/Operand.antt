@@ -35,7 +35,7 @@ pub shared-slice-read-if2 : (t : ℕ) → lts.Need-shared-slice-read-if2 (operan
 shared-slice-read-if2 t c = search needs
 
 pub returns-2 : (t : ℕ) → lts.Need-returns-2 (operand-claims t) (operand-at t) operand.Post
-returns-2 t c = let s = c .before .before .before .before .before .before in fails-deep (s .args .expr .now) (s .args .depth) (s .args .at) (c .if3 .taken) (omega arith) (c .before .if2 .taken)
+returns-2 t c = let s = c .before .before .before .before .before .before in fails-deep (s .args .expr .now) (s .args .depth) (s .args .at) (omega arith) (omega arith) (c .before .if2 .taken)
 
 pub add-union : (t : ℕ) → lts.Need-add-union (operand-claims t) (operand-at t) operand.Post
 add-union t c = search needs

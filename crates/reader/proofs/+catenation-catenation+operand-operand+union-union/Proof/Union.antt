@@ -6,7 +6,8 @@ use native.Mathlib.Omega.{arith}
 use borrow.Author.Needs.{needs}
 use lib.ListN.{length, length-set}
 use Rattle.reader.specs.Grammar.{starred, joined, united}
-use Rattle.reader.specs.Surroundings.{Stops, at-end, stops-united, fails-united, fails-branch}
+use Rattle.reader.specs.Stopping.{Stops, at-end, stops-united}
+use Rattle.reader.specs.Surroundings.{fails-united, fails-branch}
 use Rattle.reader.specs.Reading.{Carries, Whole, Went, went-united, went-branch}
 use Rattle.reader.proofs.union.union.Reads as union
 use Rattle.reader.proofs.+catenation-catenation+operand-operand+union-union.Lts-union-union as lts

@@ -3,7 +3,8 @@
 use mathlib.Core.Path.{ap, sym, _∙_}
 use native.Mathlib.Omega.{arith}
 use Rattle.reader.specs.Bytes.{sign-of}
-use Rattle.reader.specs.Surroundings.{leads-plain, leads-escaped, fails-escaped, fails-last, fails-special, not-special}
+use Rattle.reader.specs.Stopping.{not-special}
+use Rattle.reader.specs.Surroundings.{leads-plain, leads-escaped, fails-escaped, fails-last, fails-special}
 use Rattle.reader.specs.Reading.{character-read}
 use borrow.Author.Needs.{needs}
 use Rattle.reader.proofs.character.character.Statement.{statement}

@@ -16,7 +16,7 @@ returns : tie.Need-returns
 returns c = empty (c .before .before .before .args .expr .now) (c .if1 .taken)
 
 returns-2 : tie.Need-returns-2
-returns-2 c = too-long (c .before .before .before .before .args .expr .now) (c .if2 .taken)
+returns-2 c = too-long (c .before .before .before .before .args .expr .now) (omega arith)
 
 union-requires : tie.Need-union-requires
 union-requires c κs = search needs

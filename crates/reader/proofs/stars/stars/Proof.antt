@@ -6,7 +6,7 @@ use native.Mathlib.Omega.{arith}
 use borrow.Author.Needs.{needs}
 use lib.ListN.{length, length-set}
 use Rattle.reader.specs.Grammar.{starred}
-use Rattle.reader.specs.Surroundings.{at-end, stops-starred}
+use Rattle.reader.specs.Stopping.{at-end, stops-starred}
 use Rattle.reader.specs.Reading.{Carries, went-star}
 use Rattle.reader.proofs.stars.stars.Statement.{statement}
 use Rattle.reader.proofs.stars.stars.Tie as tie
