@@ -13,3 +13,4 @@ pub mod Numbering
 pub mod Walk
 pub mod Stored
 pub mod Pieces
+pub mod Seats
