@@ -14,3 +14,4 @@ pub mod Walk
 pub mod Stored
 pub mod Pieces
 pub mod Seats
+pub mod Gathered

@@ -1,0 +1,84 @@
+-- What a node's numbers are, gathered from its children's: one rule for all four kinds, with 0 for a child that is not there.
+-- Assumes nothing.
+use Prim.Native.Nat.{ℕ, _+_, _≤_, _<_}
+use mathlib.Core.Path.{_≡_, refl, ap, sym}
+use mathlib.Core.Bool.{Bool, true, false, _&&_, _||_}
+use native.Mathlib.Omega.{arith}
+use native.Mathlib.Nat.{add-zero}
+use lib.Dec.{leb, ltb, leb·zero, leb·suc-zero}
+use borrow.Author.Tests.{ltb-false, leb-false}
+use Rattle.language.specs.Tree.{Tree, leaf, catenation, union, star, nodes}
+use Rattle.tree.specs.Cut.{kept, one, cut-left, cut-right, cut-only, open-size, wanted, cuts}
+use Rattle.tree.specs.Seats.{cut-edges, of-left, of-right, left-cut, right-cut}
+
+-- the open size that a node has by those of its children
+abbrev pub open-sum : (l r : ℕ) → ℕ
+open-sum l r = 1 + kept (cut-left l r) l + kept (cut-right l r) r
+
+-- the cut edges at and below a node: by the open sizes of its children, and the cut edges below each
+abbrev pub cut-sum : (l r below-left below-right : ℕ) → ℕ
+cut-sum l r below-left below-right = one (cut-left l r) + below-left + (one (cut-right l r) + below-right)
+
+-- an only child is cut off as a left child without a right one
+pub only-left : (n : ℕ) → cut-left n 0 ≡ cut-only n
+only-left n = rw (add-zero, leb·zero) (and-true (ltb 15 (1 + n)))
+  where
+    and-true : (b : Bool) → b && true ≡ b
+    and-true true = refl
+    and-true false = refl
+
+-- where there is no right child none is cut off
+pub none-right : (n : ℕ) → cut-right n 0 ≡ false
+none-right n = rw (leb·suc-zero n) (and-false (ltb 15 (1 + n + 0)))
+  where
+    and-false : (b : Bool) → b && false ≡ false
+    and-false true = refl
+    and-false false = refl
+
+pub nodes-gathered : (u : Tree ℕ) → nodes u ≡ of-left nodes u + of-right nodes u + 1
+nodes-gathered (leaf a) = refl
+nodes-gathered (catenation s t) = refl
+nodes-gathered (union s t) = refl
+nodes-gathered (star s) = ap (λ (n : ℕ). n + 1) (sym (add-zero (nodes s)))
+
+pub open-gathered : (u : Tree ℕ) → open-size u ≡ open-sum (of-left open-size u) (of-right open-size u)
+open-gathered (leaf a) = refl
+open-gathered (catenation s t) = refl
+open-gathered (union s t) = refl
+open-gathered (star s) = rw (only-left, none-right, add-zero)
+
+pub cuts-gathered : (u : Tree ℕ) → cut-edges u ≡ cut-sum (of-left open-size u) (of-right open-size u) (of-left cut-edges u) (of-right cut-edges u)
+cuts-gathered (leaf a) = refl
+cuts-gathered (catenation s t) = refl
+cuts-gathered (union s t) = refl
+cuts-gathered (star s) = rw (only-left, none-right, add-zero)
+
+-- no piece passes 15 nodes
+pub open-sum-le : (l r : ℕ) → open-sum l r ≤ 15
+open-sum-le l r = by-tests (ltb 15 (1 + l + r)) (leb r l) (ltb 15 (1 + l)) (ltb l r) (ltb 15 (1 + r)) refl refl refl refl refl
+  where
+    by-tests : (over larger over-left smaller over-right : Bool) → ltb 15 (1 + l + r) ≡ over → leb r l ≡ larger → ltb 15 (1 + l) ≡ over-left → ltb l r ≡ smaller
+        → ltb 15 (1 + r) ≡ over-right → 1 + kept (over && (larger || over-left)) l + kept (over && (smaller || over-right)) r ≤ 15
+    by-tests false b c d e p q x y z = omega (arith, ltb-false)
+    by-tests true true c true e p q x y z = omega arith
+    by-tests true true c false true p q x y z = omega arith
+    by-tests true true c false false p q x y z = omega (arith, ltb-false)
+    by-tests true false true true e p q x y z = omega arith
+    by-tests true false true false true p q x y z = omega arith
+    by-tests true false true false false p q x y z = omega (arith, ltb-false)
+    by-tests true false false true e p q x y z = omega (arith, ltb-false)
+    by-tests true false false false e p q x y z = omega (arith, leb-false, ltb-false)
+
+pub open-size-le : (u : Tree ℕ) → open-size u ≤ 15
+open-size-le u = rw (open-gathered u) (open-sum-le (of-left open-size u) (of-right open-size u))
+
+one-le : (b : Bool) → one b ≤ 1
+one-le true = omega arith
+one-le false = omega arith
+
+-- fewer edges are cut than there are nodes
+pub cut-edges-lt : (u : Tree ℕ) → cut-edges u < nodes u
+cut-edges-lt (leaf a) = omega arith
+cut-edges-lt (catenation s t) = omega (arith, cut-edges-lt s, cut-edges-lt t, one-le (left-cut (catenation s t)), one-le (right-cut (catenation s t)))
+cut-edges-lt (union s t) = omega (arith, cut-edges-lt s, cut-edges-lt t, one-le (left-cut (union s t)), one-le (right-cut (union s t)))
+cut-edges-lt (star s) = omega (arith, cut-edges-lt s, one-le (cut-only (open-size s)))
