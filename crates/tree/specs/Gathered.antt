@@ -2,11 +2,10 @@
 -- Assumes nothing.
 use Prim.Native.Nat.{ℕ, _+_, _≤_, _<_}
 use mathlib.Core.Path.{_≡_, refl, ap, sym}
-use mathlib.Core.Bool.{Bool, true, false, _&&_, _||_}
+use mathlib.Core.Bool.{Bool, true, false, _&&_}
 use native.Mathlib.Omega.{arith}
 use native.Mathlib.Nat.{add-zero}
-use lib.Dec.{leb, ltb, leb·zero, leb·suc-zero}
-use borrow.Author.Tests.{ltb-false, leb-false}
+use lib.Dec.{ltb, leb·zero, leb·suc-zero}
 use Rattle.language.specs.Tree.{Tree, leaf, catenation, union, star, nodes}
 use Rattle.tree.specs.Cut.{kept, one, cut-left, cut-right, cut-only, open-size, wanted, cuts}
 use Rattle.tree.specs.Seats.{cut-edges, of-left, of-right, left-cut, right-cut}
@@ -52,25 +51,6 @@ cuts-gathered (leaf a) = refl
 cuts-gathered (catenation s t) = refl
 cuts-gathered (union s t) = refl
 cuts-gathered (star s) = rw (only-left, none-right, add-zero)
-
--- no piece passes 15 nodes
-pub open-sum-le : (l r : ℕ) → open-sum l r ≤ 15
-open-sum-le l r = by-tests (ltb 15 (1 + l + r)) (leb r l) (ltb 15 (1 + l)) (ltb l r) (ltb 15 (1 + r)) refl refl refl refl refl
-  where
-    by-tests : (over larger over-left smaller over-right : Bool) → ltb 15 (1 + l + r) ≡ over → leb r l ≡ larger → ltb 15 (1 + l) ≡ over-left → ltb l r ≡ smaller
-        → ltb 15 (1 + r) ≡ over-right → 1 + kept (over && (larger || over-left)) l + kept (over && (smaller || over-right)) r ≤ 15
-    by-tests false b c d e p q x y z = omega (arith, ltb-false)
-    by-tests true true c true e p q x y z = omega arith
-    by-tests true true c false true p q x y z = omega arith
-    by-tests true true c false false p q x y z = omega (arith, ltb-false)
-    by-tests true false true true e p q x y z = omega arith
-    by-tests true false true false true p q x y z = omega arith
-    by-tests true false true false false p q x y z = omega (arith, ltb-false)
-    by-tests true false false true e p q x y z = omega (arith, ltb-false)
-    by-tests true false false false e p q x y z = omega (arith, leb-false, ltb-false)
-
-pub open-size-le : (u : Tree ℕ) → open-size u ≤ 15
-open-size-le u = rw (open-gathered u) (open-sum-le (of-left open-size u) (of-right open-size u))
 
 one-le : (b : Bool) → one b ≤ 1
 one-le true = omega arith

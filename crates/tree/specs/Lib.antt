@@ -15,3 +15,4 @@ pub mod Stored
 pub mod Pieces
 pub mod Seats
 pub mod Gathered
+pub mod Written
