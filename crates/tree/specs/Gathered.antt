@@ -4,7 +4,7 @@ use Prim.Native.Nat.{ℕ, _+_, _≤_, _<_}
 use mathlib.Core.Path.{_≡_, refl, ap, sym}
 use mathlib.Core.Bool.{Bool, true, false, _&&_}
 use native.Mathlib.Omega.{arith}
-use native.Mathlib.Nat.{add-zero}
+use native.Mathlib.Nat.{add-zero, le-refl}
 use lib.Dec.{ltb, leb·zero, leb·suc-zero}
 use Rattle.language.specs.Tree.{Tree, leaf, catenation, union, star, nodes}
 use Rattle.tree.specs.Cut.{kept, one, cut-left, cut-right, cut-only, open-size, wanted, cuts}
@@ -52,9 +52,15 @@ cuts-gathered (catenation s t) = refl
 cuts-gathered (union s t) = refl
 cuts-gathered (star s) = rw (only-left, none-right, add-zero)
 
-one-le : (b : Bool) → one b ≤ 1
+-- a cut edge counts for at most 1
+pub one-le : (b : Bool) → one b ≤ 1
 one-le true = omega arith
 one-le false = omega arith
+
+-- a child adds at most its own open size
+pub kept-le : (b : Bool) (n : ℕ) → kept b n ≤ n
+kept-le true n = omega arith
+kept-le false n = le-refl n
 
 -- fewer edges are cut than there are nodes
 pub cut-edges-lt : (u : Tree ℕ) → cut-edges u < nodes u

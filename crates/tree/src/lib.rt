@@ -1,1 +1,3 @@
 // Tree records: the cut, the numbers of children and pieces, and whether a lent list is good.
+mod cut;
+mod slots;

@@ -1,0 +1,40 @@
+-- `tree::cut::open_size` meets its contract: the sum is that of `open-sum`, and small, since a child adds at most its own open size.
+-- Assumes nothing.
+use native.Mathlib.Omega.{arith}
+use Rattle.tree.specs.Gathered.{kept-le}
+use borrow.Author.Needs.{needs}
+use Rattle.tree.proofs.cut.open_size.Statement.{statement}
+use Rattle.tree.proofs.cut.open_size.Tie as tie
+
+left-cut-requires : tie.Need-left-cut-requires
+left-cut-requires c κs = search needs
+
+kept-size-requires : tie.Need-kept-size-requires
+kept-size-requires c κs = search needs
+
+add-result : tie.Need-add-result
+add-result c = omega (arith, kept-le (c .before .left-cut .result) (c .before .before .args .l))
+
+right-cut-requires : tie.Need-right-cut-requires
+right-cut-requires c κs = search needs
+
+kept-size-requires-2 : tie.Need-kept-size-requires-2
+kept-size-requires-2 c κs = search needs
+
+add-result-2 : tie.Need-add-result-2
+add-result-2 c = omega (arith, kept-le (c .before .right-cut .result) (c .before .before .before .before .args .r), kept-le (c .before .before .before .left-cut .result) (c .before .before .before .before .args .l))
+
+returns : tie.Need-returns
+returns c = cc
+
+pub open-size-spec : {M : Type 1} → statement M
+open-size-spec =
+    tie.close
+    (tie.spec
+    left-cut-requires
+    kept-size-requires
+    add-result
+    right-cut-requires
+    kept-size-requires-2
+    add-result-2
+    returns)
