@@ -16,3 +16,4 @@ pub mod Pieces
 pub mod Seats
 pub mod Gathered
 pub mod Written
+pub mod Measured

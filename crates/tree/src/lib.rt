@@ -1,3 +1,4 @@
 // Tree records: the cut, the numbers of children and pieces, and whether a lent list is good.
 mod cut;
+mod measure;
 mod slots;

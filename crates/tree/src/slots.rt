@@ -6,7 +6,7 @@ ghost use Rattle.tree.specs.Written.{child-number};
 
 // The slot of the right child of record i: the record before it, for a catenation or a union.
 pub fn right_of(label: u16, i: usize) -> usize
-    ensures { λ r. ⌜ r ≡ right-slot label i ⌝ }
+    ensures { λ r. ⌜ (r ≡ right-slot label i) × (r ≤ i) ⌝ }
 {
     if label == 2 {
         return i;
@@ -20,7 +20,7 @@ pub fn right_of(label: u16, i: usize) -> usize
 // The slot of the left or only child of record i: where the right child, of `size` nodes, begins.
 pub fn left_of(label: u16, i: usize, size: u16) -> usize
     requires { ⌜ size ≤ i ⌝ }
-    ensures { λ r. ⌜ r ≡ left-slot label i size ⌝ }
+    ensures { λ r. ⌜ (r ≡ left-slot label i size) × (r ≤ i) ⌝ }
 {
     if label % 256 == 1 {
         return 0;

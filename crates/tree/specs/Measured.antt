@@ -1,0 +1,196 @@
+-- What the slots hold when the records up to some number are measured: of each subtree its nodes, its open size and its cut edges.
+-- Assumes nothing.
+use Prim.Native.Nat.{ℕ, zero, suc, _+_, _-_, _%_, _≤_, _<_}
+use mathlib.Core.Path.{_≡_, refl, ap, sym, _∙_}
+use mathlib.Core.Bool.{Bool, true, false, cond, _||_}
+use mathlib.Core.List.{List, [], _∷_, _++_, map}
+use native.Mathlib.Omega.{arith}
+use native.Mathlib.Nat.{le-refl}
+use native.Mathlib.Decide.{decLe}
+use native.Mathlib.Numerals.{add-one}
+use lib.Dec.{eqb}
+use lib.ListN.{length, getD, set, length-set}
+use lib.Seq.{getD-set-same, getD-set-other}
+use Rattle.language.specs.Tree.{Tree, leaf, catenation, union, star, nodes}
+use Rattle.tree.specs.Cut.{open-size}
+use Rattle.tree.specs.Records.{labels}
+use Rattle.tree.specs.Lengths.{length-labels}
+use Rattle.tree.specs.Choice.{open-at-most}
+use Rattle.tree.specs.Seats.{Seat, seats, seat-at, label, root-label, cut-edges, of-left, of-right, left-slot, right-slot, held, held-seat, labels-seats, length-seats, seats-seated, Around, around}
+use Rattle.tree.specs.Gathered.{open-sum, cut-sum, nodes-gathered, open-gathered, cuts-gathered, cut-edges-lt}
+
+-- the labels are those of one tree, in postorder
+pub record Postorder (ls : List ℕ) : Type 0 where
+  pub tree : Tree ℕ
+  pub same : ls ≡ labels tree
+
+-- the subtree whose root is record i
+abbrev pub node : Tree ℕ → ℕ → Tree ℕ
+node t i = seat-at (seats t 0 1) i .tree
+
+-- three lists with a slot for each record there can be, and slot 0
+pub record Room (sizes opens cuts : List ℕ) : Type 0 where
+  pub for-sizes : length sizes ≡ 2048
+  pub for-opens : length opens ≡ 2048
+  pub for-cuts : length cuts ≡ 2048
+
+-- slots 0 to i hold that number of the subtrees
+pub record Holds (f : Tree ℕ → ℕ) (t : Tree ℕ) (i : ℕ) (slots : List ℕ) : Type 0 where
+  pub slot : (j : ℕ) → j ≤ i → getD slots j 0 ≡ held (λ (x : Seat). f (x .tree)) (seats t 0 1) j
+
+-- the records below number i are measured
+pub record Measured (ls sizes opens cuts : List ℕ) (i : ℕ) : Type 0 where
+  pub sized : (t : Tree ℕ) → ls ≡ labels t → Holds nodes t i sizes
+  pub opened : (t : Tree ℕ) → ls ≡ labels t → Holds open-size t i opens
+  pub counted : (t : Tree ℕ) → ls ≡ labels t → Holds cut-edges t i cuts
+
+-- slot 0 holds nothing
+pub holds-none : (f : Tree ℕ → ℕ) (t : Tree ℕ) (slots : List ℕ) → getD slots 0 0 ≡ 0 → Holds f t 0 slots
+holds-none f t slots e = record { slot = λ j h. let z : j ≡ 0 = omega arith in rw z e }
+
+-- one record more
+pub holds-more : (f : Tree ℕ → ℕ) (t : Tree ℕ) (i : ℕ) (slots : List ℕ) (v : ℕ) → Holds f t i slots → i < nodes t → i + 1 < length slots → v ≡ f (node t i)
+    → Holds f t (i + 1) (set slots (i + 1) v)
+holds-more f t i slots v w h k e = record { slot = λ j l. by-place j l (decLe j i) }
+  where
+    by-place : (j : ℕ) → j ≤ i + 1 → Dec (j ≤ i) → getD (set slots (i + 1) v) j 0 ≡ held (λ (x : Seat). f (x .tree)) (seats t 0 1) j
+    by-place j l (yes m) = getD-set-other slots (i + 1) j v 0 (omega arith) ∙ w .slot j m
+    by-place j l (no m) =
+        let here : j ≡ i + 1 = omega arith in
+        rw here (getD-set-same slots (i + 1) v 0 k ∙ e ∙ rw add-one (sym (held-seat (λ (x : Seat). f (x .tree)) (seats t 0 1) i (rw (length-seats t 0 1) h))))
+
+-- a record is one of the tree
+pub in-tree : (ls : List ℕ) (t : Tree ℕ) (i : ℕ) → ls ≡ labels t → i < length ls → i < nodes t
+in-tree ls t i e h = omega (arith, ap length e, length-labels t)
+
+-- label i is that of the subtree at record i
+pub label-at : (ls : List ℕ) (t : Tree ℕ) (i : ℕ) → ls ≡ labels t → i < nodes t → getD ls i 0 ≡ root-label (node t i)
+label-at ls t i e h = rw (e, labels-seats t 0 1) (held-seat label (seats t 0 1) i (rw (length-seats t 0 1) h))
+
+-- a right child's slot is no later than its parent's record
+pub right-slot-le : (l i : ℕ) → right-slot l i ≤ i
+right-slot-le l i = by-test (eqb l 2 || eqb l 3)
+  where
+    by-test : (b : Bool) → cond b i 0 ≤ i
+    by-test true = le-refl i
+    by-test false = omega arith
+
+-- nor is a left child's
+pub left-slot-le : (l i size : ℕ) → left-slot l i size ≤ i
+left-slot-le l i size = by-test (eqb (l % 256) 1)
+  where
+    by-test : (b : Bool) → cond b 0 (i - size) ≤ i
+    by-test true = omega arith
+    by-test false = omega arith
+
+-- a number that is at most n for every tree is so for a child that may not be there
+of-left-le : (f : Tree ℕ → ℕ) (n : ℕ) → ((t : Tree ℕ) → f t ≤ n) → (u : Tree ℕ) → of-left f u ≤ n
+of-left-le f n h (leaf a) = omega arith
+of-left-le f n h (catenation s t) = h s
+of-left-le f n h (union s t) = h s
+of-left-le f n h (star s) = h s
+
+of-right-le : (f : Tree ℕ → ℕ) (n : ℕ) → ((t : Tree ℕ) → f t ≤ n) → (u : Tree ℕ) → of-right f u ≤ n
+of-right-le f n h (leaf a) = omega arith
+of-right-le f n h (catenation s t) = h t
+of-right-le f n h (union s t) = h t
+of-right-le f n h (star s) = omega arith
+
+-- what the slots of record i's children hold
+pub record Children (t : Tree ℕ) (i left right : ℕ) (sizes opens cuts : List ℕ) : Type 0 where
+  pub left-size : getD sizes left 0 ≡ of-left nodes (node t i)
+  pub right-size : getD sizes right 0 ≡ of-right nodes (node t i)
+  pub left-open : getD opens left 0 ≡ of-left open-size (node t i)
+  pub right-open : getD opens right 0 ≡ of-right open-size (node t i)
+  pub left-cuts : getD cuts left 0 ≡ of-left cut-edges (node t i)
+  pub right-cuts : getD cuts right 0 ≡ of-right cut-edges (node t i)
+  pub inside : of-left nodes (node t i) + of-right nodes (node t i) ≤ i
+
+-- the children's slots hold the children's numbers
+pub children : (ls : List ℕ) (t : Tree ℕ) (i left right : ℕ) (sizes opens cuts : List ℕ) → ls ≡ labels t → i < length ls → Measured ls sizes opens cuts i
+    → right ≡ right-slot (getD ls i 0) i → left ≡ left-slot (getD ls i 0) i (getD sizes right 0) → Children t i left right sizes opens cuts
+children ls t i left right sizes opens cuts e inside m r l =
+    let h : i < nodes t = in-tree ls t i e inside in
+    let s : List Seat = seats t 0 1 in
+    let a : Around s i (seat-at s i) = around s i (seats-seated t 0 1) (rw (length-seats t 0 1) h) in
+    let lab : getD ls i 0 ≡ root-label (node t i) = label-at ls t i e h in
+    let right-at : (f : Tree ℕ → ℕ) (slots : List ℕ) → Holds f t i slots → getD slots right 0 ≡ of-right f (node t i) =
+    λ f slots w. w .slot right (rw r (right-slot-le (getD ls i 0) i)) ∙ rw (r, lab) (a .right (λ (x : Seat). f (x .tree))) in
+    let size : getD sizes right 0 ≡ of-right nodes (node t i) = right-at nodes sizes (m .sized t e) in
+    let left-at : (f : Tree ℕ → ℕ) (slots : List ℕ) → Holds f t i slots → getD slots left 0 ≡ of-left f (node t i) =
+    λ f slots w. w .slot left (rw l (left-slot-le (getD ls i 0) i (getD sizes right 0))) ∙ rw (l, size, lab) (a .left (λ (x : Seat). f (x .tree))) in
+    record {
+      left-size = left-at nodes sizes (m .sized t e);
+      right-size = size;
+      left-open = left-at open-size opens (m .opened t e);
+      right-open = right-at open-size opens (m .opened t e);
+      left-cuts = left-at cut-edges cuts (m .counted t e);
+      right-cuts = right-at cut-edges cuts (m .counted t e);
+      inside = a .inside;
+    }
+
+-- a right child has no more nodes than there are records before its parent
+pub right-size-le : (ls : List ℕ) (t : Tree ℕ) (i right : ℕ) (sizes opens cuts : List ℕ) → ls ≡ labels t → i < length ls → Measured ls sizes opens cuts i
+    → right ≡ right-slot (getD ls i 0) i → getD sizes right 0 ≤ i
+right-size-le ls t i right sizes opens cuts e h m r =
+    let c = children ls t i (left-slot (getD ls i 0) i (getD sizes right 0)) right sizes opens cuts e h m r refl in omega (arith, c .right-size, c .inside)
+
+-- fewer edges are cut below a node than there are nodes
+below-cuts : (u : Tree ℕ) → of-left cut-edges u + of-right cut-edges u ≤ of-left nodes u + of-right nodes u
+below-cuts (leaf a) = omega arith
+below-cuts (catenation s t) = omega (arith, cut-edges-lt s, cut-edges-lt t)
+below-cuts (union s t) = omega (arith, cut-edges-lt s, cut-edges-lt t)
+below-cuts (star s) = omega (arith, cut-edges-lt s)
+
+-- what follows for the record itself, from what its children's slots hold
+pub record Gathered (t : Tree ℕ) (i size left-open right-open left-cuts right-cuts : ℕ) : Type 0 where
+  pub size-is : size ≡ nodes (node t i)
+  pub size-le : size ≤ i + 1
+  pub left-le : left-open ≤ 15
+  pub right-le : right-open ≤ 15
+  pub cuts-le : left-cuts + right-cuts ≤ i
+  pub open-is : open-sum left-open right-open ≡ open-size (node t i)
+  pub cuts-is : cut-sum left-open right-open left-cuts right-cuts ≡ cut-edges (node t i)
+
+pub gathered : (t : Tree ℕ) (i left right : ℕ) (sizes opens cuts : List ℕ) → Children t i left right sizes opens cuts
+    → Gathered t i (getD sizes left 0 + getD sizes right 0 + 1) (getD opens left 0) (getD opens right 0) (getD cuts left 0) (getD cuts right 0)
+gathered t i left right sizes opens cuts c =
+    let u : Tree ℕ = node t i in
+    record {
+      size-is = omega (arith, nodes-gathered u, c .left-size, c .right-size);
+      size-le = omega (arith, c .left-size, c .right-size, c .inside);
+      left-le = rw (c .left-open) (of-left-le open-size 15 open-at-most u);
+      right-le = rw (c .right-open) (of-right-le open-size 15 open-at-most u);
+      cuts-le = omega (arith, c .left-cuts, c .right-cuts, c .inside, below-cuts u);
+      open-is = rw (c .left-open, c .right-open) (sym (open-gathered u));
+      cuts-is = rw (c .left-open, c .right-open, c .left-cuts, c .right-cuts) (sym (cuts-gathered u));
+    }
+
+-- one record more is measured
+pub measured-more : (ls : List ℕ) (i size open-here cuts-here : ℕ) (sizes opens cuts : List ℕ) → i < length ls → length ls ≤ 2047 → Room sizes opens cuts → Measured ls sizes opens cuts i
+    → ((t : Tree ℕ) → ls ≡ labels t → (size ≡ nodes (node t i)) × (open-here ≡ open-size (node t i)) × (cuts-here ≡ cut-edges (node t i)))
+    → Measured ls (set sizes (i + 1) size) (set opens (i + 1) open-here) (set cuts (i + 1) cuts-here) (i + 1)
+measured-more ls i size open-here cuts-here sizes opens cuts h k room m found =
+    record {
+      sized = λ t e. holds-more nodes t i sizes size (m .sized t e) (in-tree ls t i e h) (omega (arith, room .for-sizes)) (found t e .0);
+      opened = λ t e. holds-more open-size t i opens open-here (m .opened t e) (in-tree ls t i e h) (omega (arith, room .for-opens)) (found t e .1);
+      counted = λ t e. holds-more cut-edges t i cuts cuts-here (m .counted t e) (in-tree ls t i e h) (omega (arith, room .for-cuts)) (found t e .2);
+    }
+
+-- before the first record nothing is measured
+pub measured-none : (ls sizes opens cuts : List ℕ) → Room sizes opens cuts → Measured ls (set sizes 0 0) (set opens 0 0) (set cuts 0 0) 0
+measured-none ls sizes opens cuts room =
+    record {
+      sized = λ t e. holds-none nodes t (set sizes 0 0) (getD-set-same sizes 0 0 0 (omega (arith, room .for-sizes)));
+      opened = λ t e. holds-none open-size t (set opens 0 0) (getD-set-same opens 0 0 0 (omega (arith, room .for-opens)));
+      counted = λ t e. holds-none cut-edges t (set cuts 0 0) (getD-set-same cuts 0 0 0 (omega (arith, room .for-cuts)));
+    }
+
+-- stores leave the room
+pub room-stays : (sizes opens cuts : List ℕ) (i a b c : ℕ) → Room sizes opens cuts → Room (set sizes i a) (set opens i b) (set cuts i c)
+room-stays sizes opens cuts i a b c room =
+    record {
+      for-sizes = length-set sizes i a ∙ room .for-sizes;
+      for-opens = length-set opens i b ∙ room .for-opens;
+      for-cuts = length-set cuts i c ∙ room .for-cuts;
+    }
