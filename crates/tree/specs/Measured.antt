@@ -13,10 +13,10 @@ use lib.ListN.{length, getD, set, length-set}
 use lib.Seq.{getD-set-same, getD-set-other}
 use Rattle.language.specs.Tree.{Tree, leaf, catenation, union, star, nodes}
 use Rattle.tree.specs.Cut.{open-size}
-use Rattle.tree.specs.Records.{labels}
+use Rattle.tree.specs.Records.{labels, piece-count}
 use Rattle.tree.specs.Lengths.{length-labels}
 use Rattle.tree.specs.Choice.{open-at-most}
-use Rattle.tree.specs.Seats.{Seat, seats, seat-at, label, root-label, cut-edges, of-left, of-right, left-slot, right-slot, held, held-seat, labels-seats, length-seats, seats-seated, Around, around}
+use Rattle.tree.specs.Seats.{Seat, seats, seat-at, label, root-label, cut-edges, of-left, of-right, left-slot, right-slot, held, held-seat, held-whole, labels-seats, length-seats, seats-seated, Around, around}
 use Rattle.tree.specs.Gathered.{open-sum, cut-sum, nodes-gathered, open-gathered, cuts-gathered, cut-edges-lt}
 
 -- the labels are those of one tree, in postorder
@@ -194,3 +194,23 @@ room-stays sizes opens cuts i a b c room =
       for-opens = length-set opens i b ∙ room .for-opens;
       for-cuts = length-set cuts i c ∙ room .for-cuts;
     }
+
+-- the root's slot holds the whole tree's number
+pub holds-root : (f : Tree ℕ → ℕ) (ls : List ℕ) (t : Tree ℕ) (slots : List ℕ) → ls ≡ labels t → Holds f t (length ls) slots → getD slots (length ls) 0 ≡ f t
+holds-root f ls t slots e w =
+    let n : length ls ≡ nodes t = ap length e ∙ length-labels t in
+    w .slot (length ls) (le-refl (length ls)) ∙ rw n (held-whole (λ (x : Seat). f (x .tree)) t 0 1)
+
+-- r is the piece count of the tree with these labels
+pub record Counted (ls : List ℕ) (r : ℕ) : Type 0 where
+  pub count : (t : Tree ℕ) → ls ≡ labels t → r ≡ piece-count t
+
+-- the root's cut edges give the piece count
+pub counted-all : (ls sizes opens cuts : List ℕ) → Measured ls sizes opens cuts (length ls) → Counted ls (1 + getD cuts (length ls) 0)
+counted-all ls sizes opens cuts m =
+    record { count = λ t e. ap (λ (n : ℕ). 1 + n) (holds-root cut-edges ls t cuts e (m .counted t e)) }
+
+-- and they are fewer than the labels
+pub root-cuts-lt : (ls sizes opens cuts : List ℕ) → Postorder ls → Measured ls sizes opens cuts (length ls) → getD cuts (length ls) 0 < length ls
+root-cuts-lt ls sizes opens cuts o m =
+    omega (arith, holds-root cut-edges ls (o .tree) cuts (o .same) (m .counted (o .tree) (o .same)), cut-edges-lt (o .tree), ap length (o .same), length-labels (o .tree))

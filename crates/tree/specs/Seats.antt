@@ -7,7 +7,7 @@ use mathlib.Core.Path.{_≡_, refl, ap, sym, _∙_, subst}
 use mathlib.Core.Bool.{Bool, true, false, cond, _||_}
 use mathlib.Core.List.{List, [], _∷_, _++_, map, map-append, append-assoc, append-nil}
 use native.Mathlib.Omega.{arith}
-use native.Mathlib.Nat.{not-suc-le-zero, le-of-suc-le-suc, sub-zero}
+use native.Mathlib.Nat.{not-suc-le-zero, le-of-suc-le-suc, sub-zero, zero-add}
 use native.Mathlib.Decide.{decLt}
 use native.Mathlib.Numerals.{add-one}
 use lib.Dec.{eqb}
@@ -232,6 +232,12 @@ held-root f before after x j e =
     let all : length (under x) ≡ length rest + 1 = ap length (root-last x) ∙ length-append rest (x ∷ []) in
     let long : suc (length (before ++ rest)) ≡ j = simp length-append (omega (arith, length-seats (x .tree) (x .piece) (x .new))) in
     rw (split, ← long) (held-seat f (before ++ rest ++ x ∷ after) (length (before ++ rest)) (simp length-append (omega arith)) ∙ ap f (getD-append-seam (before ++ rest) x after no-seat))
+
+-- the last slot is the root's
+pub held-whole : (f : Seat → ℕ) (t : Tree ℕ) (p n : ℕ) → held f (seats t p n) (nodes t) ≡ f (seat t p n)
+held-whole f t p n =
+    let one-part : seats t p n ≡ [] ++ seats t p n ++ [] = sym (append-nil (seats t p n)) in
+    ap (λ (l : List Seat). held f l (nodes t)) one-part ∙ held-root f [] [] (seat t p n) (nodes t) (zero-add (nodes t))
 
 -- a number of the seat of u's left or only child, 0 where there is none
 abbrev pub of-left-seat : (Seat → ℕ) → Seat → ℕ
