@@ -17,3 +17,4 @@ pub mod Seats
 pub mod Gathered
 pub mod Written
 pub mod Measured
+pub mod Bytes

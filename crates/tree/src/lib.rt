@@ -1,4 +1,5 @@
 // Tree records: the cut, the numbers of children and pieces, and whether a lent list is good.
+mod bytes;
 mod cut;
 mod measure;
 pub mod number;
