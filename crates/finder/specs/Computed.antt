@@ -8,7 +8,8 @@ use mathlib.Core.List.{List, [], _∷_}
 use Rattle.finder.specs.Decide.{both}
 use Rattle.language.specs.Automaton.{State, start, accepting, left, right, States, Started, Stepped, After}
 use Rattle.language.specs.Nested.{Nested, leaf, catenation, union, star, below, whole, Models, Reading, at-leaf, catenation-left, catenation-right, union-left, union-right, star-inside, in-child, Move, Sweep}
-use Rattle.language.specs.Walk.{Entered, First, Second, Walked, walked-keeps, walked-more, two-walks-settle}
+use Rattle.language.specs.Walk.{Entered, First, Second, Walked, walked-keeps, walked-more}
+use Rattle.language.specs.TwoWalks.{two-walks-settle}
 use Rattle.language.specs.Visits.{sweep-walked, sweep-within}
 use Rattle.language.specs.Sweeps.{sweeps-start, sweeps-step}
 
@@ -172,10 +173,10 @@ module _ {A : Type 0} (Takes : A → ℕ → Type 0) (takes : A → ℕ → Bool
 
 -- two walks mark what two sweeps mark
 walks-sweep : {A : Type 0} (x : Nested A) (X : States) (q : State) → Walked x (Walked x X) q ↔ Sweep x (Sweep x X) q
-walks-sweep x X q =
-    ( λ m. sweep-walked x (Sweep x X) q (walked-more x (Walked x X) (Sweep x X) (sweep-walked x X) q m)
-    , sweep-within x (Sweep x X) _ (two-walks-settle x X) (sweep-within x X _ (two-walks-settle x X) (λ p m. walked-keeps x _ p (walked-keeps x X p m))) q
-    )
+walks-sweep x X q = (
+  λ m. sweep-walked x (Sweep x X) q (walked-more x (Walked x X) (Sweep x X) (sweep-walked x X) q m),
+  sweep-within x (Sweep x X) _ (two-walks-settle x X) (sweep-within x X _ (two-walks-settle x X) (λ p m. walked-keeps x _ p (walked-keeps x X p m))) q,
+)
 
 -- two walks over tests decide two sweeps
 swept-exactly : {A : Type 0} (x : Nested A) (f : Test) (X : States) → Decides f X → Decides (walked x (walked x f)) (Sweep x (Sweep x X))

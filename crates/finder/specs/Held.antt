@@ -129,7 +129,7 @@ held-after t text words e =
     let x : Nested ℕ = nest t (wanted t) in
     let computed = computed-models Is eqb (λ a b. (eqb-true a b, eq-eqb a b)) x text in
     let same : whole x ≡ t = whole-nest t (wanted t) in
-    record
-      { clean = tidy-clean (below x) words (also-first _ _ e)
-      ; models = λ q has. Iff·trans (agrees-exactly x (getD words 0 0) 0 (drop 1 words) _ (also-second _ _ e) q has) (rw same at (computed q has))
-      }
+    record {
+      clean = tidy-clean (below x) words (also-first _ _ e);
+      models = λ q has. Iff·trans (agrees-exactly x (getD words 0 0) 0 (drop 1 words) _ (also-second _ _ e) q has) (rw same at (computed q has));
+    }
