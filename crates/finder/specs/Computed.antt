@@ -41,9 +41,11 @@ entered f p accepting = f accepting
 entered f p (left q) = f (left q)
 entered f p (right q) = f (right q)
 
+-- what a walk makes of a left or only child
 abbrev first : (Test → Test) → Test → Test
 first walk f = walk (entered (λ p. f (left p)) (f start))
 
+-- what a walk makes of a right child, entered where p passes
 abbrev second : (Test → Test) → Bool → Test → Test
 second walk p f = walk (entered (λ q. f (right q)) p)
 
@@ -67,6 +69,7 @@ walked (below x) f (left q) = first (walked x) f q
 walked (below x) f (right q) = f (right q)
 walked (below x) f accepting = f accepting || first (walked x) f accepting
 
+-- the start added to a test is the start added to the set that it decides
 entered-exactly : {f : Test} {X : States} {p : Bool} {P : Type 0} → Decides f X → (p ≡ true) ↔ P → Decides (entered f p) (Entered X P)
 entered-exactly {f = f} {p = p} d e start = or-exactly (f start) p (d start) e
 entered-exactly d e accepting = d accepting
@@ -77,6 +80,7 @@ entered-exactly d e (right q) = d (right q)
 abbrev Follows : (Test → Test) → (States → States) → Type 1
 Follows walk Walk = (f : Test) (X : States) → Decides f X → Decides (walk f) (Walk X)
 
+-- so is a left child walked, and a right one
 first-exactly : {walk : Test → Test} {Walk : States → States} → Follows walk Walk → Follows (first walk) (First Walk)
 first-exactly follows f X d = follows _ _ (entered-exactly (λ p. d (left p)) (d start))
 
@@ -168,6 +172,7 @@ module _ {A : Type 0} (Takes : A → ℕ → Type 0) (takes : A → ℕ → Bool
   moved-found (below x) f (left q) e = wider left (λ p. in-child) (moved-found x (λ p. f (left p)) q e)
   moved-found (below x) f (right q) e = absurd (false≢true e)
 
+  -- so the test decides the move
   moved-exactly : (x : Nested A) (f : Test) → Decides (moved takes b x f) (Move Takes b x (Passing f))
   moved-exactly x f q = (moved-found x f q, λ m. moved-passes (m .2) f (m .1))
 
@@ -189,6 +194,7 @@ only-start accepting = false
 only-start (left q) = false
 only-start (right q) = false
 
+-- that test decides the set of the start alone
 only-start-exactly : Decides only-start (λ q. q ≡ start)
 only-start-exactly start = (λ e. refl, λ e. refl)
 only-start-exactly accepting = (λ e. absurd (false≢true e), ap only-start)
@@ -214,6 +220,7 @@ module _ {A : Type 0} (takes : A → ℕ → Bool) (x : Nested A) where
   after-test (b ∷ w) f = after-test w (step-test b f)
 
 module _ {A : Type 0} (Takes : A → ℕ → Type 0) (takes : A → ℕ → Bool) (exactly : (a : A) (b : ℕ) → (takes a b ≡ true) ↔ Takes a b) (x : Nested A) where
+  -- byte by byte the test models the marks of the plain simulation
   after-models : (w : List ℕ) (f : Test) (X : States) → Models x (Passing f) X → Models x (Passing (after-test takes x w f)) (After Takes (whole x) w X)
   after-models [] f X models = models
   after-models (b ∷ w) f X models =

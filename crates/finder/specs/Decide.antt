@@ -52,6 +52,7 @@ split-later : {test : List ℕ → List ℕ → Bool} {b : ℕ} {w : List ℕ} �
 split-later {b = b} r =
     record { head = b ∷ r .head; tail = r .tail; joined = ap (λ (l : List ℕ). b ∷ l) (r .joined); passes = r .passes }
 
+-- where the test for splits passes, a split passes: here, or after the first byte
 split-found : (test : List ℕ → List ℕ → Bool) (w : List ℕ) → any-split test w ≡ true → Split test w
 unfolding any-split
 split-found test [] e = record { head = []; tail = []; joined = refl; passes = e }
@@ -80,6 +81,7 @@ repeat-found test (suc n) (b ∷ w) e =
     let made : Repeated (λ u. test u ≡ true) (b ∷ (r .head ++ r .tail)) = more p (repeat-found test n (r .tail) q) in
     rw (r .joined) made
 
+-- no bytes are made of no texts
 repeat-empty : (test : List ℕ → Bool) (n : ℕ) → any-repeat test n [] ≡ true
 unfolding any-repeat
 repeat-empty test zero = refl
@@ -112,6 +114,7 @@ module _ {A : Type 0} (takes : A → ℕ → Bool) where
   matched (star s) w = any-repeat (matched s) (length w) w
 
 module _ {A : Type 0} (Takes : A → ℕ → Type 0) (takes : A → ℕ → Bool) (exactly : (a : A) (b : ℕ) → (takes a b ≡ true) ↔ Takes a b) where
+  -- a text of one byte that the leaf takes lies in its language
   leaf-found : (a : A) (w : List ℕ) → one-byte (takes a) w ≡ true → Language Takes (leaf a) w
   unfolding one-byte
   leaf-found a [] e = absurd (false≢true e)
@@ -148,6 +151,7 @@ module _ {A : Type 0} (Takes : A → ℕ → Type 0) (takes : A → ℕ → Bool
 abbrev pub matches : Tree ℕ → List ℕ → Bool
 matches = matched eqb
 
+-- it says exactly that
 pub matches-exactly : (t : Tree ℕ) (w : List ℕ) → (matches t w ≡ true) ↔ Matches t w
 matches-exactly = matched-exactly Is eqb (λ a b. (eqb-true a b, eq-eqb a b))
 

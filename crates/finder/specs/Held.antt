@@ -38,6 +38,7 @@ unfoldable pub also : Bool → Bool → Bool
 also true b = b
 also false b = false
 
+-- then each of them does
 pub also-first : (a b : Bool) → also a b ≡ true → a ≡ true
 unfolding also
 also-first true b e = refl
@@ -53,9 +54,11 @@ unfoldable pub ends : (w low high : ℕ) → Test → Bool
 ends w low high f = also (Bool·beq (bit w low) (f start)) (Bool·beq (bit w high) (f accepting))
 
 module _ (w low high : ℕ) (f : Test) (e : ends w low high f ≡ true) where
+  -- a bit with the same answer as a test says what the test says
   bit-answer : (i : ℕ) (b : Bool) → Bool·beq (bit w i) b ≡ true → Bit w i ↔ (b ≡ true)
   bit-answer i b same = Iff·trans (eq-eqb (w / 2 ^ i % 2) 1, eqb-true (w / 2 ^ i % 2) 1) (same-answer (bit w i) b same)
 
+  -- so it is at the start and at the accepting state
   at-start : Bit w low ↔ Passing f start
   unfolding ends
   at-start = bit-answer low (f start) (also-first _ _ e)
@@ -108,6 +111,7 @@ tidy (union x y) ws = also (tidy x ws) (tidy y (drop (run x) ws))
 tidy (star x) ws = tidy x ws
 tidy (below x) ws = also (ltb (getD ws 0 0) (2 ^ width x)) (tidy x (drop 1 ws))
 
+-- where that test passes, those words are clean
 tidy-clean : {A : Type 0} (x : Nested A) (ws : List ℕ) → tidy x ws ≡ true → Clean-below x ws
 unfolding tidy
 tidy-clean (leaf a) ws e = tt

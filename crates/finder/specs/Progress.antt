@@ -45,6 +45,7 @@ module _ (L : List ℕ → Type 0) (text : List ℕ) where
     pub here : Part L text s best
     pub latest : None-after s best
 
+  -- no part begins at s, or the latest end is known
   abbrev pub Settled : ℕ → Option ℕ → Type 0
   Settled s none = (j : ℕ) → Part L text s j → ⊥
   Settled s (some best) = Best s best

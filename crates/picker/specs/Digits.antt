@@ -76,6 +76,7 @@ abbrev pub value-after : ℕ → List ℕ → ℕ
 value-after read [] = read
 value-after read (d ∷ ds) = value-after (read * 10 + (d - 48)) ds
 
+-- one more digit at the end: ten times the number, and the digit
 value-last : (read : ℕ) (ds : List ℕ) (d : ℕ) → value-after read (ds ++ (d ∷ [])) ≡ value-after read ds * 10 + (d - 48)
 value-last read [] d = refl
 value-last read (c ∷ ds) d = value-last (read * 10 + (c - 48)) ds d

@@ -50,6 +50,7 @@ Holds (marks expression text words answer) = Read expression (λ t. Held t words
 Holds (answers expression text answer) = Read expression (λ t. (answer ≡ true) ↔ Matches t text)
 Holds (finds expression text answer) = Read expression (λ t. Answers (Matches t) text answer)
 
+-- the table
 abbrev pub edges : List Row
 edges =
     -- P1
@@ -107,16 +108,19 @@ row-test (marks expression text words answer) = is-tree (λ t. also (holds-after
 row-test (answers expression text answer) = is-tree (λ t. Bool·beq (matches t text) answer) (scanned expression)
 row-test (finds expression text answer) = is-tree (λ t. same-answer (searched (matches t) text) answer) (scanned expression)
 
+-- an outcome that passes the test is that refusal
 refusal-holds : (number place : ℕ) (outcome : Outcome) → is-refusal number place outcome ≡ true → outcome ≡ refused number place
 unfolding is-refusal
 refusal-holds number place (tree t) e = absurd (false≢true e)
 refusal-holds number place (refused n p) e = rw (eqb-true n number (also-first _ _ e), eqb-true p place (also-second _ _ e))
 
+-- an outcome that passes the test is a tree, of which holds what the test stands for
 tree-holds : (expression : List ℕ) (test : Tree ℕ → Bool) (Says : Tree ℕ → Type 0) → ((t : Tree ℕ) → test t ≡ true → Says t) → (outcome : Outcome) → scanned expression ≡ outcome → is-tree test outcome ≡ true → Read expression Says
 unfolding is-tree
 tree-holds expression test Says sound (tree t) same e = (t, same, sound t e)
 tree-holds expression test Says sound (refused n p) same e = absurd (false≢true e)
 
+-- two answers that pass the test are the same
 answer-holds : (a b : Answer) → same-answer a b ≡ true → a ≡ b
 unfolding same-answer
 answer-holds (at s e) (at i j) h = rw (eqb-true s i (also-first _ _ h), eqb-true e j (also-second _ _ h))
@@ -149,6 +153,7 @@ unfoldable rows-test : List Row → Bool
 rows-test [] = true
 rows-test (row ∷ rows) = also (row-test row) (rows-test rows)
 
+-- then every row holds
 rows-hold : (rows : List Row) → rows-test rows ≡ true → Every Holds rows
 unfolding rows-test
 rows-hold [] e = tt

@@ -17,6 +17,7 @@ abbrev pub in-line : ℕ → List (List ℕ) → List (List ℕ)
 in-line b [] = (b ∷ []) ∷ []
 in-line b (line ∷ lines) = (b ∷ line) ∷ lines
 
+-- the one or the other, by a test
 abbrev pub pick-lines : Bool → List (List ℕ) → List (List ℕ) → List (List ℕ)
 pick-lines true a b = a
 pick-lines false a b = b

@@ -43,6 +43,7 @@ abbrev pub yes-after : Bool → ℕ → ℕ
 yes-after true yes-lines = yes-lines + 1
 yes-after false yes-lines = yes-lines
 
+-- the one or the other, by a test
 abbrev pub pick-bytes : Bool → List ℕ → List ℕ → List ℕ
 pick-bytes true a b = a
 pick-bytes false a b = b

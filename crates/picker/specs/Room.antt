@@ -36,6 +36,7 @@ yes-after-most true count yes-lines h = omega arith
 yes-after-most false count yes-lines h = omega arith
 
 module _ (matching : Tree ℕ → List ℕ → Bool) where
+  -- 16 bytes at most for each text that is left, and 31 for the last line
   pub text-lines-length : (t : Tree ℕ) (later : List (List ℕ)) (count yes-lines : ℕ) → yes-lines ≤ count → count + length later < 100000 → length (text-lines matching t count yes-lines later) ≤ 16 * length later + 31
   unfolding text-lines
   text-lines-length t [] count yes-lines h k = omega (arith, total-line-length count yes-lines (omega arith) h)

@@ -20,6 +20,7 @@ pub record Run : Type 0 where
 abbrev pub Prints : Run → Type 0
 Prints run = picked (run .input) ≡ run .printed
 
+-- the sample, and runs at the edges of what a line is
 abbrev pub runs : List Run
 runs =
     -- the sample

@@ -36,6 +36,7 @@ reads-size (next-factor r q) = omega (arith, reads-size r, reads-size q)
 reads-size (one-branch r) = reads-size r
 reads-size (next-branch r q) = omega (arith, reads-size r, reads-size q)
 
+-- so an expression of 1,024 bytes has at most 2,047 nodes
 pub written-size : {bytes : List ℕ} {t : Tree ℕ} → Written bytes t → nodes t + 1 ≤ 2 * length bytes
 written-size w = omega (arith, reads-size w)
 
@@ -73,16 +74,19 @@ scanned-exactly bytes t = (tree-case (cases bytes), λ (h, w). written-case (cas
 
 -- the number of a refusal tells the case apart, since the scan itself gives none below 3
 module _ {bytes : List ℕ} {place : ℕ} where
+  -- 1 comes from no bytes alone
   empty-case : {outcome : Outcome} → Case bytes outcome → outcome ≡ refused 1 place → (bytes ≡ []) × (place ≡ 0)
   empty-case (empty p) e = (p, cc)
   empty-case (long h) e = let z : _≡_ {A = ℕ} 2 1 = cc in absurd (omega arith)
   empty-case (usual h k) e = absurd (omega (arith, refused-cases bytes 1 place e))
 
+  -- 2 comes from more than 1,024 bytes alone
   long-case : {outcome : Outcome} → Case bytes outcome → outcome ≡ refused 2 place → (1024 < length bytes) × (place ≡ 1024)
   long-case (empty p) e = let z : _≡_ {A = ℕ} 1 2 = cc in absurd (omega arith)
   long-case (long h) e = (h, cc)
   long-case (usual h k) e = absurd (omega (arith, refused-cases bytes 2 place e))
 
+  -- and more than 1,024 bytes give 2
   long-given : {outcome : Outcome} → Case bytes outcome → 1024 < length bytes → place ≡ 1024 → outcome ≡ refused 2 place
   long-given (empty p) h q = let none : length bytes ≡ 0 = rw p in absurd (omega arith)
   long-given (long k) h q = rw q
@@ -103,10 +107,12 @@ pub record Refusal (number place : ℕ) : Type 0 where
   pub most : number ≤ 7
   pub inside : place ≤ 1024
 
+-- in each of the three cases
 refusal-case : {bytes : List ℕ} {outcome : Outcome} {number place : ℕ} → Case bytes outcome → outcome ≡ refused number place → Refusal number place
 refusal-case {number = number} {place = place} (empty p) e = let n : 1 ≡ number = cc in let at : 0 ≡ place = cc in omega arith
 refusal-case {number = number} {place = place} (long h) e = let n : 2 ≡ number = cc in let at : 1024 ≡ place = cc in omega arith
 refusal-case {bytes = bytes} (usual h k) e = omega (arith, refused-cases bytes _ _ e)
 
+-- so is every refusal of an expression
 pub scanned-refusal : (bytes : List ℕ) (number place : ℕ) → scanned bytes ≡ refused number place → Refusal number place
 scanned-refusal bytes number place e = refusal-case (cases bytes) e

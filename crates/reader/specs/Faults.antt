@@ -35,10 +35,12 @@ Opened end (g ∷ groups) = (g .place ≤ end) × Opened end groups
 
 -- one byte before the end, where whatever follows it fits
 module _ (end place : ℕ) (h : place ≤ end) (on : Onward) (fits : (phase : Phase) (before : Before) (groups : List Group) → Marked end phase → Opened end groups → Fits end (on phase before groups)) where
+  -- whichever of two outcomes a test picks
   picked-fits : (test : Bool) (a b : Outcome) → Fits end a → Fits end b → Fits end (pick-outcome test a b)
   picked-fits true a b p q = p
   picked-fits false a b p q = q
 
+  -- where an operand is due
   operand-fits : (s : Sign) (b : ℕ) (before : Before) (groups : List Group) → Opened end groups → Fits end (operand s b place on before groups)
   operand-fits opening b before groups o =
       picked-fits (ltb (length groups) 32) _ (refused 6 place) (fits due nothing (record { place = place; outside = before } ∷ groups) tt (h, o)) (omega arith)
@@ -48,10 +50,12 @@ module _ (end place : ℕ) (h : place ≤ end) (on : Onward) (fits : (phase : Ph
   operand-fits backslash b before groups o = fits (escaping place) before groups h o
   operand-fits plain b before groups o = fits (after (leaf b)) before groups tt o
 
+  -- at a `)` after an operand
   closed-fits : (t : Tree ℕ) (before : Before) (groups : List Group) → Opened end groups → Fits end (closed t place on before groups)
   closed-fits t before [] o = omega arith
   closed-fits t before (g ∷ groups) o = fits (after (finished before t)) (g .outside) groups tt (o .1)
 
+  -- after an operand
   follow-fits : (s : Sign) (b : ℕ) (t : Tree ℕ) (before : Before) (groups : List Group) → Opened end groups → Fits end (follow s b t place on before groups)
   follow-fits asterisk b t before groups o = fits (after (star t)) before groups tt o
   follow-fits bar b t before groups o = fits due (next-union before t) groups tt o
@@ -60,12 +64,14 @@ module _ (end place : ℕ) (h : place ≤ end) (on : Onward) (fits : (phase : Ph
   follow-fits backslash b t before groups o = operand-fits backslash b (next-factor before t) groups o
   follow-fits plain b t before groups o = operand-fits plain b (next-factor before t) groups o
 
+  -- in each phase
   byte-fits : (b : ℕ) (phase : Phase) (before : Before) (groups : List Group) → Marked end phase → Opened end groups → Fits end (byte-at b place phase on before groups)
   byte-fits b due before groups m o = operand-fits (sign-of b) b before groups o
   byte-fits b (escaping begin) before groups m o =
       picked-fits (special (sign-of b)) _ (refused 7 begin) (fits (after (leaf b)) before groups tt o) (omega arith)
   byte-fits b (after t) before groups m o = follow-fits (sign-of b) b t before groups o
 
+-- at the end in each phase
 end-fits : (end place : ℕ) → place ≤ end → (phase : Phase) (before : Before) (groups : List Group) → Marked end phase → Opened end groups → Fits end (end-at place phase before groups)
 end-fits end place h due before groups m o = omega arith
 end-fits end place h (escaping begin) before groups m o = omega arith

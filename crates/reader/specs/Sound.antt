@@ -106,6 +106,7 @@ module _ (whole rest : List ℕ) (t : Tree ℕ) (on : Onward) (sound : (phase : 
   only-true true first number place k e = k refl e
   only-true false first number place k e = no-tree e
 
+  -- where an operand is due
   operand-sound : (s : Sign) (b place : ℕ) (before : Before) (groups : List Group) → sign-of b ≡ s → Means b s → Stands whole (b ∷ rest) due before groups → operand s b place on before groups ≡ tree t → Written whole t
   operand-sound opening b place before groups p m st e =
       only-true (ltb (length groups) 32) _ 6 place (λ h. sound due nothing _ (opens-group (ltb-true (length groups) 32 h) (rw m at st))) e
@@ -115,10 +116,12 @@ module _ (whole rest : List ℕ) (t : Tree ℕ) (on : Onward) (sound : (phase : 
   operand-sound backslash b place before groups p m st e = sound (escaping place) before groups (escapes (rw m at st)) e
   operand-sound plain b place before groups p m st e = sound (after (leaf b)) before groups (takes-plain p st) e
 
+  -- at a `)` after an operand
   closed-sound : (s : Tree ℕ) (place : ℕ) (before : Before) (groups : List Group) → Stands whole (41 ∷ rest) (after s) before groups → closed s place on before groups ≡ tree t → Written whole t
   closed-sound s place before [] st e = no-tree e
   closed-sound s place before (g ∷ groups) st e = sound (after (finished before s)) (g .outside) groups (ends-group st) e
 
+  -- after an operand
   follow-sound : (sign : Sign) (b : ℕ) (s : Tree ℕ) (place : ℕ) (before : Before) (groups : List Group) → sign-of b ≡ sign → Means b sign → Stands whole (b ∷ rest) (after s) before groups → follow sign b s place on before groups ≡ tree t → Written whole t
   follow-sound asterisk b s place before groups p m st e = sound (after (star s)) before groups (stars (rw m at st)) e
   follow-sound bar b s place before groups p m st e = sound due (next-union before s) groups (ends-branch (rw m at st)) e
@@ -127,6 +130,7 @@ module _ (whole rest : List ℕ) (t : Tree ℕ) (on : Onward) (sound : (phase : 
   follow-sound backslash b s place before groups p m st e = operand-sound backslash b place (with-factor before s) groups p m (joins st) e
   follow-sound plain b s place before groups p m st e = operand-sound plain b place (with-factor before s) groups p m (joins st) e
 
+  -- in each phase
   byte-sound : (b place : ℕ) (phase : Phase) (before : Before) (groups : List Group) → Stands whole (b ∷ rest) phase before groups → byte-at b place phase on before groups ≡ tree t → Written whole t
   byte-sound b place due before groups st e = operand-sound (sign-of b) b place before groups refl (sign-means b) st e
   byte-sound b place (escaping begin) before groups st e =
