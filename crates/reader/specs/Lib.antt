@@ -8,7 +8,6 @@ pub mod Sound
 pub mod Faults
 pub mod Agree
 pub mod Text
-pub mod Examples
 pub mod Stopping
 pub mod Surroundings
 pub mod Reading
