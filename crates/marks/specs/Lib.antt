@@ -23,3 +23,4 @@ pub mod Passing
 pub mod Visiting
 pub mod Chains
 pub mod Sweeping
+pub mod Moved

@@ -49,6 +49,10 @@ module _ {Row : ℕ → ℕ → Type 0} {before after : List ℕ} {base n : ℕ}
         ∙ so-far .others k (⊎-elim inl (λ m. inr (omega arith)) h);
   }
 
+  -- one more, stored at a place that is the same
+  pub rows-set-at : {k : ℕ} (w : ℕ) → k ≡ base + n → base + n < length before → Row n w → Rows Row before (set after k w) base (n + 1)
+  rows-set-at w e l r = subst (λ (i : ℕ). Rows Row before (set after i w) base (n + 1)) (sym e) (rows-set w l r)
+
 -- an entry of the row of piece k, by its place in the table
 pub row-at : (table : List ℕ) (k n i : ℕ) → i < n → getD (row table k n) i 0 ≡ getD table (64 * k + i) 0
 row-at table k n i h = getD-take n (drop (64 * k) table) i 0 h ∙ getD-drop (64 * k) table i 0

@@ -6,6 +6,7 @@ ghost use lib.ListN.{length};
 ghost use Rattle.language.specs.Nested.{Nested};
 ghost use Rattle.marks.specs.Words.{width};
 ghost use Rattle.marks.specs.Plan.{row, takes, Moves};
+ghost use Rattle.marks.specs.Moved.{Moved-all};
 
 // The word of a piece, moved along the byte: a state that takes it has the label one above it, and leads to the next state.
 pub fn moved(labels: &[u16], piece: usize, word: u64, byte: u8) -> u64
@@ -27,4 +28,16 @@ pub fn moved(labels: &[u16], piece: usize, word: u64, byte: u8) -> u64
         state += 1;
     }
     picked << 1
+}
+
+// Moves the words of all pieces along the byte. A word of no marks is passed at once.
+pub fn move_all(labels: &[u16], words: &mut [u64], byte: u8, pieces: usize)
+    requires { ⌜ (64 * pieces ≤ length (now labels)) × (pieces ≤ length (now words)) ⌝ }
+    ensures { λ _. ⌜ Moved-all (now (labels .entry)) (now (words .entry)) (now (words .exit)) byte pieces ⌝ }
+{
+    let mut piece = 0;
+    while piece < pieces {
+        words[piece] = moved(labels, piece, words[piece], byte);
+        piece += 1;
+    }
 }
