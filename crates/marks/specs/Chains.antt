@@ -4,16 +4,16 @@ use Prim.Native.Nat.{ℕ, zero, suc, _+_, _-_, _^_, _≤_, _<_}
 use native.Mathlib.Omega.{arith}
 use native.Mathlib.Decide.{decLt}
 use mathlib.Core.Path.{_≡_, refl, sym, ap, _∙_, subst}
-use mathlib.Core.Logic.{_⊎_, inl, inr, _↔_, ⊎-elim}
+use mathlib.Core.Logic.{_⊎_, inl, inr, ⊎-elim}
 use mathlib.Core.List.{List, [], _∷_, _++_}
 use lib.ListN.{length, getD, set, length-set}
 use lib.Seq.{getD-set-same, getD-set-other}
 use Rattle.language.specs.Nested.{Nested, leaf, catenation, union, star, below}
 use Rattle.marks.specs.Words.{width, run, Clean}
 use Rattle.marks.specs.Plan.{Children-at, row, Reaches, Each-below, Closes}
-use Rattle.marks.specs.Swept.{Narrow-below, tables, Laid, Sweepable, Swept, Child, children-of, part, Visited, Visits, Visitable, Visit-done}
+use Rattle.marks.specs.Swept.{Narrow-below, tables, Laid, Sweepable, Swept, Child, children-of, part, Visited, Visits}
 use Rattle.marks.specs.Spots.{widths, Bounded, clean-words, below-power}
-use Rattle.marks.specs.Places.{Seat, Placed, seat-in, place-whole, catenation-left, catenation-right, union-left, union-right, star-inside}
+use Rattle.marks.specs.Places.{Seat, seat-in, place-whole, catenation-left, catenation-right, union-left, union-right, star-inside}
 use Rattle.marks.specs.Visiting.{part-at, sweep-holds}
 
 module _ (x : Nested ℕ) (c : Child) (n : ℕ) (seat : Seat x (below (c .tree)) (c .stand) n) (from : c .from ≡ suc n) where
@@ -102,6 +102,19 @@ module _ (reach runs stands tops : List ℕ) where
         laid = subst (Laid reach runs stands tops x) number laid;
       }
 
+  -- the child piece c of x can be visited: its run stands at `at` in the words, the run of x's top piece, which is the piece k of the tables
+  pub record Visitable (x : Nested ℕ) (c : Child) (k at : ℕ) (words : List ℕ) : Type 0 where
+    pub here : c .from ≡ at
+    pub after-own : 0 < at
+    pub stood : getD stands (k + at) 0 ≡ c .stand
+    pub inside : c .stand + 1 < width x
+    pub laid : Laid reach runs stands tops (c .tree) (k + at)
+    pub room : at + (1 + run (c .tree)) ≤ length words
+    pub reaches : Reaches x (row reach k (width x))
+    pub narrow : width x ≤ 62
+    pub own-clean : getD words 0 0 < 2 ^ width x
+    pub child-clean : Clean (c .tree) (part c words)
+
   module _ (x : Nested ℕ) (k : ℕ) where
     -- a sweep under way: the child pieces that are left stand from `at` on, and their visits are the last of the sweep's
     pub record Under-way (begun words : List ℕ) (at : ℕ) : Type 0 where
@@ -113,8 +126,8 @@ module _ (reach runs stands tops : List ℕ) where
     -- a child piece waits for its visit, after which the sweep is under way again
     pub record Waiting (begun words : List ℕ) (at : ℕ) : Type 0 where
       pub child : Child
-      pub visitable : Visitable reach runs stands tops x child k at words
-      pub goes-on : (next : ℕ) (after : List ℕ) → Visit-done x child at next words after → Under-way begun after next
+      pub visitable : Visitable x child k at words
+      pub goes-on : (after : List ℕ) → Visited x child words after → Under-way begun after (at + (1 + run (child .tree)))
 
     module _ (begun : List ℕ) (sweepable : Sweepable reach runs stands tops x k begun) where
       -- where a sweep begins
@@ -143,12 +156,11 @@ module _ (reach runs stands tops : List ℕ) where
           own-clean = clean .0;
           child-clean = part-clean x c (standing .place) (standing .seat) (standing .placed) words clean;
         };
-        goes-on = λ next after done. record {
+        goes-on = λ after visited. record {
           rest = cs;
-          chain = subst (λ (a : ℕ). Chain x k cs a (length after)) (sym (done .ended))
-              (subst (Chain x k cs (at + (1 + run (c .tree)))) (sym (done .visited .same-length)) rest);
-          clean = visited-clean x c (standing .place) (standing .seat) (standing .placed) words after (done .visited) clean;
-          so-far = λ end v. so-far end (after, done .visited, v);
+          chain = subst (Chain x k cs (at + (1 + run (c .tree)))) (sym (visited .same-length)) rest;
+          clean = visited-clean x c (standing .place) (standing .seat) (standing .placed) words after visited clean;
+          so-far = λ end v. so-far end (after, visited, v);
         };
       }
 

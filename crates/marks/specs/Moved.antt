@@ -16,7 +16,7 @@ use Rattle.marks.specs.Words.{Bit, width, run, Own, number, Marked, Hold
 use Rattle.marks.specs.Plan.{row, takes, Is-own, Moves, Pieces, Piece-at, Children-at, Planned}
 use Rattle.marks.specs.Rows.{Rows, rows-set-at}
 use Rattle.marks.specs.Swept.{Narrow-below}
-use Rattle.marks.specs.Spots.{iff-trans}
+use mathlib.Core.Logic.{Iff·trans as iff-trans}
 
 -- from a part of a node to the node: what stands at p in the part stands at e p in the node, and nothing else comes into the part
 lifted : {M R R′ : State → Type 0} (e : State → State) → ((p : State) → R p → R′ (e p)) → ((p : State) → R′ p → (s : State) × (p ≡ e s) × R s)

@@ -2,14 +2,14 @@
 -- Assumes nothing.
 use Prim.Native.Nat.{ℕ, _+_, _≤_, _<_}
 use native.Mathlib.Omega.{arith}
-use mathlib.Core.Path.{_≡_, refl, sym, ap, ap₂, _∙_, subst}
-use mathlib.Core.Logic.{_⊎_, inl, inr, _↔_, ⊎-elim, Iff·rfl}
+use mathlib.Core.Path.{_≡_, refl, sym, ap, _∙_, subst}
+use mathlib.Core.Logic.{_⊎_, inl, inr, _↔_, ⊎-elim, Iff·rfl, Iff·trans}
 use mathlib.Core.List.{_++_}
 use lib.ListN.{getD}
 use Rattle.language.specs.Automaton.{State, start, accepting, left, right}
-use Rattle.language.specs.Nested.{Nested, leaf, catenation, union, star, below, Has}
+use Rattle.language.specs.Nested.{Nested, catenation, union, star, Has}
 use Rattle.marks.specs.Words.{width, run}
-use Rattle.marks.specs.Spots.{Spot, own, under, shift, spot, Within, spot-within, widths, getD-left, getD-right, iff-trans}
+use Rattle.marks.specs.Spots.{Spot, own, under, shift, spot, Within, spot-within, widths, getD-left, getD-right}
 
 -- the states of x are numbered from i in the own word of whole, and the words of the child pieces below x stand from n among those below whole
 pub record Seat {A : Type 0} (whole x : Nested A) (i n : ℕ) : Type 0 where
@@ -54,7 +54,7 @@ pub place-in : {A : Type 0} {whole x y : Nested A} {e f : State → State} {i n 
     → Placed whole x e i n → Placed x y f j m → Placed whole y (λ p. e (f p)) i' n'
 place-in {whole = whole} {x = x} {y = y} {e = e} {f = f} {i = i} {n = n} {j = j} {m = m} i' n' same-i same-n outer inner = record {
   seat = seat-in i' n' same-i same-n (outer .seat) (inner .seat);
-  has = λ q. iff-trans (outer .has (f q)) (inner .has q);
+  has = λ q. Iff·trans (outer .has (f q)) (inner .has q);
   spots = λ q h. outer .spots (f q) (inner .has q .1 h) ∙ ap (shift i n) (inner .spots q h) ∙ shift-shift (spot y q) i n j m i' n' same-i same-n;
   apart = λ q h. ⊎-elim (λ (p, at). within q p h at)
       (λ out. inr (outside-part (spot whole q) i (width x) n (run x) j (width y) m (run y) i' n' same-i same-n (inner .seat .wide) (inner .seat .long) out))

@@ -5,7 +5,7 @@ use native.Mathlib.Nat.{add-assoc, zero-add}
 use native.Mathlib.Decide.{decLt}
 use native.Mathlib.Omega.{arith}
 use mathlib.Core.Path.{_≡_, refl, sym, ap, _∙_, subst}
-use mathlib.Core.Logic.{_⊎_, inl, inr, _↔_, ⊎-elim, Iff·rfl}
+use mathlib.Core.Logic.{_⊎_, inl, inr, _↔_, ⊎-elim, Iff·rfl, Iff·trans, Iff·and}
 use mathlib.Core.List.{List, [], _∷_, _++_}
 use lib.ListN.{length, getD, drop, length-append, List·getD-append}
 use lib.Seq.{getD-drop, getD-append-add}
@@ -57,17 +57,8 @@ abbrev pub Held : Spot → List ℕ → Type 0
 Held (own b) words = Bit (getD words 0 0) b
 Held (under o b) words = Bit (getD words (suc o) 0) b
 
-abbrev pub iff-trans : {A B C : Type 0} → A ↔ B → B ↔ C → A ↔ C
-iff-trans f g = (λ a. g .0 (f .0 a), λ c. f .1 (g .1 c))
-
-abbrev pub iff-both : {A B C D : Type 0} → A ↔ B → C ↔ D → (A × C) ↔ (B × D)
-iff-both f g = (λ h. (f .0 (h .0), g .0 (h .1)), λ h. (f .1 (h .0), g .1 (h .1)))
-
 abbrev pub iff-either : {A B C D : Type 0} → A ↔ B → C ↔ D → (A ⊎ C) ↔ (B ⊎ D)
 iff-either f g = (⊎-elim (λ h. inl (f .0 h)) (λ h. inr (g .0 h)), ⊎-elim (λ h. inl (f .1 h)) (λ h. inr (g .1 h)))
-
-abbrev pub iff-turn : {A B : Type 0} → A ↔ B → B ↔ A
-iff-turn f = (f .1, f .0)
 
 pub bit-at : (w : ℕ) {i j : ℕ} → i ≡ j → Bit w i ↔ Bit w j
 bit-at w e = (subst (λ (n : ℕ). Bit w n) e, subst (λ (n : ℕ). Bit w n) (sym e))
@@ -95,21 +86,21 @@ marked-lit (leaf a) w i ws (left q) h = absurd h
 marked-lit (leaf a) w i ws (right q) h = absurd h
 marked-lit (catenation x y) w i ws start h = bit-at w (omega arith)
 marked-lit (catenation x y) w i ws accepting h = bit-at w refl
-marked-lit (catenation x y) w i ws (left q) h = iff-trans (marked-lit x w (i + 1) ws q h) (lit-shift (spot x q) w i 1 0 ws)
+marked-lit (catenation x y) w i ws (left q) h = Iff·trans (marked-lit x w (i + 1) ws q h) (lit-shift (spot x q) w i 1 0 ws)
 marked-lit (catenation x y) w i ws (right q) h =
-    iff-trans (marked-lit y w (i + (1 + width x)) (drop (run x) ws) q h) (lit-shift (spot y q) w i (1 + width x) (run x) ws)
+    Iff·trans (marked-lit y w (i + (1 + width x)) (drop (run x) ws) q h) (lit-shift (spot y q) w i (1 + width x) (run x) ws)
 marked-lit (union x y) w i ws start h = bit-at w (omega arith)
 marked-lit (union x y) w i ws accepting h = bit-at w refl
-marked-lit (union x y) w i ws (left q) h = iff-trans (marked-lit x w (i + 1) ws q h) (lit-shift (spot x q) w i 1 0 ws)
+marked-lit (union x y) w i ws (left q) h = Iff·trans (marked-lit x w (i + 1) ws q h) (lit-shift (spot x q) w i 1 0 ws)
 marked-lit (union x y) w i ws (right q) h =
-    iff-trans (marked-lit y w (i + (1 + width x)) (drop (run x) ws) q h) (lit-shift (spot y q) w i (1 + width x) (run x) ws)
+    Iff·trans (marked-lit y w (i + (1 + width x)) (drop (run x) ws) q h) (lit-shift (spot y q) w i (1 + width x) (run x) ws)
 marked-lit (star x) w i ws start h = bit-at w (omega arith)
 marked-lit (star x) w i ws accepting h = bit-at w refl
-marked-lit (star x) w i ws (left q) h = iff-trans (marked-lit x w (i + 1) ws q h) (lit-shift (spot x q) w i 1 0 ws)
+marked-lit (star x) w i ws (left q) h = Iff·trans (marked-lit x w (i + 1) ws q h) (lit-shift (spot x q) w i 1 0 ws)
 marked-lit (star x) w i ws (right q) h = absurd h
 marked-lit (below x) w i ws start h = bit-at w (omega arith)
 marked-lit (below x) w i ws accepting h = bit-at w refl
-marked-lit (below x) w i ws (left q) h = iff-trans (marked-lit x (getD ws 0 0) 0 (drop 1 ws) q h) (lit-enter (spot x q) w i ws)
+marked-lit (below x) w i ws (left q) h = Iff·trans (marked-lit x (getD ws 0 0) 0 (drop 1 ws) q h) (lit-enter (spot x q) w i ws)
 marked-lit (below x) w i ws (right q) h = absurd h
 
 lit-held : (s : Spot) (words : List ℕ) → Lit s (getD words 0 0) 0 (drop 1 words) ↔ Held s words
@@ -118,7 +109,7 @@ lit-held (under o b) words = bit-of b (getD-drop 1 words o 0 ∙ ap (λ (k : ℕ
 
 -- the words of a run hold a state exactly when the bit of its spot is set
 pub holds-held : {A : Type 0} (x : Nested A) (words : List ℕ) (q : State) → Has x q → Holds x words q ↔ Held (spot x q) words
-holds-held x words q h = iff-trans (marked-lit x (getD words 0 0) 0 (drop 1 words) q h) (lit-held (spot x q) words)
+holds-held x words q h = Iff·trans (marked-lit x (getD words 0 0) 0 (drop 1 words) q h) (lit-held (spot x q) words)
 
 -- a spot within so many bits and so many words below
 abbrev pub Within : ℕ → ℕ → Spot → Type 0
@@ -299,11 +290,11 @@ bounded-child x ws = (join, λ h. (h 0 (omega arith), below h))
 -- the words of the child pieces have no bit past the last state exactly when each is below its power of two
 pub clean-bounded : {A : Type 0} (x : Nested A) (ws : List ℕ) → Clean-below x ws ↔ Bounded (run x) ws (widths x)
 clean-bounded (leaf a) ws = (λ _ o l. absurd (omega arith), λ _. tt)
-clean-bounded (catenation x y) ws = iff-trans (iff-both (clean-bounded x ws) (clean-bounded y (drop (run x) ws))) (bounded-both x y ws)
-clean-bounded (union x y) ws = iff-trans (iff-both (clean-bounded x ws) (clean-bounded y (drop (run x) ws))) (bounded-both x y ws)
+clean-bounded (catenation x y) ws = Iff·trans (Iff·and (clean-bounded x ws) (clean-bounded y (drop (run x) ws))) (bounded-both x y ws)
+clean-bounded (union x y) ws = Iff·trans (Iff·and (clean-bounded x ws) (clean-bounded y (drop (run x) ws))) (bounded-both x y ws)
 clean-bounded (star x) ws = clean-bounded x ws
-clean-bounded (below x) ws = iff-trans (iff-both Iff·rfl (clean-bounded x (drop 1 ws))) (bounded-child x ws)
+clean-bounded (below x) ws = Iff·trans (Iff·and Iff·rfl (clean-bounded x (drop 1 ws))) (bounded-child x ws)
 
 -- the words of a run have no bit past the last state exactly when each is below its power of two
 pub clean-words : {A : Type 0} (x : Nested A) (words : List ℕ) → Clean x words ↔ Bounded (1 + run x) words (width x ∷ widths x)
-clean-words x words = iff-trans (iff-both Iff·rfl (clean-bounded x (drop 1 words))) (bounded-child x words)
+clean-words x words = Iff·trans (Iff·and Iff·rfl (clean-bounded x (drop 1 words))) (bounded-child x words)

@@ -1,21 +1,21 @@
 -- What the steps of a sweep and of a visit make of the words, step by step: so that each need of their proofs is one citation.
 -- Assumes nothing.
-use Prim.Native.Nat.{ℕ, zero, suc, _+_, _-_, _^_, _≤_, _<_}
+use Prim.Native.Nat.{ℕ, zero, suc, _+_, _*_, _-_, _^_, _≤_, _<_}
 use native.Mathlib.Omega.{arith}
 use mathlib.Core.Path.{_≡_, refl, sym, ap, _∙_, subst}
-use mathlib.Core.Logic.{_⊎_, inl, inr, _↔_, ⊎-elim}
-use mathlib.Core.List.{List, [], _∷_, _++_}
+use mathlib.Core.Logic.{_⊎_, ⊎-elim}
+use mathlib.Core.List.{List, _∷_, _++_}
 use lib.ListN.{length, getD, take, drop, set, length-set, length-drop, length-append, List·getD-append}
-use lib.Seq.{getD-take, getD-drop, getD-set-same, getD-set-other, length-take-le, take-at, drop-at, drop-set-lt, getD-append-add, drop-drop}
+use lib.Seq.{getD-take, getD-drop, getD-set-same, getD-set-other, length-take-le, take-at, drop-at, drop-set-lt, getD-append-add}
 use Rattle.language.specs.Nested.{Nested}
 use Rattle.marks.specs.Words.{width, run, Clean}
 use Rattle.marks.specs.Plan.{row, Reaches, Closes}
 use Rattle.marks.specs.Numbers.{width-two}
 use Rattle.marks.specs.Passing.{passed-below}
-use Rattle.marks.specs.Swept.{passed, Laid, Sweepable, Sized, Ready, Swept, Child, part, started, Visited, Visitable, Awaiting, Visit-done}
+use Rattle.marks.specs.Swept.{passed, Sweepable, Sized, Ready, Swept, Child, part, started, Visited}
 use Rattle.marks.specs.Spots.{widths, Bounded, clean-words, below-power}
-use Rattle.marks.specs.Visiting.{part-at, started-own, started-below}
-use Rattle.marks.specs.Chains.{Under-way, Waiting, under-way, waiting, closed-sweepable, swept}
+use Rattle.marks.specs.Visiting.{started-own, started-below}
+use Rattle.marks.specs.Chains.{Visitable, Under-way, Waiting, under-way, waiting, closed-sweepable, swept}
 
 -- the words with ys in the place of m words from a on
 abbrev put : ℕ → ℕ → List ℕ → List ℕ → List ℕ
@@ -157,19 +157,29 @@ module _ (reach runs stands tops : List ℕ) (k at : ℕ) (words : List ℕ) whe
             raised-same ∙ ap (λ (w : ℕ). passed w (width (c .tree) - 1) (getD words 0 0) (c .stand + 1))
             (ap (λ (a : ℕ). getD back a 0) (sym (can .here)) ∙ sym (after-at (c .from) (omega (arith, can .here, can .after-own))))
 
-        -- the visit is done
-        pub visit-done : Visit-done x c at next-run words (set back 0 closed)
-        visit-done = record {
-          visited = record {
-            swept = subst (λ (before : List ℕ). Swept (c .tree) before (part c (set back 0 closed))) lent-is
-                (subst (Swept (c .tree) (take (next-run - at) (drop at (set words at given)))) (sym after-part) swept);
-            closed = subst (λ (w : ℕ). Closes x w (getD (set back 0 closed) 0 0)) closed-from
-                (subst (Closes x raised) (sym (getD-set-same back 0 closed 0 (omega (arith, back-length, can .room)))) own-closes);
-            same-length = length-set back 0 closed ∙ back-length;
-            others = λ o l out. after-at o l ∙ back-others o out;
-          };
-          ended = omega (arith, can .laid .piece .ran);
+        -- the child piece was visited
+        pub visited : Visited x c words (set back 0 closed)
+        visited = record {
+          swept = subst (λ (before : List ℕ). Swept (c .tree) before (part c (set back 0 closed))) lent-is
+              (subst (Swept (c .tree) (take (next-run - at) (drop at (set words at given)))) (sym after-part) swept);
+          closed = subst (λ (w : ℕ). Closes x w (getD (set back 0 closed) 0 0)) closed-from
+              (subst (Closes x raised) (sym (getD-set-same back 0 closed 0 (omega (arith, back-length, can .room)))) own-closes);
+          same-length = length-set back 0 closed ∙ back-length;
+          others = λ o l out. after-at o l ∙ back-others o out;
         }
+
+-- there is room for the child piece whose run begins at `at`, in the tables and in the words, and its numbers are those of bits
+pub record Room (reach runs stands tops : List ℕ) (k at : ℕ) (words : List ℕ) : Type 0 where
+  pub own-before : 0 < at
+  pub child-counted : 0 < getD runs (k + at) 0
+  pub child-within : at + getD runs (k + at) 0 ≤ length words
+  pub few-words : length words ≤ 128
+  pub reach-room : 64 * k + 64 ≤ length reach
+  pub runs-room : k + at < length runs
+  pub stands-room : k + at < length stands
+  pub tops-room : k + at < length tops
+  pub stand-small : getD stands (k + at) 0 + 1 < 64
+  pub top-small : getD tops (k + at) 0 < 64
 
 module _ (reach runs stands tops : List ℕ) (k : ℕ) where
   -- a sweep is under way, whatever tree the tables speak of
@@ -182,36 +192,35 @@ module _ (reach runs stands tops : List ℕ) (k : ℕ) where
   sweeping-begins begun = record { same-length = refl; each = λ x can. under-way reach runs stands tops x k begun can }
 
   module _ (begun words : List ℕ) (at : ℕ) (sweeping : Sweeping begun words at) (before-end : at < length words) where
-    waits : (x : Nested ℕ) → Sweepable reach runs stands tops x k begun → Waiting reach runs stands tops x k begun words at
+    -- before the end a child piece waits for its visit
+    pub waits : (x : Nested ℕ) → Sweepable reach runs stands tops x k begun → Waiting reach runs stands tops x k begun words at
     waits x can = waiting reach runs stands tops x k begun can words at (sweeping .same-length) (sweeping .each x can) before-end
 
-    -- before the end there is a child piece to visit
-    pub awaiting : (x : Nested ℕ) → Sweepable reach runs stands tops x k begun → Sized reach runs stands tops k begun → Awaiting reach runs stands tops k at words
-    awaiting x can sized = record {
-      sized = record {
-        reach-sized = sized .reach-sized;
-        runs-sized = sized .runs-sized;
-        stands-sized = sized .stands-sized;
-        tops-sized = sized .tops-sized;
-        within = omega (arith, sized .within, sweeping .same-length);
-      };
-      tree = x;
-      child = waits x can .child;
-      visitable = waits x can .visitable;
+    -- after the visit the sweep is under way
+    pub sweeping-on : (after : List ℕ) → length after ≡ length words
+        → ((x : Nested ℕ) (c : Child) → Visitable reach runs stands tops x c k at words → Visited x c words after)
+        → Sweeping begun after (at + getD runs (k + at) 0)
+    sweeping-on after same visited = record {
+      same-length = same ∙ sweeping .same-length;
+      each = λ x can. let w = waits x can in
+          subst (λ (r : ℕ). Under-way reach runs stands tops x k begun after (at + r)) (sym (w .visitable .laid .piece .ran))
+          (w .goes-on after (visited x (w .child) (w .visitable)));
     }
 
-    module _ (next : ℕ) (after : List ℕ)
-        (done : (x : Nested ℕ) (c : Child) → Visitable reach runs stands tops x c k at words → Visit-done x c at next words after) where
-      -- after a visit the sweep is under way
-      pub sweeping-on : length after ≡ length words → Sweeping begun after next
-      sweeping-on same = record {
-        same-length = same ∙ sweeping .same-length;
-        each = λ x can. waits x can .goes-on next after (done x (waits x can .child) (waits x can .visitable));
-      }
-
-      -- and further
-      pub further : (x : Nested ℕ) → Sweepable reach runs stands tops x k begun → at < next
-      further x can = omega (arith, done x (waits x can .child) (waits x can .visitable) .ended)
+    -- there is room for the child piece, in the tables and in the words
+    pub room-for : (x : Nested ℕ) → Sweepable reach runs stands tops x k begun → Sized reach runs stands tops k words → Room reach runs stands tops k at words
+    room-for x can sized = let w = waits x can in record {
+      own-before = w .visitable .after-own;
+      child-counted = omega (arith, w .visitable .laid .piece .ran);
+      child-within = omega (arith, w .visitable .laid .piece .ran, w .visitable .room);
+      few-words = omega (arith, sized .within);
+      reach-room = omega (arith, sized .reach-sized, sized .within);
+      runs-room = omega (arith, sized .runs-sized, sized .within);
+      stands-room = omega (arith, sized .stands-sized, sized .within);
+      tops-room = omega (arith, sized .tops-sized, sized .within);
+      stand-small = omega (arith, w .visitable .stood, w .visitable .inside, w .visitable .narrow);
+      top-small = omega (arith, w .visitable .laid .piece .topped, w .visitable .laid .narrow);
+    }
 
   module _ (entry : List ℕ) (closed : ℕ)
       (closes : (x : Nested ℕ) → width x ≤ 62 → Reaches x (row reach k (width x)) → getD entry 0 0 < 2 ^ width x → Closes x (getD entry 0 0) closed)
@@ -227,12 +236,12 @@ module _ (reach runs stands tops : List ℕ) (k : ℕ) where
     pub sweep-done : (words : List ℕ) (at : ℕ) → Sweeping (set entry 0 closed) words at → length words ≤ at → Swept x entry words
     sweep-done words at sweeping past = swept reach runs stands tops x k entry closed can own-closed words at (sweeping .each x begun-sweepable) past
 
-  -- the tables have room for the words with one of them changed
-  pub sized-set : (words : List ℕ) (i v : ℕ) → Sized reach runs stands tops k words → Sized reach runs stands tops k (set words i v)
-  sized-set words i v sized = record {
+  -- the tables have room for words as many as before
+  pub sized-same : (before after : List ℕ) → length after ≡ length before → Sized reach runs stands tops k before → Sized reach runs stands tops k after
+  sized-same before after same sized = record {
     reach-sized = sized .reach-sized;
     runs-sized = sized .runs-sized;
     stands-sized = sized .stands-sized;
     tops-sized = sized .tops-sized;
-    within = omega (arith, sized .within, length-set words i v);
+    within = omega (arith, sized .within, same);
   }

@@ -1,6 +1,6 @@
 -- What a sweep does to the words of a piece's run, word by word.
 -- Assumes nothing.
-use Prim.Native.Nat.{ℕ, suc, _+_, _*_, _/_, _%_, _-_, _^_, _≤_, _<_}
+use Prim.Native.Nat.{ℕ, _+_, _*_, _/_, _%_, _-_, _^_, _≤_, _<_}
 use mathlib.Core.Path.{_≡_}
 use mathlib.Core.Logic.{_⊎_, _↔_}
 use mathlib.Core.List.{List, [], _∷_, _++_}
@@ -96,29 +96,3 @@ pub record Visited (x : Nested ℕ) (c : Child) (before after : List ℕ) : Type
 abbrev pub Visits : Nested ℕ → List Child → List ℕ → List ℕ → Type 0
 Visits x [] before after = before ≡ after
 Visits x (c ∷ cs) before after = (between : List ℕ) × Visited x c before between × Visits x cs between after
-
-module _ (reach runs stands tops : List ℕ) where
-  -- the child piece c of x can be visited: its run stands at `at` in the words, the run of x's top piece, which is the piece k of the tables
-  pub record Visitable (x : Nested ℕ) (c : Child) (k at : ℕ) (words : List ℕ) : Type 0 where
-    pub here : c .from ≡ at
-    pub after-own : 0 < at
-    pub stood : getD stands (k + at) 0 ≡ c .stand
-    pub inside : c .stand + 1 < width x
-    pub laid : Laid reach runs stands tops (c .tree) (k + at)
-    pub room : at + (1 + run (c .tree)) ≤ length words
-    pub reaches : Reaches x (row reach k (width x))
-    pub narrow : width x ≤ 62
-    pub own-clean : getD words 0 0 < 2 ^ width x
-    pub child-clean : Clean (c .tree) (part c words)
-
-  -- there is a child piece to visit
-  pub record Awaiting (k at : ℕ) (words : List ℕ) : Type 0 where
-    pub sized : Sized reach runs stands tops k words
-    pub tree : Nested ℕ
-    pub child : Child
-    pub visitable : Visitable tree child k at words
-
--- what a visit answers and makes of the words: the next child piece's run begins where this one's ends
-pub record Visit-done (x : Nested ℕ) (c : Child) (at next : ℕ) (before after : List ℕ) : Type 0 where
-  pub visited : Visited x c before after
-  pub ended : next ≡ at + (1 + run (c .tree))

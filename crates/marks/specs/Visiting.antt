@@ -1,23 +1,22 @@
 -- What visiting one child piece after the other makes of the words is what the sweep makes of the marks that they hold.
 -- Assumes nothing.
-use Prim.Native.Nat.{ℕ, zero, suc, _+_, _-_, _^_, _≤_, _<_}
+use Prim.Native.Nat.{ℕ, suc, _+_, _-_, _≤_, _<_}
 use native.Mathlib.Omega.{arith}
-use native.Mathlib.Decide.{decLt}
 use mathlib.Core.Path.{_≡_, refl, sym, ap, _∙_, subst}
-use mathlib.Core.Logic.{_⊎_, inl, inr, _↔_, ⊎-elim, Iff·rfl}
+use mathlib.Core.Logic.{_⊎_, inl, inr, _↔_, ⊎-elim, Iff·rfl, Iff·trans, Iff·symm, Iff·and}
 use mathlib.Core.List.{List, [], _∷_, _++_}
-use lib.ListN.{length, getD, take, drop, set}
+use lib.ListN.{length, getD, drop, set}
 use lib.Seq.{getD-drop, getD-take, getD-set-same, getD-set-other}
 use Rattle.language.specs.Automaton.{State, start, accepting, left, right, States, Closed, here}
 use Rattle.language.specs.Nested.{Nested, leaf, catenation, union, star, below, own as own-tree, Has, Down, Up, Visit, Sweep}
-use Rattle.marks.specs.Words.{Bit, width, run, Own, number, Holds, Clean}
+use Rattle.marks.specs.Words.{Bit, width, run, Own, number, Holds}
 use Rattle.marks.specs.Plan.{Closes}
 use Rattle.marks.specs.Numbers.{number-accepting}
-use Rattle.marks.specs.Swept.{passed, Swept, Child, children-of, part, started, Visited, Visits}
+use Rattle.marks.specs.Swept.{passed, Child, children-of, part, started, Visited, Visits}
 use Rattle.marks.specs.Passing.{bit-passed}
-use Rattle.marks.specs.Spots.{Spot, own, under, shift, enter, spot, Held, holds-held, Within, spot-within, own-spot, Under, under-enter, under-shift, own-or-under, First, first-start, held-at, bit-at, bit-of, iff-trans, iff-turn, iff-both, iff-either}
+use Rattle.marks.specs.Spots.{Spot, own, under, shift, enter, spot, Held, holds-held, Within, spot-within, own-spot, Under, under-enter, under-shift, own-or-under, First, first-start, held-at, bit-at, bit-of, iff-either}
 use Rattle.marks.specs.Within.{own-has, path-own, Among, closed-within, up-within, visit-within, sweep-within, sweep-extends}
-use Rattle.marks.specs.Places.{Seat, Outside, Placed, place-in, place-whole, catenation-left, catenation-right, union-left, union-right, star-inside}
+use Rattle.marks.specs.Places.{Outside, Placed, place-in, place-whole, catenation-left, catenation-right, union-left, union-right, star-inside}
 
 -- the marks M and N agree, of the states of x
 abbrev pub Same : {A : Type 0} → Nested A → States → States → Type 0
@@ -99,33 +98,33 @@ module _ (c : Child) (i n k : ℕ) (from : c .from ≡ suc n) where
   started-held : (s : Spot) (words : List ℕ) → Within k (run (c .tree)) s → c .from < length words
       → Held s (started c words) ↔ (Held s (part c words) ⊎ (First s × Bit (getD words 0 0) (c .stand)))
   started-held (own b) words l room =
-      iff-trans (bit-of b (started-own c words room)) (bit-passed (getD words 0 0) (c .stand) (getD (part c words) 0 0) 0 b)
+      Iff·trans (bit-of b (started-own c words room)) (bit-passed (getD words 0 0) (c .stand) (getD (part c words) 0 0) 0 b)
   started-held (under o b) words l room =
-      iff-trans (bit-of b (started-below c words o (omega arith))) (inl, ⊎-elim (λ h. h) (λ h. absurd (h .0)))
+      Iff·trans (bit-of b (started-below c words o (omega arith))) (inl, ⊎-elim (λ h. h) (λ h. absurd (h .0)))
 
 -- the child piece c stands at e in the piece of x
 module _ (x : Nested ℕ) (e : State → State) (c : Child) (n : ℕ) (place : Placed x (below (c .tree)) e (c .stand) n) (from : c .from ≡ suc n) where
   -- a state of a child piece is marked exactly when the child's run holds it
   pub child-holds : (words : List ℕ) (p : State) → Has (c .tree) p → Holds x words (e (left p)) ↔ Holds (c .tree) (part c words) p
   child-holds words p h =
-      iff-trans (holds-held x words (e (left p)) (place .has (left p) .1 h))
-      (iff-trans (held-at words (place .spots (left p) h))
-      (iff-trans (iff-turn (part-held c (c .stand) n (width (c .tree)) from (spot (c .tree) p) words (spot-within (c .tree) p h)))
-      (iff-turn (holds-held (c .tree) (part c words) p h))))
+      Iff·trans (holds-held x words (e (left p)) (place .has (left p) .1 h))
+      (Iff·trans (held-at words (place .spots (left p) h))
+      (Iff·trans (Iff·symm (part-held c (c .stand) n (width (c .tree)) from (spot (c .tree) p) words (spot-within (c .tree) p h)))
+      (Iff·symm (holds-held (c .tree) (part c words) p h))))
 
   -- a state of the stand-in is marked exactly when its bit is set
   stand-holds : (words : List ℕ) (q : State) (b : ℕ) → Has (below (c .tree)) q → spot (below (c .tree)) q ≡ own b → Holds x words (e q) ↔ Bit (getD words 0 0) (c .stand + b)
   stand-holds words q b h at =
-      iff-trans (holds-held x words (e q) (place .has q .1 h)) (held-at words (place .spots q h ∙ ap (shift (c .stand) n) at))
+      Iff·trans (holds-held x words (e q) (place .has q .1 h)) (held-at words (place .spots q h ∙ ap (shift (c .stand) n) at))
 
   -- the start passed down
   pub down-holds : (words : List ℕ) → c .from < length words → Same (c .tree) (Holds (c .tree) (started c words)) (Down e (Holds x words))
   down-holds words room p h =
-      iff-trans (holds-held (c .tree) (started c words) p h)
-      (iff-trans (started-held c (c .stand) n (width (c .tree)) from (spot (c .tree) p) words (spot-within (c .tree) p h) room)
-      (iff-either (iff-turn (iff-trans (child-holds words p h) (holds-held (c .tree) (part c words) p h)))
-      (iff-both (first-start (c .tree) p h, λ s. subst (λ (q : State). First (spot (c .tree) q)) (sym s) refl)
-      (iff-turn (iff-trans (stand-holds words start 0 tt refl) (bit-at (getD words 0 0) (omega arith)))))))
+      Iff·trans (holds-held (c .tree) (started c words) p h)
+      (Iff·trans (started-held c (c .stand) n (width (c .tree)) from (spot (c .tree) p) words (spot-within (c .tree) p h) room)
+      (iff-either (Iff·symm (Iff·trans (child-holds words p h) (holds-held (c .tree) (part c words) p h)))
+      (Iff·and (first-start (c .tree) p h, λ s. subst (λ (q : State). First (spot (c .tree) q)) (sym s) refl)
+      (Iff·symm (Iff·trans (stand-holds words start 0 tt refl) (bit-at (getD words 0 0) (omega arith)))))))
 
   -- the words after the visit but for the closing: the own word with the accepting state passed up, and the words below
   module _ (before after : List ℕ) (visited : Visited x c before after) (room : c .from < length before) where
@@ -144,7 +143,7 @@ module _ (x : Nested ℕ) (e : State → State) (c : Child) (n : ℕ) (place : P
     -- a state of the child piece
     raised-child : (p : State) → Has (c .tree) p → Holds x raised (e (left p)) ↔ Holds (c .tree) (part c after) p
     raised-child p h =
-        iff-trans (same-below (e (left p)) (place .has (left p) .1 h) (subst Under (sym (place .spots (left p) h)) (under-shift (enter (spot (c .tree) p)) (c .stand) n (under-enter (spot (c .tree) p)))))
+        Iff·trans (same-below (e (left p)) (place .has (left p) .1 h) (subst Under (sym (place .spots (left p) h)) (under-shift (enter (spot (c .tree) p)) (c .stand) n (under-enter (spot (c .tree) p)))))
         (child-holds after p h)
       where
         same-below : (q : State) → Has x q → Under (spot x q) → Holds x raised q ↔ Holds x after q
@@ -153,8 +152,8 @@ module _ (x : Nested ℕ) (e : State → State) (c : Child) (n : ℕ) (place : P
     -- the child's accepting state
     accepting-bit : Holds (c .tree) (part c after) accepting ↔ Bit (getD after (c .from) 0) (width (c .tree) - 1)
     accepting-bit =
-        iff-trans (own-holds (c .tree) (part c after) accepting tt tt)
-        (iff-trans (bit-of (number (c .tree) accepting) (part-at c after 0 (omega arith) ∙ ap (λ (k : ℕ). getD after k 0) (omega arith)))
+        Iff·trans (own-holds (c .tree) (part c after) accepting tt tt)
+        (Iff·trans (bit-of (number (c .tree) accepting) (part-at c after 0 (omega arith) ∙ ap (λ (k : ℕ). getD after k 0) (omega arith)))
         (bit-at (getD after (c .from) 0) (omega (arith, number-accepting (c .tree)))))
 
     -- no mark of the child piece is lost
@@ -166,12 +165,12 @@ module _ (x : Nested ℕ) (e : State → State) (c : Child) (n : ℕ) (place : P
     -- a state apart from the child piece and its stand-in
     held-apart : (s : Spot) → Outside (c .stand) 2 n (1 + run (c .tree)) s → Held s raised ↔ Held s before
     held-apart (own b) out =
-        iff-trans (raised-bit b) (⊎-elim (λ h. h) (λ h. absurd (⊎-elim (λ l. omega (arith, h .0)) (λ l. omega (arith, h .0)) out)), inl)
+        Iff·trans (raised-bit b) (⊎-elim (λ h. h) (λ h. absurd (⊎-elim (λ l. omega (arith, h .0)) (λ l. omega (arith, h .0)) out)), inl)
     held-apart (under o b) out =
         bit-of b (raised-below o ∙ visited .others (suc o) (omega arith) (⊎-elim (λ l. inl (omega arith)) (λ l. inr (omega arith)) out))
 
     apart-holds : (q : State) → Has x q → Outside (c .stand) 2 n (1 + run (c .tree)) (spot x q) → Holds x raised q ↔ Holds x before q
-    apart-holds q h out = iff-trans (holds-held x raised q h) (iff-trans (held-apart (spot x q) out) (iff-turn (holds-held x before q h)))
+    apart-holds q h out = Iff·trans (holds-held x raised q h) (Iff·trans (held-apart (spot x q) out) (Iff·symm (holds-held x before q h)))
 
     up : States
     up = Up e (Holds (c .tree) (part c after)) (Holds x before)
@@ -216,7 +215,7 @@ module _ (x : Nested ℕ) (e : State → State) (c : Child) (n : ℕ) (place : P
 
     swept-marks : Same (c .tree) (Holds (c .tree) (part c after)) (Sweep (c .tree) (Down e (Holds x before)))
     swept-marks p h =
-        iff-trans (visited .swept .marks p h) (
+        Iff·trans (visited .swept .marks p h) (
           sweep-within (c .tree) (Holds (c .tree) (started c before)) (Down e (Holds x before)) (λ q k. down-holds before room q k .0) p h,
           sweep-within (c .tree) (Down e (Holds x before)) (Holds (c .tree) (started c before)) (λ q k. down-holds before room q k .1) p h,
         )
@@ -244,7 +243,7 @@ module _ (x : Nested ℕ) (e : State → State) (c : Child) (n : ℕ) (place : P
     pub visited-holds : Same x (Holds x after) (Visit (below (c .tree)) e (Closed (own-tree x)) (Holds x before))
     unfolding wanted
     visited-holds q h =
-        iff-trans (closed-holds x raised after closing raised-below q h) (
+        Iff·trans (closed-holds x raised after closing raised-below q h) (
           closed-within x (Holds x raised) wanted (λ p k m. raise p k (up-holds p k .0 m)) q h,
           closed-within x wanted (Holds x raised) (λ p k m. up-holds p k .1 (lower p k m)) q h,
         )
@@ -271,7 +270,7 @@ visit-same whole x e i n place M N same q h = (
 -- the visits of two parts, one after the other
 then-visit : (whole y : Nested ℕ) (e : State → State) (i n : ℕ) → Placed whole y e i n → (M N K : States) → Same whole M N
     → Same whole K (Visit y e (Closed (own-tree whole)) M) → Same whole K (Visit y e (Closed (own-tree whole)) N)
-then-visit whole y e i n place M N K first second q h = iff-trans (second q h) (visit-same whole y e i n place M N first q h)
+then-visit whole y e i n place M N K first second q h = Iff·trans (second q h) (visit-same whole y e i n place M N first q h)
 
 -- the visits of the child pieces below a part of the piece make the marks those of its visit
 pub visits-hold : (whole x : Nested ℕ) (e : State → State) (i n f : ℕ) → Placed whole x e i n → f ≡ suc n → (before after : List ℕ) → 1 + run whole ≤ length before

@@ -1,10 +1,8 @@
 -- Closing and visiting look only at states that there are: marks that agree on those give marks that agree on those.
 -- Assumes nothing.
-use Prim.Native.Nat.{ℕ}
 use mathlib.Core.Path.{_≡_, refl, sym, subst}
 use mathlib.Core.Logic.{_⊎_, inl, inr, _↔_, ⊎-elim, Iff·rfl}
 use Rattle.language.specs.Automaton.{State, start, accepting, left, right, States, Empty, Path-of, here, step, Closed}
-use Rattle.language.specs.Automaton
 use Rattle.language.specs.Nested.{Nested, leaf, catenation, union, star, below, own, Has, Down, Up, Visit, Sweep}
 use Rattle.marks.specs.Words.{Own}
 
