@@ -18,3 +18,4 @@ pub mod Gathered
 pub mod Written
 pub mod Measured
 pub mod Bytes
+pub mod Handed

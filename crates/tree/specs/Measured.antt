@@ -5,7 +5,7 @@ use mathlib.Core.Path.{_≡_, refl, ap, sym, _∙_}
 use mathlib.Core.Bool.{Bool, true, false, cond, _||_}
 use mathlib.Core.List.{List, [], _∷_, _++_, map}
 use native.Mathlib.Omega.{arith}
-use native.Mathlib.Nat.{le-refl}
+use native.Mathlib.Nat.{le-refl, le-trans}
 use native.Mathlib.Decide.{decLe}
 use native.Mathlib.Numerals.{add-one}
 use lib.Dec.{eqb}
@@ -63,6 +63,14 @@ holds-more f t i slots v w h k e = record { slot = λ j l. by-place j l (decLe j
 pub in-tree : (ls : List ℕ) (t : Tree ℕ) (i : ℕ) → ls ≡ labels t → i < length ls → i < nodes t
 in-tree ls t i e h = omega (arith, ap length e, length-labels t)
 
+-- what is measured up to some record is measured up to each before it
+pub measured-less : (ls sizes opens cuts : List ℕ) (i j : ℕ) → i ≤ j → Measured ls sizes opens cuts j → Measured ls sizes opens cuts i
+measured-less ls sizes opens cuts i j h m =
+    record { sized = λ t e. less (m .sized t e); opened = λ t e. less (m .opened t e); counted = λ t e. less (m .counted t e) }
+  where
+    less : {f : Tree ℕ → ℕ} {t : Tree ℕ} {slots : List ℕ} → Holds f t j slots → Holds f t i slots
+    less w = record { slot = λ k l. w .slot k (le-trans l h) }
+
 -- label i is that of the subtree at record i
 pub label-at : (ls : List ℕ) (t : Tree ℕ) (i : ℕ) → ls ≡ labels t → i < nodes t → getD ls i 0 ≡ root-label (node t i)
 label-at ls t i e h = rw (e, labels-seats t 0 1) (held-seat label (seats t 0 1) i (rw (length-seats t 0 1) h))
@@ -98,6 +106,8 @@ of-right-le f n h (star s) = omega arith
 
 -- what the slots of record i's children hold
 pub record Children (t : Tree ℕ) (i left right : ℕ) (sizes opens cuts : List ℕ) : Type 0 where
+  pub left-is : left ≡ left-slot (root-label (node t i)) i (of-right nodes (node t i))
+  pub right-is : right ≡ right-slot (root-label (node t i)) i
   pub left-size : getD sizes left 0 ≡ of-left nodes (node t i)
   pub right-size : getD sizes right 0 ≡ of-right nodes (node t i)
   pub left-open : getD opens left 0 ≡ of-left open-size (node t i)
@@ -120,6 +130,8 @@ children ls t i left right sizes opens cuts e inside m r l =
     let left-at : (f : Tree ℕ → ℕ) (slots : List ℕ) → Holds f t i slots → getD slots left 0 ≡ of-left f (node t i) =
     λ f slots w. w .slot left (rw l (left-slot-le (getD ls i 0) i (getD sizes right 0))) ∙ rw (l, size, lab) (a .left (λ (x : Seat). f (x .tree))) in
     record {
+      left-is = l ∙ rw (size, lab);
+      right-is = r ∙ rw lab;
       left-size = left-at nodes sizes (m .sized t e);
       right-size = size;
       left-open = left-at open-size opens (m .opened t e);

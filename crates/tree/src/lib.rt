@@ -1,6 +1,7 @@
 // Tree records: the cut, the numbers of children and pieces, and whether a lent list is good.
 mod bytes;
 mod cut;
+mod hand;
 mod measure;
 pub mod number;
 mod slots;

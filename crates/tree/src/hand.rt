@@ -1,0 +1,50 @@
+// From the root down: the piece of every record, and the number of the first new piece below it, each in the record's slot.
+use crate::cut::left_cut;
+use crate::cut::one_if;
+use crate::cut::piece_below;
+use crate::cut::right_cut;
+use crate::slots::left_of;
+use crate::slots::right_of;
+ghost use mathlib.Core.Path.{_≡_};
+ghost use Prim.Native.Nat.{_≤_};
+ghost use lib.ListN.{length};
+ghost use Rattle.tree.specs.Measured.{Postorder, Room, Measured};
+ghost use Rattle.tree.specs.Handed.{Pieced};
+
+// A parent comes after its children, so going backwards its slots are filled when it hands on to theirs.
+pub fn hand_down(
+    labels: &[u16],
+    sizes: &[u16],
+    opens: &[u16],
+    cuts: &[u16],
+    pieces: &mut [u16],
+    news: &mut [u16],
+)
+    requires { ⌜ Postorder (now labels) ⌝ }
+    requires { ⌜ length (now labels) ≤ 2047 ⌝ }
+    requires { ⌜ Room (now sizes) (now opens) (now cuts) ⌝ }
+    requires { ⌜ Measured (now labels) (now sizes) (now opens) (now cuts) (length (now labels)) ⌝ }
+    requires { ⌜ (length (now pieces) ≡ 2048) × (length (now news) ≡ 2048) ⌝ }
+    ensures { λ _. ⌜ Pieced (now (labels .entry)) (now (pieces .exit)) ⌝ }
+{
+    let mut i = labels.len();
+    pieces[i] = 0;
+    news[i] = 1;
+    while 0 < i {
+        let own = pieces[i];
+        let new = news[i];
+        i -= 1;
+        let label = labels[i];
+        let right = right_of(label, i);
+        let left = left_of(label, i, sizes[right]);
+        let left_open = opens[left];
+        let right_open = opens[right];
+        let cut_left = left_cut(left_open, right_open);
+        let cut_right = right_cut(left_open, right_open);
+        let past_left = one_if(cut_left) + cuts[left] + new;
+        pieces[left] = piece_below(cut_left, own, new);
+        pieces[right] = piece_below(cut_right, own, past_left);
+        news[left] = one_if(cut_left) + new;
+        news[right] = one_if(cut_right) + past_left;
+    }
+}
