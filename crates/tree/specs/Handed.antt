@@ -240,7 +240,7 @@ module _ (ls : List ℕ) (i slot left right : ℕ) (sizes opens cuts pieces news
       let c = turn-children t e in
       let h : i < nodes t = in-tree ls t i e in-list in
       rw next
-      (hands t i h (c .left-is) (c .right-is) (c .left-open) (c .right-open) (c .left-cuts)
+      (hands t i h (c .found .left-is) (c .found .right-is) (c .left-open) (c .right-open) (c .left-cuts)
       (own-number piece-of t i pieces h (rw next at (handed .pieced t e))) (own-number new-of t i news h (rw next at (handed .renewed t e))))
 
   -- once it has handed them on
@@ -255,12 +255,12 @@ module _ (ls : List ℕ) (i slot left right : ℕ) (sizes opens cuts pieces news
         pieced = λ t e.
             let k = turn-children t e in
             let h = turn-hands t e in
-            gives-more piece-of t i left right a b pieces (in-tree ls t i e in-list) (omega (arith, ap length e, length-labels t)) left-le right-le (k .left-is) (k .right-is)
+            gives-more piece-of t i left right a b pieces (in-tree ls t i e in-list) (omega (arith, ap length e, length-labels t)) left-le right-le (k .found .left-is) (k .found .right-is)
             (λ there. is-a ∙ h .left-piece-is there) (λ there. is-b ∙ h .right-piece-is there) (rw next at (handed .pieced t e));
         renewed = λ t e.
             let k = turn-children t e in
             let h = turn-hands t e in
-            gives-more new-of t i left right c d news (in-tree ls t i e in-list) (omega (arith, ap length e, length-labels t)) left-le right-le (k .left-is) (k .right-is)
+            gives-more new-of t i left right c d news (in-tree ls t i e in-list) (omega (arith, ap length e, length-labels t)) left-le right-le (k .found .left-is) (k .found .right-is)
             (λ there. is-c ∙ h .left-new-is there) (λ there. is-d ∙ h .right-new-is there) (rw next at (handed .renewed t e));
       }
 

@@ -19,3 +19,4 @@ pub mod Written
 pub mod Measured
 pub mod Bytes
 pub mod Handed
+pub mod Storing

@@ -44,6 +44,14 @@ pub record Measured (ls sizes opens cuts : List ℕ) (i : ℕ) : Type 0 where
   pub opened : (t : Tree ℕ) → ls ≡ labels t → Holds open-size t i opens
   pub counted : (t : Tree ℕ) → ls ≡ labels t → Holds cut-edges t i cuts
 
+-- the sizes alone, for every record
+pub record Sized (ls sizes : List ℕ) : Type 0 where
+  pub sized : (t : Tree ℕ) → ls ≡ labels t → Holds nodes t (length ls) sizes
+
+-- slots that hold up to some record hold up to each before it
+pub holds-less : {f : Tree ℕ → ℕ} {t : Tree ℕ} {j : ℕ} {slots : List ℕ} (i : ℕ) → i ≤ j → Holds f t j slots → Holds f t i slots
+holds-less i h w = record { slot = λ k l. w .slot k (le-trans l h) }
+
 -- slot 0 holds nothing
 pub holds-none : (f : Tree ℕ → ℕ) (t : Tree ℕ) (slots : List ℕ) → getD slots 0 0 ≡ 0 → Holds f t 0 slots
 holds-none f t slots e = record { slot = λ j h. let z : j ≡ 0 = omega arith in rw z e }
@@ -66,10 +74,11 @@ in-tree ls t i e h = omega (arith, ap length e, length-labels t)
 -- what is measured up to some record is measured up to each before it
 pub measured-less : (ls sizes opens cuts : List ℕ) (i j : ℕ) → i ≤ j → Measured ls sizes opens cuts j → Measured ls sizes opens cuts i
 measured-less ls sizes opens cuts i j h m =
-    record { sized = λ t e. less (m .sized t e); opened = λ t e. less (m .opened t e); counted = λ t e. less (m .counted t e) }
-  where
-    less : {f : Tree ℕ → ℕ} {t : Tree ℕ} {slots : List ℕ} → Holds f t j slots → Holds f t i slots
-    less w = record { slot = λ k l. w .slot k (le-trans l h) }
+    record {
+      sized = λ t e. holds-less i h (m .sized t e);
+      opened = λ t e. holds-less i h (m .opened t e);
+      counted = λ t e. holds-less i h (m .counted t e);
+    }
 
 -- label i is that of the subtree at record i
 pub label-at : (ls : List ℕ) (t : Tree ℕ) (i : ℕ) → ls ≡ labels t → i < nodes t → getD ls i 0 ≡ root-label (node t i)
@@ -104,17 +113,33 @@ of-right-le f n h (catenation s t) = h t
 of-right-le f n h (union s t) = h t
 of-right-le f n h (star s) = omega arith
 
--- what the slots of record i's children hold
-pub record Children (t : Tree ℕ) (i left right : ℕ) (sizes opens cuts : List ℕ) : Type 0 where
+-- which slots record i's children have, and the size of the right one
+pub record Slots (t : Tree ℕ) (i left right : ℕ) (sizes : List ℕ) : Type 0 where
   pub left-is : left ≡ left-slot (root-label (node t i)) i (of-right nodes (node t i))
   pub right-is : right ≡ right-slot (root-label (node t i)) i
-  pub left-size : getD sizes left 0 ≡ of-left nodes (node t i)
   pub right-size : getD sizes right 0 ≡ of-right nodes (node t i)
+  pub inside : of-left nodes (node t i) + of-right nodes (node t i) ≤ i
+
+-- they follow from its label and the sizes
+pub slots : (ls : List ℕ) (t : Tree ℕ) (i left right : ℕ) (sizes : List ℕ) → ls ≡ labels t → i < length ls → Holds nodes t i sizes
+    → right ≡ right-slot (getD ls i 0) i → left ≡ left-slot (getD ls i 0) i (getD sizes right 0) → Slots t i left right sizes
+slots ls t i left right sizes e inside w r l =
+    let h : i < nodes t = in-tree ls t i e inside in
+    let s : List Seat = seats t 0 1 in
+    let a : Around s i (seat-at s i) = around s i (seats-seated t 0 1) (rw (length-seats t 0 1) h) in
+    let lab : getD ls i 0 ≡ root-label (node t i) = label-at ls t i e h in
+    let size : getD sizes right 0 ≡ of-right nodes (node t i) =
+    w .slot right (rw r (right-slot-le (getD ls i 0) i)) ∙ rw (r, lab) (a .right (λ (x : Seat). nodes (x .tree))) in
+    record { left-is = l ∙ rw (size, lab); right-is = r ∙ rw lab; right-size = size; inside = a .inside }
+
+-- what the slots of record i's children hold
+pub record Children (t : Tree ℕ) (i left right : ℕ) (sizes opens cuts : List ℕ) : Type 0 where
+  pub found : Slots t i left right sizes
+  pub left-size : getD sizes left 0 ≡ of-left nodes (node t i)
   pub left-open : getD opens left 0 ≡ of-left open-size (node t i)
   pub right-open : getD opens right 0 ≡ of-right open-size (node t i)
   pub left-cuts : getD cuts left 0 ≡ of-left cut-edges (node t i)
   pub right-cuts : getD cuts right 0 ≡ of-right cut-edges (node t i)
-  pub inside : of-left nodes (node t i) + of-right nodes (node t i) ≤ i
 
 -- the children's slots hold the children's numbers
 pub children : (ls : List ℕ) (t : Tree ℕ) (i left right : ℕ) (sizes opens cuts : List ℕ) → ls ≡ labels t → i < length ls → Measured ls sizes opens cuts i
@@ -123,29 +148,25 @@ children ls t i left right sizes opens cuts e inside m r l =
     let h : i < nodes t = in-tree ls t i e inside in
     let s : List Seat = seats t 0 1 in
     let a : Around s i (seat-at s i) = around s i (seats-seated t 0 1) (rw (length-seats t 0 1) h) in
-    let lab : getD ls i 0 ≡ root-label (node t i) = label-at ls t i e h in
-    let right-at : (f : Tree ℕ → ℕ) (slots : List ℕ) → Holds f t i slots → getD slots right 0 ≡ of-right f (node t i) =
-    λ f slots w. w .slot right (rw r (right-slot-le (getD ls i 0) i)) ∙ rw (r, lab) (a .right (λ (x : Seat). f (x .tree))) in
-    let size : getD sizes right 0 ≡ of-right nodes (node t i) = right-at nodes sizes (m .sized t e) in
-    let left-at : (f : Tree ℕ → ℕ) (slots : List ℕ) → Holds f t i slots → getD slots left 0 ≡ of-left f (node t i) =
-    λ f slots w. w .slot left (rw l (left-slot-le (getD ls i 0) i (getD sizes right 0))) ∙ rw (l, size, lab) (a .left (λ (x : Seat). f (x .tree))) in
+    let k : Slots t i left right sizes = slots ls t i left right sizes e inside (m .sized t e) r l in
+    let right-at : (f : Tree ℕ → ℕ) (numbers : List ℕ) → Holds f t i numbers → getD numbers right 0 ≡ of-right f (node t i) =
+    λ f numbers w. w .slot right (rw r (right-slot-le (getD ls i 0) i)) ∙ rw (k .right-is) (a .right (λ (x : Seat). f (x .tree))) in
+    let left-at : (f : Tree ℕ → ℕ) (numbers : List ℕ) → Holds f t i numbers → getD numbers left 0 ≡ of-left f (node t i) =
+    λ f numbers w. w .slot left (rw l (left-slot-le (getD ls i 0) i (getD sizes right 0))) ∙ rw (k .left-is) (a .left (λ (x : Seat). f (x .tree))) in
     record {
-      left-is = l ∙ rw (size, lab);
-      right-is = r ∙ rw lab;
+      found = k;
       left-size = left-at nodes sizes (m .sized t e);
-      right-size = size;
       left-open = left-at open-size opens (m .opened t e);
       right-open = right-at open-size opens (m .opened t e);
       left-cuts = left-at cut-edges cuts (m .counted t e);
       right-cuts = right-at cut-edges cuts (m .counted t e);
-      inside = a .inside;
     }
 
 -- a right child has no more nodes than there are records before its parent
-pub right-size-le : (ls : List ℕ) (t : Tree ℕ) (i right : ℕ) (sizes opens cuts : List ℕ) → ls ≡ labels t → i < length ls → Measured ls sizes opens cuts i
+pub right-size-le : (ls : List ℕ) (t : Tree ℕ) (i right : ℕ) (sizes : List ℕ) → ls ≡ labels t → i < length ls → Holds nodes t i sizes
     → right ≡ right-slot (getD ls i 0) i → getD sizes right 0 ≤ i
-right-size-le ls t i right sizes opens cuts e h m r =
-    let c = children ls t i (left-slot (getD ls i 0) i (getD sizes right 0)) right sizes opens cuts e h m r refl in omega (arith, c .right-size, c .inside)
+right-size-le ls t i right sizes e h w r =
+    let k = slots ls t i (left-slot (getD ls i 0) i (getD sizes right 0)) right sizes e h w r refl in omega (arith, k .right-size, k .inside)
 
 -- fewer edges are cut below a node than there are nodes
 below-cuts : (u : Tree ℕ) → of-left cut-edges u + of-right cut-edges u ≤ of-left nodes u + of-right nodes u
@@ -169,11 +190,11 @@ pub gathered : (t : Tree ℕ) (i left right : ℕ) (sizes opens cuts : List ℕ)
 gathered t i left right sizes opens cuts c =
     let u : Tree ℕ = node t i in
     record {
-      size-is = omega (arith, nodes-gathered u, c .left-size, c .right-size);
-      size-le = omega (arith, c .left-size, c .right-size, c .inside);
+      size-is = omega (arith, nodes-gathered u, c .left-size, c .found .right-size);
+      size-le = omega (arith, c .left-size, c .found .right-size, c .found .inside);
       left-le = rw (c .left-open) (of-left-le open-size 15 open-at-most u);
       right-le = rw (c .right-open) (of-right-le open-size 15 open-at-most u);
-      cuts-le = omega (arith, c .left-cuts, c .right-cuts, c .inside, below-cuts u);
+      cuts-le = omega (arith, c .left-cuts, c .right-cuts, c .found .inside, below-cuts u);
       open-is = rw (c .left-open, c .right-open) (sym (open-gathered u));
       cuts-is = rw (c .left-open, c .right-open, c .left-cuts, c .right-cuts) (sym (cuts-gathered u));
     }

@@ -5,3 +5,4 @@ mod hand;
 mod measure;
 pub mod number;
 mod slots;
+mod write;

@@ -87,8 +87,9 @@ left-of-requires c κs =
     let l = r .before .before .before .before .before in
     let s = start l in
     let ls = s .args .labels .now in
-    right-size-le ls (s .pre .0 .tree) (l .loop .i - 1) (r .right-of .result) (s .args .sizes .now) (s .args .opens .now) (s .args .cuts .now) (s .pre .0 .same)
-    (omega arith) (measured-less ls (s .args .sizes .now) (s .args .opens .now) (s .args .cuts .now) (l .loop .i - 1) (length ls) (omega arith) (s .pre .1 .1 .1 .0)) (r .right-of .ensures .0)
+    let less = measured-less ls (s .args .sizes .now) (s .args .opens .now) (s .args .cuts .now) (l .loop .i - 1) (length ls) (omega arith) (s .pre .1 .1 .1 .0) in
+    right-size-le ls (s .pre .0 .tree) (l .loop .i - 1) (r .right-of .result) (s .args .sizes .now) (s .pre .0 .same) (omega arith)
+    (less .sized (s .pre .0 .tree) (s .pre .0 .same)) (r .right-of .ensures .0)
 
 -- the children's open sizes and the right child's first new piece are small
 small : (c : tie.After-left-of Inv-loop μ-loop)

@@ -66,8 +66,8 @@ left-of-requires c κs =
     let r = c .before in
     let l = r .before .before .before in
     let s = start l in
-    right-size-le (s .args .labels .now) (s .pre .0 .tree) (l .loop .i) (r .right-of .result) (l .loop .sizes) (l .loop .opens) (l .loop .cuts) (s .pre .0 .same)
-    (r .before .before .loop-test .taken) (l .loop .inv .2) (r .right-of .ensures .0)
+    right-size-le (s .args .labels .now) (s .pre .0 .tree) (l .loop .i) (r .right-of .result) (l .loop .sizes) (s .pre .0 .same)
+    (r .before .before .loop-test .taken) (l .loop .inv .2 .sized (s .pre .0 .tree) (s .pre .0 .same)) (r .right-of .ensures .0)
 
 -- what is gathered once both slots are known, for every tree with these labels
 found : (c : tie.After-left-of Inv-loop μ-loop) (t : Tree ℕ) → (start (c .before .before .before .before .before) .args .labels .now) ≡ labels t
