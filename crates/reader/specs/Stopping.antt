@@ -2,7 +2,7 @@
 -- Assumes nothing.
 use Prim.Native.Nat.{ℕ, _<_}
 use native.Mathlib.Omega.{arith}
-use mathlib.Core.Path.{_≡_, refl, ap}
+use mathlib.Core.Path.{_≡_, refl, ap, _∙_}
 use mathlib.Core.Bool.{Bool, true, false}
 use mathlib.Core.List.{List}
 use lib.ListN.{length, getD}
@@ -96,11 +96,8 @@ module _ (bytes : List ℕ) where
   pub stops-starred : (place : ℕ) → place < length bytes → (getD bytes place 0 ≡ 42 → ⊥) → Stops starred bytes place
   stops-starred place h no-asterisk = at-sign h (no-star (sign-of (getD bytes place 0)) (getD bytes place 0) (sign-means (getD bytes place 0)) no-asterisk)
 
-  pub stops-bar : (place : ℕ) → place < length bytes → getD bytes place 0 ≡ 124 → Stops joined bytes place
-  stops-bar place h e = at-sign h (ap (λ (b : ℕ). stopping joined (sign-of b)) e)
-
-  pub stops-closing : (place : ℕ) → place < length bytes → getD bytes place 0 ≡ 41 → Stops joined bytes place
-  stops-closing place h e = at-sign h (ap (λ (b : ℕ). stopping joined (sign-of b)) e)
+  pub stops-at : {level : Level} {b : ℕ} (place : ℕ) → place < length bytes → getD bytes place 0 ≡ b → stopping level (sign-of b) ≡ true → Stops level bytes place
+  stops-at {level} place h e stop = at-sign h (ap (λ (x : ℕ). stopping level (sign-of x)) e ∙ stop)
 
   pub stops-united : (place : ℕ) → place < length bytes → (getD bytes place 0 ≡ 124 → ⊥) → Stops joined bytes place → Stops united bytes place
   stops-united place h no-bar (at-end e) = at-end e

@@ -24,14 +24,15 @@ pub fn operand(expr: &[u8], at: usize, depth: usize, labels: &mut [u16], count: 
                 place: at,
             };
         }
-        let inner = union(expr, at + 1, depth + 1, labels, count);
+        let open = at;
+        let inner = union(expr, open + 1, depth + 1, labels, count);
         let Part::Read { next, count } = inner else {
             return inner;
         };
         if next == expr.len() {
             return Part::Refused {
                 number: 4,
-                place: at,
+                place: open,
             };
         }
         return stars(expr, next + 1, labels, count);

@@ -6,7 +6,7 @@ use native.Mathlib.Omega.{arith}
 use borrow.Author.Needs.{needs}
 use lib.ListN.{length, length-set}
 use Rattle.reader.specs.Grammar.{starred, joined, united}
-use Rattle.reader.specs.Stopping.{Stops, at-end, stops-bar, stops-closing, begins-next}
+use Rattle.reader.specs.Stopping.{Stops, at-end, stops-at, begins-next}
 use Rattle.reader.specs.Surroundings.{fails-joined, fails-factor}
 use Rattle.reader.specs.Reading.{Carries, Whole, Went, went-joined, went-factor}
 use Rattle.reader.proofs.catenation.catenation.Reads as catenation
@@ -102,10 +102,10 @@ pub same-length-4 : (t : ℕ) → lts.Need-same-length-4 (catenation-claims t) (
 same-length-4 t c = search needs
 
 pub returns-4 : (t : ℕ) → lts.Need-returns-4 (catenation-claims t) (catenation-at t) catenation.Post Inv-loop μ-loop
-returns-4 t c = record { went = here t (c .before .before .before); stops = stops-bar (c .before .before .before .before .before .before .before .before .before .before .before .before .before .args .expr .now) (c .before .before .before .loop .place) (c .before .before .loop-test .taken) (c .if1 .taken) }
+returns-4 t c = record { went = here t (c .before .before .before); stops = stops-at (c .before .before .before .before .before .before .before .before .before .before .before .before .before .args .expr .now) (c .before .before .before .loop .place) (c .before .before .loop-test .taken) (c .if1 .taken) refl }
 
 pub same-length-5 : (t : ℕ) → lts.Need-same-length-5 (catenation-claims t) (catenation-at t) catenation.Post Inv-loop μ-loop
 same-length-5 t c = search needs
 
 pub returns-5 : (t : ℕ) → lts.Need-returns-5 (catenation-claims t) (catenation-at t) catenation.Post Inv-loop μ-loop
-returns-5 t c = record { went = here t (c .before .before .before .before); stops = stops-closing (c .before .before .before .before .before .before .before .before .before .before .before .before .before .before .args .expr .now) (c .before .before .before .before .loop .place) (c .before .before .before .loop-test .taken) (c .if2 .taken) }
+returns-5 t c = record { went = here t (c .before .before .before .before); stops = stops-at (c .before .before .before .before .before .before .before .before .before .before .before .before .before .before .args .expr .now) (c .before .before .before .before .loop .place) (c .before .before .before .loop-test .taken) (c .if2 .taken) refl }

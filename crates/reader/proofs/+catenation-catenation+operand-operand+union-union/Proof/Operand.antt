@@ -20,7 +20,7 @@ inner-read t c = rw (c .before .inner .given .1) at (c .before .before .before .
 group-read : (t : ℕ) (c : lts.Else4 (operand-claims t) (operand-at t) operand.Post) → let s = c .before .before .before .before .before .before .before .before .before .before .before .before .before .before in Went starred (s .args .expr .now) (s .args .depth) (s .args .at) (s .args .count) (s .args .labels .now) (c .before .before .inner .given .0 .0 + 1) (c .before .before .inner .given .0 .1 .0) (c .before .before .before .before .before .before .union .last .1 .1 .1 .0)
 group-read t c =
     let r = inner-read t (c .before) in
-    went-group r (omega arith) (c .before .before .before .before .before .before .before .before .if3 .left) (omega arith) (c .before .before .before .before .before .before .before .before .before .if2 .taken)
+    went-group r (omega arith) (omega arith) (omega arith) (c .before .before .before .before .before .before .before .before .before .if2 .taken)
 
 -- the character was read
 single-read : (t : ℕ) (c : lts.After-known-told2 (operand-claims t) (operand-at t) operand.Post) → let s = c .before .before .before .before .before .before .before .before .before .before .before .before in Went starred (s .args .expr .now) (s .args .depth) (s .args .at) (s .args .count) (s .args .labels .now) (c .before .single .given .0 .0) (c .before .single .given .0 .1 .0) (c .before .before .before .before .before .character .last .1 .1 .0)
@@ -59,7 +59,7 @@ pub returns-3 : (t : ℕ) → lts.Need-returns-3 (operand-claims t) (operand-at 
 returns-3 t c =
     let s = c .before .before .before .before .before .before .before .before .before .before .before .before in
     let e = c .enum-told .given .1 in
-    rw e (fails-group (s .args .expr .now) (s .args .at) (rw e at (c .before .before .before .before .union .ensures)) (c .before .before .before .before .before .before .if3 .left) (omega arith) (c .before .before .before .before .before .before .before .if2 .taken))
+    rw e (fails-group (s .args .expr .now) (s .args .at) (rw e at (c .before .before .before .before .union .ensures)) (omega arith) (omega arith) (c .before .before .before .before .before .before .before .if2 .taken))
 
 pub same-length-2 : (t : ℕ) → lts.Need-same-length-2 (operand-claims t) (operand-at t) operand.Post
 same-length-2 t c = search needs
@@ -67,7 +67,7 @@ same-length-2 t c = search needs
 pub returns-4 : (t : ℕ) → lts.Need-returns-4 (operand-claims t) (operand-at t) operand.Post
 returns-4 t c =
     let s = c .before .before .before .before .before .before .before .before .before .before .before .before .before .before in
-    fails-open (s .args .expr .now) (s .args .at) _ (inner-read t (c .before) .went .leads) (c .if4 .taken) (c .before .before .before .before .before .before .before .before .if3 .left) (omega arith) (c .before .before .before .before .before .before .before .before .before .if2 .taken)
+    fails-open (s .args .expr .now) (s .args .at) _ (inner-read t (c .before) .went .leads) (c .if4 .taken) (omega arith) (omega arith) (c .before .before .before .before .before .before .before .before .before .if2 .taken)
 
 pub add-stars : (t : ℕ) → lts.Need-add-stars (operand-claims t) (operand-at t) operand.Post
 add-stars t c = let r = inner-read t (c .before) in omega arith
