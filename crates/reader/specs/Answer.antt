@@ -114,3 +114,16 @@ kept-outcome bytes before after records pieces (tree t) scans e f = kept-pick by
 -- from what `read` promises, where it answers that the records were written
 pub kept : (bytes before after : List ℕ) (records pieces : ℕ) → numbers (Read records pieces) ≡ answered bytes (length before) → after ≡ stored bytes before → Kept bytes before after records pieces
 kept bytes before after records pieces e f = kept-outcome bytes before after records pieces (scanned bytes) refl e f
+
+-- where it answers a refusal, no byte of the buffer differs
+same-pick : (before : List ℕ) (number place : ℕ) (t : Tree ℕ) (many short : Bool) → numbers (Refused number place) ≡ pick many (refusing 8 0) (pick short (refusing 9 0) (reading t)) → pick many before (pick short before (encode t ++ drop (8 * nodes t) before)) ≡ before
+same-pick before number place t true short e = refl
+same-pick before number place t false true e = refl
+same-pick before number place t false false e = absurd (omega (arith, nodes-positive t, ap (λ (n : Numbers). n .records) e))
+
+same-outcome : (before : List ℕ) (number place : ℕ) (outcome : Outcome) → numbers (Refused number place) ≡ answer-for outcome (length before) → buffer-for outcome before ≡ before
+same-outcome before number place (refused number′ place′) e = refl
+same-outcome before number place (tree t) e = same-pick before number place t (ltb 128 (piece-count t)) (ltb (length before) (8 * nodes t)) e
+
+pub refusal-keeps : (bytes before after : List ℕ) (number place : ℕ) → numbers (Refused number place) ≡ answered bytes (length before) → after ≡ stored bytes before → after ≡ before
+refusal-keeps bytes before after number place e f = f ∙ same-outcome before number place (scanned bytes) e
