@@ -1,7 +1,6 @@
-//! The statement of what to build, implemented another way: a reader with an operator stack, membership by sets of ends
-//! over the tree, the fewest pieces by dynamic programming, marks by breadth-first closing of the uncut automaton.
-
-use std::collections::HashMap;
+//! The statement of what to build, implemented another way: a reader with an operator stack, the parts of a text that lie
+//! in a language by sets of ends over the tree, the fewest pieces by dynamic programming, marks by a plain search over the
+//! uncut automaton.
 
 #[derive(Clone, Debug, PartialEq, Eq)]
 pub enum Kind {
@@ -244,60 +243,45 @@ pub fn decode(list: &[u8]) -> Option<Tree> {
     (roots.len() == 1 && pieces(&t).1 <= 128 && records(&t) == list).then_some(t)
 }
 
-type Ends = Vec<bool>;
+/// For each place of a text where a part can start, the set of places where it can end: bit e of the word of s.
+pub type Parts = Vec<u128>;
 
-/// The places where a part that starts at one of `starts` can end.
-fn ends(t: &Tree, node: usize, starts: &Ends, text: &[u8]) -> Ends {
-    match t[node].kind {
-        Kind::Character(c) => {
-            let mut out = vec![false; starts.len()];
-            for i in 0..text.len() {
-                out[i + 1] = starts[i] && text[i] == c;
-            }
-            out
-        }
-        Kind::Catenation => {
-            let between = ends(t, t[node].left, starts, text);
-            if between.iter().any(|&b| b) {
-                ends(t, t[node].right, &between, text)
-            } else {
-                between
-            }
-        }
-        Kind::Union => {
-            let mut out = ends(t, t[node].left, starts, text);
-            for (a, b) in out.iter_mut().zip(ends(t, t[node].right, starts, text)) {
-                *a |= b;
-            }
-            out
-        }
-        Kind::Star => {
-            let mut all = starts.clone();
-            let mut fresh = starts.clone();
-            while fresh.iter().any(|&b| b) {
-                let reached = ends(t, t[node].left, &fresh, text);
-                fresh = reached.iter().zip(&all).map(|(&r, &a)| r && !a).collect();
-                for (a, &f) in all.iter_mut().zip(&fresh) {
-                    *a |= f;
+/// The places where a part of the language can end that starts at one of `places`.
+fn ends(places: u128, parts: &Parts) -> u128 {
+    parts.iter().enumerate().filter(|&(s, _)| places >> s & 1 == 1).fold(0, |all, (_, &ends)| all | ends)
+}
+
+/// All parts of a text of at most 127 bytes that lie in the language: from the leaves up, after the definition.
+pub fn parts(t: &Tree, text: &[u8]) -> Parts {
+    assert!(text.len() <= 127);
+    let mut of: Vec<Parts> = vec![];
+    for n in t {
+        let from = |s: usize| match n.kind {
+            Kind::Character(c) => ((text.get(s) == Some(&c)) as u128) << s << 1,
+            Kind::Catenation => ends(of[n.left][s], &of[n.right]),
+            Kind::Union => of[n.left][s] | of[n.right][s],
+            Kind::Star => {
+                let (mut all, mut before) = (1 << s, 0);
+                while all != before {
+                    before = all;
+                    all |= ends(all, &of[n.left]);
                 }
+                all
             }
-            all
-        }
+        };
+        of.push((0..=text.len()).map(from).collect());
     }
+    of.pop().unwrap()
 }
 
-fn ends_from(t: &Tree, start: usize, text: &[u8]) -> Ends {
-    let mut starts = vec![false; text.len() + 1];
-    starts[start] = true;
-    ends(t, t.len() - 1, &starts, text)
+pub fn is_match(parts: &Parts) -> bool {
+    parts[0] >> (parts.len() - 1) & 1 == 1
 }
 
-pub fn is_match(t: &Tree, text: &[u8]) -> bool {
-    ends_from(t, 0, text)[text.len()]
-}
-
-pub fn find(t: &Tree, text: &[u8]) -> Option<(usize, usize)> {
-    (0..=text.len()).find_map(|s| ends_from(t, s, text).iter().rposition(|&b| b).map(|e| (s, e)))
+/// The earliest start of a part, and its furthest end from there.
+pub fn find(parts: &Parts) -> Option<std::ops::Range<usize>> {
+    let start = parts.iter().position(|&ends| ends != 0)?;
+    Some(start..127 - parts[start].leading_zeros() as usize)
 }
 
 /// The uncut automaton: state 2 i is node i's start, 2 i + 1 its accepting state.
@@ -407,27 +391,28 @@ impl Automaton {
         }
         words
     }
-    /// The marks that words hold, if no bit past the last state is set and the two bits of shared states agree.
+    /// The marks that words hold: refused unless these marks give back the same words, so unless no bit past the last
+    /// state is set and the two bits of each shared state agree.
     pub fn marks(&self, words: &[u64]) -> Option<Vec<bool>> {
-        let mut known: HashMap<(usize, usize), bool> = HashMap::new();
-        for (k, &width) in self.widths.iter().enumerate() {
-            for i in 0..64 {
-                let bit = words[k] >> i & 1 == 1;
-                if i < width {
-                    known.insert((k, i), bit);
-                } else if bit {
-                    return None;
-                }
+        let marks: Vec<bool> = self.bits.iter().map(|bits| words[bits[0].0] >> bits[0].1 & 1 == 1).collect();
+        (self.words(&marks) == words[..self.widths.len()]).then_some(marks)
+    }
+    /// The ends of the parts that start where the text does, in their order: those of a text of any length.
+    pub fn ends(&self, text: &[u8]) -> Vec<usize> {
+        let mut marks = self.start();
+        let mut out = vec![];
+        for (i, &byte) in text.iter().enumerate() {
+            if *marks.last().unwrap() {
+                out.push(i);
             }
-        }
-        let mut marks = vec![];
-        for bits in &self.bits {
-            let first = known[&bits[0]];
-            if bits.iter().any(|b| known[b] != first) {
-                return None;
+            if !marks.contains(&true) {
+                return out;
             }
-            marks.push(first);
+            marks = self.step(&marks, byte);
         }
-        Some(marks)
+        if *marks.last().unwrap() {
+            out.push(text.len());
+        }
+        out
     }
 }

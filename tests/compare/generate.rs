@@ -1,5 +1,7 @@
 //! Inputs for the comparison, from a fixed seed: valid and damaged, long and short.
 
+use crate::expected::{Kind, Node, Tree, NONE};
+
 pub struct Random(u64);
 
 impl Random {
@@ -33,8 +35,8 @@ pub fn all_bytes() -> Vec<u8> {
     (0..=255).collect()
 }
 
-fn character(r: &mut Random, letters: &[u8], out: &mut Vec<u8>) {
-    let b = r.pick(letters);
+/// One character as an expression writes it.
+pub fn write_character(b: u8, out: &mut Vec<u8>) {
     if b"()|*\\".contains(&b) {
         out.push(b'\\');
     }
@@ -44,7 +46,7 @@ fn character(r: &mut Random, letters: &[u8], out: &mut Vec<u8>) {
 /// A written expression of about `size` nodes with at most `depth` groups open at once.
 pub fn expression(r: &mut Random, size: usize, depth: usize, letters: &[u8], out: &mut Vec<u8>) {
     if size <= 1 {
-        return character(r, letters, out);
+        return write_character(r.pick(letters), out);
     }
     match r.below(8) {
         0 | 1 if depth > 0 => {
@@ -105,4 +107,53 @@ pub fn text(r: &mut Random, expression: &[u8], most: usize) -> Vec<u8> {
     }
     out.truncate(most);
     out
+}
+
+/// One random change to a list: to some byte, to a byte by a little, or the last records cut off.
+pub fn damage_list(r: &mut Random, list: &mut Vec<u8>) {
+    match r.below(3) {
+        1 => list.truncate(r.below(list.len() / 8 + 1) * 8),
+        2 if !list.is_empty() => {
+            let at = r.below(list.len());
+            list[at] = list[at].wrapping_add(r.below(3) as u8);
+        }
+        _ => damage(r, list, &[0, 1, 2, 3, 4, 5, 254, 255]),
+    }
+}
+
+fn leaf(character: u8) -> Node {
+    Node { kind: Kind::Character(character), left: NONE, right: NONE }
+}
+
+/// A tree of exactly `nodes` nodes, added to `out`: with its operands as it comes (lean 0), most of it to the left (1) or
+/// most of it to the right (2).
+pub fn tree(r: &mut Random, nodes: usize, lean: usize, letters: &[u8], out: &mut Tree) {
+    if nodes == 1 {
+        return out.push(leaf(r.pick(letters)));
+    }
+    if nodes == 2 || r.one_in(6) {
+        tree(r, nodes - 1, lean, letters, out);
+        let left = out.len() - 1;
+        return out.push(Node { kind: Kind::Star, left, right: NONE });
+    }
+    let small = 1 + r.below((nodes - 2).min(9));
+    let left_nodes = [1 + r.below(nodes - 2), nodes - 1 - small, small][lean];
+    tree(r, left_nodes, lean, letters, out);
+    let left = out.len() - 1;
+    tree(r, nodes - 1 - left_nodes, lean, letters, out);
+    let right = out.len() - 1;
+    let kind = if r.one_in(3) { Kind::Union } else { Kind::Catenation };
+    out.push(Node { kind, left, right });
+}
+
+/// A character below so many stars.
+pub fn chain(stars: usize) -> Tree {
+    let star = |left| Node { kind: Kind::Star, left, right: NONE };
+    std::iter::once(leaf(b'a')).chain((0..stars).map(star)).collect()
+}
+
+/// A text of the characters of a tree in their order, some left out.
+pub fn leaves(r: &mut Random, tree: &Tree, most: usize) -> Vec<u8> {
+    let characters = tree.iter().filter_map(|n| if let Kind::Character(c) = n.kind { Some(c) } else { None });
+    characters.filter(|_| !r.one_in(6)).take(most).collect()
 }
