@@ -120,7 +120,22 @@ bit-with w j i = (
   λ b. bit-or w (2 ^ j) i .1 (⊎-elim inl (λ e. inr (bit-power j i .1 e)) b),
 )
 
--- the answer tells whether bit i of w is set
-pub record Tells (w i : ℕ) (answer : Bool) : Type 0 where
-  pub is-set : answer ≡ true → Bit w i
-  pub is-clear : answer ≡ false → Bit w i → ⊥
+-- two bits are equal exactly when one is set where the other is
+pub equal-bits : (v i w j : ℕ) → (v / 2 ^ i % 2 ≡ w / 2 ^ j % 2) ↔ (Bit v i ↔ Bit w j)
+equal-bits v i w j = (
+  λ e. (λ b. sym e ∙ b, λ b. e ∙ b),
+  λ h. elim (dec-bit v i) [ yes b ↦ b ∙ sym (h .0 b) | no b ↦ clear-bit v i b ∙ sym (clear-bit w j (λ c. b (h .1 c))) ],
+)
+
+-- the answer of a test tells whether P holds
+pub record Told (P : Type 0) (answer : Bool) : Type 0 where
+  pub holds : answer ≡ true → P
+  pub fails : answer ≡ false → P → ⊥
+
+-- the answer no, where P does not hold
+pub told-no : {P : Type 0} → (P → ⊥) → Told P false
+told-no h = record { holds = λ e. absurd (let z : _≡_ {A = ℕ} 0 1 = cc in omega arith); fails = λ _. h }
+
+-- the answer yes, where P holds
+pub told-yes : {P : Type 0} → P → Told P true
+told-yes p = record { holds = λ _. p; fails = λ e. absurd (let z : _≡_ {A = ℕ} 0 1 = cc in omega arith) }

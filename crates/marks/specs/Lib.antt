@@ -24,3 +24,6 @@ pub mod Visiting
 pub mod Chains
 pub mod Sweeping
 pub mod Moved
+pub mod Parents
+pub mod Agreed
+pub mod Checked

@@ -2,12 +2,13 @@
 ghost use Prim.Native.Nat.{_^_, _<_};
 ghost use mathlib.Core.Path.{_≡_};
 ghost use lib.Bits.{bitOr};
-ghost use Rattle.marks.specs.Bits.{Tells};
+ghost use Rattle.marks.specs.Words.{Bit};
+ghost use Rattle.marks.specs.Bits.{Told};
 
 // Whether bit i is set.
 pub fn has_bit(word: u64, i: usize) -> bool
     requires { ⌜ i < 64 ⌝ }
-    ensures { λ r. ⌜ Tells word i r ⌝ }
+    ensures { λ r. ⌜ Told (Bit word i) r ⌝ }
 {
     (word >> i) % 2 == 1
 }

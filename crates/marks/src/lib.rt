@@ -11,6 +11,7 @@ pub enum Answer {
     // A bit past the last state is set, or the two bits of a shared state differ.
     NotMarks,
 }
+pub mod agree;
 pub mod bits;
 pub mod close;
 pub mod moves;

@@ -8,7 +8,7 @@ shr-result : tie.Need-shr-result
 shr-result c = search needs
 
 returns : tie.Need-returns
-returns c = record { is-set = eqb-true _ _; is-clear = eqb-false _ _ }
+returns c = record { holds = eqb-true _ _; fails = eqb-false _ _ }
 
 pub has-bit-spec : {M : Type 1} → statement M
 has-bit-spec = tie.close (tie.spec shr-result returns)

@@ -53,8 +53,8 @@ loop-again : tie.Need-loop-again Inv-loop μ-loop
 loop-again c = (
   omega arith,
   ⊎-elim
-      (λ w. let-in-joined (c .before .before .before .before .loop .inv .1) (omega arith) (c .before .has-bit .ensures .is-set (w .0 .taken)) (w .2))
-      (λ w. let-in-kept (c .before .before .before .before .loop .inv .1) (c .before .has-bit .ensures .is-clear (w .0 .left)) (w .1))
+      (λ w. let-in-joined (c .before .before .before .before .loop .inv .1) (omega arith) (c .before .has-bit .ensures .holds (w .0 .taken)) (w .2))
+      (λ w. let-in-kept (c .before .before .before .before .loop .inv .1) (c .before .has-bit .ensures .fails (w .0 .left)) (w .1))
       (c .if1 .came),
 )
 
