@@ -22,7 +22,7 @@ down-more-in e D Y Z more above p d (inl m) = inl (more p d m)
 down-more-in e D Y Z more above p d (inr (begins, m)) = inr (begins, above m)
 
 -- passing up likewise
-up-more-in : (e : State → State) (below-Y below-Z Y Z : States) (q : State) →
+pub up-more-in : (e : State → State) (below-Y below-Z Y Z : States) (q : State) →
     (Y q → Z q) → More-in (λ p. q ≡ e (left p)) below-Y below-Z → (below-Y accepting → below-Z accepting) → Up e below-Y Y q → Up e below-Z Z q
 up-more-in e below-Y below-Z Y Z q more child accepts (inl m) = inl (more m)
 up-more-in e below-Y below-Z Y Z q more child accepts (inr (inl (p, stands, m))) = inr (inl (p, stands, child p stands m))
@@ -49,12 +49,12 @@ module _ {A : Type 0} where
   own-has (star x) (left p) (left q) (Empty.star-inside e) = own-has x p q e
 
   -- more marks within D close to more within D, where each transition begins in D
-  closed-more-in : (r : Tree (Leaf A)) (D Y Z : States) → ((p q : State) → Empty r p q → D p) → More-in D Y Z → More-in D (Closed r Y) (Closed r Z)
+  pub closed-more-in : (r : Tree (Leaf A)) (D Y Z : States) → ((p q : State) → Empty r p q → D p) → More-in D Y Z → More-in D (Closed r Y) (Closed r Z)
   closed-more-in r D Y Z begins more q d (p, m, here) = (p, more p d m, here)
   closed-more-in r D Y Z begins more q d (p, m, step e path) = (p, more p (begins _ _ e) m, step e path)
 
   -- more marks within D come to more within D when the child pieces below x are gone through; x stands at e, where D has its states
-  visit-more-in : (r : Tree (Leaf A)) (x : Nested A) (e : State → State) (D Y Z : States) → ((p q : State) → Empty r p q → D p) → ((p : State) → D (e p) ↔ Has x p) →
+  pub visit-more-in : (r : Tree (Leaf A)) (x : Nested A) (e : State → State) (D Y Z : States) → ((p q : State) → Empty r p q → D p) → ((p : State) → D (e p) ↔ Has x p) →
       More-in D Y Z → More-in D (Visit x e (Closed r) Y) (Visit x e (Closed r) Z)
   visit-more-in r (leaf a) e D Y Z begins states more = more
   visit-more-in r (catenation x y) e D Y Z begins states more = visit-more-in r y _ D _ _ begins (λ p. states (right p)) (visit-more-in r x _ D Y Z begins (λ p. states (left p)) more)

@@ -9,18 +9,15 @@ use lib.ListN.{length, getD, drop, set}
 use lib.Seq.{getD-drop, getD-take, getD-set-same, getD-set-other}
 use Rattle.language.specs.Automaton.{State, start, accepting, left, right, States, Closed, here}
 use Rattle.language.specs.Nested.{Nested, leaf, catenation, union, star, below, own as own-tree, Has, Down, Up, Visit, Sweep}
+use Rattle.language.specs.Same.{Agree, up-more-in, visit-more-in, sweep-same}
 use Rattle.marks.specs.Words.{Bit, width, run, Own, number, Holds}
 use Rattle.marks.specs.Plan.{Closes}
 use Rattle.marks.specs.Numbers.{number-accepting}
 use Rattle.marks.specs.Swept.{passed, Child, children-of, part, started, Visited, Visits}
 use Rattle.marks.specs.Passing.{bit-passed}
 use Rattle.marks.specs.Spots.{Spot, own, under, shift, enter, spot, Held, holds-held, Within, spot-within, own-spot, Under, under-enter, under-shift, own-or-under, First, first-start, held-at, bit-at, bit-of, iff-either}
-use Rattle.marks.specs.Within.{own-has, path-own, Among, closed-within, up-within, visit-within, sweep-within, sweep-extends}
+use Rattle.marks.specs.Within.{own-has, path-own, begins, closed-within, sweep-extends}
 use Rattle.marks.specs.Places.{Outside, Placed, place-in, place-whole, catenation-left, catenation-right, union-left, union-right, star-inside}
-
--- the marks M and N agree, of the states of x
-abbrev pub Same : {A : Type 0} → Nested A → States → States → Type 0
-Same x M N = (q : State) → Has x q → M q ↔ N q
 
 -- a state of the top piece is marked exactly when the bit of its number is set
 pub own-holds : {A : Type 0} (x : Nested A) (words : List ℕ) (q : State) → Has x q → Own x q → Holds x words q ↔ Bit (getD words 0 0) (number x q)
@@ -62,7 +59,7 @@ module _ (x : Nested ℕ) (before after : List ℕ) (closes : Closes x (getD bef
           (λ both. absurd (subst Under (own-spot x q (both .1)) u)) (path-own x way)
 
   -- closing the own word closes the marks
-  pub closed-holds : Same x (Holds x after) (Closed (own-tree x) (Holds x before))
+  pub closed-holds : Agree x (Holds x after) (Closed (own-tree x) (Holds x before))
   closed-holds q h = (to-closed q h, from-closed q h)
 
 -- an entry of a child piece's run
@@ -118,7 +115,7 @@ module _ (x : Nested ℕ) (e : State → State) (c : Child) (n : ℕ) (place : P
       Iff·trans (holds-held x words (e q) (place .has q .1 h)) (held-at words (place .spots q h ∙ ap (shift (c .stand) n) at))
 
   -- the start passed down
-  pub down-holds : (words : List ℕ) → c .from < length words → Same (c .tree) (Holds (c .tree) (started c words)) (Down e (Holds x words))
+  pub down-holds : (words : List ℕ) → c .from < length words → Agree (c .tree) (Holds (c .tree) (started c words)) (Down e (Holds x words))
   down-holds words room p h =
       Iff·trans (holds-held (c .tree) (started c words) p h)
       (Iff·trans (started-held c (c .stand) n (width (c .tree)) from (spot (c .tree) p) words (spot-within (c .tree) p h) room)
@@ -205,7 +202,7 @@ module _ (x : Nested ℕ) (e : State → State) (c : Child) (n : ℕ) (place : P
         (λ m. subst (Holds x raised) (sym (m .0))
         (stand-holds raised accepting 1 tt refl .1 (raised-bit (c .stand + 1) .1 (inr (refl, accepting-bit .0 (m .1)))))))
 
-    up-holds : Same x (Holds x raised) up
+    up-holds : Agree x (Holds x raised) up
     unfolding up
     up-holds q h = (
       λ m. ⊎-elim (λ (p, at). subst up (sym at) (to-up p (inside q p h at) (subst (Holds x raised) at m)))
@@ -213,39 +210,30 @@ module _ (x : Nested ℕ) (e : State → State) (c : Child) (n : ℕ) (place : P
       from-up q h,
     )
 
-    swept-marks : Same (c .tree) (Holds (c .tree) (part c after)) (Sweep (c .tree) (Down e (Holds x before)))
-    swept-marks p h =
-        Iff·trans (visited .swept .marks p h) (
-          sweep-within (c .tree) (Holds (c .tree) (started c before)) (Down e (Holds x before)) (λ q k. down-holds before room q k .0) p h,
-          sweep-within (c .tree) (Down e (Holds x before)) (Holds (c .tree) (started c before)) (λ q k. down-holds before room q k .1) p h,
-        )
+    swept-marks : Agree (c .tree) (Holds (c .tree) (part c after)) (Sweep (c .tree) (Down e (Holds x before)))
+    swept-marks p h = Iff·trans (visited .swept .marks p h) (sweep-same (c .tree) (down-holds before room) p h)
 
     wanted : States
     wanted = Up e (Sweep (c .tree) (Down e (Holds x before))) (Holds x before)
 
-    raise : Among x up wanted
+    up-wanted : Agree x up wanted
     unfolding up wanted
-    raise =
-        up-within x (c .tree) e (place .has) (Holds (c .tree) (part c after)) (Sweep (c .tree) (Down e (Holds x before))) (Holds x before) (Holds x before)
-        (λ q h m. m) (λ q h. swept-marks q h .0)
-
-    lower : Among x wanted up
-    unfolding up wanted
-    lower =
-        up-within x (c .tree) e (place .has) (Sweep (c .tree) (Down e (Holds x before))) (Holds (c .tree) (part c after)) (Holds x before) (Holds x before)
-        (λ q h m. m) (λ q h. swept-marks q h .1)
+    up-wanted q h = (
+      up-more-in e _ _ (Holds x before) (Holds x before) q (λ m. m) (λ p at. swept-marks p (inside q (left p) h at) .0) (swept-marks accepting tt .0),
+      up-more-in e _ _ (Holds x before) (Holds x before) q (λ m. m) (λ p at. swept-marks p (inside q (left p) h at) .1) (swept-marks accepting tt .1),
+    )
 
     closing : Closes x (getD raised 0 0) (getD after 0 0)
     unfolding raised
     closing = visited .closed
 
     -- what the visit makes of the marks
-    pub visited-holds : Same x (Holds x after) (Visit (below (c .tree)) e (Closed (own-tree x)) (Holds x before))
+    pub visited-holds : Agree x (Holds x after) (Visit (below (c .tree)) e (Closed (own-tree x)) (Holds x before))
     unfolding wanted
     visited-holds q h =
         Iff·trans (closed-holds x raised after closing raised-below q h) (
-          closed-within x (Holds x raised) wanted (λ p k m. raise p k (up-holds p k .0 m)) q h,
-          closed-within x wanted (Holds x raised) (λ p k m. up-holds p k .1 (lower p k m)) q h,
+          closed-within x (Holds x raised) wanted (λ p k m. up-wanted p k .0 (up-holds p k .0 m)) q h,
+          closed-within x wanted (Holds x raised) (λ p k m. up-holds p k .1 (up-wanted p k .1 m)) q h,
         )
 
 -- the visits of one list of child pieces, and then of another
@@ -260,21 +248,21 @@ visits-length : (x : Nested ℕ) (cs : List Child) (before after : List ℕ) →
 visits-length x [] before after v = ap length (sym v)
 visits-length x (c ∷ cs) before after (next, first, rest) = visits-length x cs next after rest ∙ first .same-length
 
-visit-same : (whole x : Nested ℕ) (e : State → State) (i n : ℕ) → Placed whole x e i n → (M N : States) → Same whole M N
-    → Same whole (Visit x e (Closed (own-tree whole)) M) (Visit x e (Closed (own-tree whole)) N)
+visit-same : (whole x : Nested ℕ) (e : State → State) (i n : ℕ) → Placed whole x e i n → (M N : States) → Agree whole M N
+    → Agree whole (Visit x e (Closed (own-tree whole)) M) (Visit x e (Closed (own-tree whole)) N)
 visit-same whole x e i n place M N same q h = (
-  visit-within whole x e (place .has) (Closed (own-tree whole)) (closed-within whole) M N (λ p k. same p k .0) q h,
-  visit-within whole x e (place .has) (Closed (own-tree whole)) (closed-within whole) N M (λ p k. same p k .1) q h,
+  visit-more-in (own-tree whole) x e (Has whole) M N (begins whole) (place .has) (λ p k. same p k .0) q h,
+  visit-more-in (own-tree whole) x e (Has whole) N M (begins whole) (place .has) (λ p k. same p k .1) q h,
 )
 
 -- the visits of two parts, one after the other
-then-visit : (whole y : Nested ℕ) (e : State → State) (i n : ℕ) → Placed whole y e i n → (M N K : States) → Same whole M N
-    → Same whole K (Visit y e (Closed (own-tree whole)) M) → Same whole K (Visit y e (Closed (own-tree whole)) N)
+then-visit : (whole y : Nested ℕ) (e : State → State) (i n : ℕ) → Placed whole y e i n → (M N K : States) → Agree whole M N
+    → Agree whole K (Visit y e (Closed (own-tree whole)) M) → Agree whole K (Visit y e (Closed (own-tree whole)) N)
 then-visit whole y e i n place M N K first second q h = Iff·trans (second q h) (visit-same whole y e i n place M N first q h)
 
 -- the visits of the child pieces below a part of the piece make the marks those of its visit
 pub visits-hold : (whole x : Nested ℕ) (e : State → State) (i n f : ℕ) → Placed whole x e i n → f ≡ suc n → (before after : List ℕ) → 1 + run whole ≤ length before
-    → Visits whole (children-of x i f) before after → Same whole (Holds whole after) (Visit x e (Closed (own-tree whole)) (Holds whole before))
+    → Visits whole (children-of x i f) before after → Agree whole (Holds whole after) (Visit x e (Closed (own-tree whole)) (Holds whole before))
 visits-hold whole (leaf a) e i n f place from before after room v = λ q h. subst (λ (words : List ℕ). Holds whole words q ↔ Holds whole before q) v Iff·rfl
 visits-hold whole (catenation x y) e i n f place from before after room v =
     let (between, some, others) = visits-split whole (children-of x (i + 1) f) (children-of y (i + (1 + width x)) (f + run x)) before after v in
@@ -293,13 +281,13 @@ visits-hold whole (union x y) e i n f place from before after room v =
 visits-hold whole (star x) e i n f place from before after room v =
     visits-hold whole x (λ p. e (left p)) (i + 1) n f (place-in (i + 1) n refl (omega arith) place (star-inside x)) from before after room v
 visits-hold whole (below x) e i n f place from before after room (between, first, same) =
-    subst (λ (words : List ℕ). Same whole (Holds whole words) (Visit (below x) e (Closed (own-tree whole)) (Holds whole before))) same
+    subst (λ (words : List ℕ). Agree whole (Holds whole words) (Visit (below x) e (Closed (own-tree whole)) (Holds whole before))) same
     (visited-holds whole e (record { stand = i; from = f; tree = x }) n place from before between first (omega (arith, place .seat .long)))
 
 -- closing the own word, and then the visits of the child pieces one after the other, make the marks those of a sweep
 pub sweep-holds : (x : Nested ℕ) (before begun after : List ℕ) → Closes x (getD before 0 0) (getD begun 0 0)
     → ((o : ℕ) → getD before (suc o) 0 ≡ getD begun (suc o) 0) → 1 + run x ≤ length begun → Visits x (children-of x 0 1) begun after
-    → Same x (Holds x after) (Sweep x (Holds x before))
+    → Agree x (Holds x after) (Sweep x (Holds x before))
 sweep-holds x before begun after closes same room v =
     then-visit x x (λ p. p) 0 0 (place-whole x) (Holds x begun) (Closed (own-tree x) (Holds x before)) (Holds x after)
     (closed-holds x before begun closes same) (visits-hold x x (λ p. p) 0 0 1 (place-whole x) refl begun after room v)

@@ -12,6 +12,7 @@ pub enum Answer {
     NotMarks,
 }
 pub mod agree;
+
 pub mod bits;
 pub mod close;
 pub mod moves;
