@@ -1,16 +1,17 @@
 -- Match and search by the plain simulation: the marks after the bytes from s to e tell whether that part lies in the language.
 -- Assumes nothing.
 use Prim.Native.Nat.{ℕ, _+_, _≤_, _<_}
-use mathlib.Core.Path.{_≡_, refl, ap, _∙_, subst}
+use mathlib.Core.Path.{_≡_, ap, _∙_, subst}
 use mathlib.Core.Bool.{Bool, true}
 use mathlib.Core.Logic.{_↔_, Iff·trans}
-use mathlib.Core.List.{List, [], _∷_, _++_}
+use mathlib.Core.List.{List, [], _∷_}
 use native.Mathlib.Omega.{arith}
 use lib.ListN.{length, getD}
 use Rattle.language.specs.Tree.{Tree}
 use Rattle.language.specs.Language.{Language}
 use Rattle.language.specs.Automaton.{State, accepting, States, Started, Stepped, After}
-use Rattle.language.specs.Simulation.{after-same, none-left}
+use Rattle.language.specs.Simulation.{after-same}
+use Rattle.language.specs.Along.{after-append, after-step, after-none}
 use Rattle.language.specs.Acceptance.{accepts-exactly}
 use Rattle.finder.specs.Found.{part, part-empty, part-whole, part-next, part-join, Part}
 use Rattle.finder.specs.Progress.{Says, None-after}
@@ -22,21 +23,6 @@ Same X Y = (p : State) → X p ↔ Y p
 -- a set holds no state
 abbrev pub Empty-set : States → Type 0
 Empty-set X = (p : State) → X p → ⊥
-
-module _ {A : Type 0} (Takes : A → ℕ → Type 0) (t : Tree A) where
-  -- after one text and then another
-  pub after-append : (v w : List ℕ) (X : States) → After Takes t (v ++ w) X ≡ After Takes t w (After Takes t v X)
-  after-append [] w X = refl
-  after-append (b ∷ v) w X = after-append v w (Stepped Takes t b X)
-
-  -- after one byte more: a step with that byte
-  pub after-step : (w : List ℕ) (b : ℕ) (X : States) → After Takes t (w ++ (b ∷ [])) X ≡ Stepped Takes t b (After Takes t w X)
-  after-step w b X = after-append w (b ∷ []) X
-
-  -- where no mark is left, none comes back
-  pub after-none : (w : List ℕ) (X : States) → Empty-set X → Empty-set (After Takes t w X)
-  after-none [] X none = none
-  after-none (b ∷ w) X none = after-none w (Stepped Takes t b X) (none-left Takes t b none)
 
 module _ {A : Type 0} (Takes : A → ℕ → Type 0) (t : Tree A) (text : List ℕ) where
   -- the marks after the bytes of the text from s to e

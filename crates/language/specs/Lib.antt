@@ -15,3 +15,4 @@ pub mod Copies
 pub mod Same
 pub mod Sweeps
 pub mod Models
+pub mod Along

@@ -27,3 +27,4 @@ pub mod Moved
 pub mod Parents
 pub mod Agreed
 pub mod Checked
+pub mod Texts

@@ -1,0 +1,79 @@
+-- The words after a text: how they come from those after the text without its last byte, when they say that the text is in the
+-- language, and when they say that no longer text is.
+-- Assumes nothing.
+use Prim.Native.Nat.{ℕ, suc, _+_, _-_, _<_}
+use mathlib.Core.Path.{_≡_, refl, sym, ap, _∙_, subst}
+use mathlib.Core.Logic.{_↔_}
+use mathlib.Core.List.{List, [], _∷_, _++_}
+use native.Mathlib.Omega.{arith}
+use lib.ListN.{getD}
+use Rattle.language.specs.Tree.{Tree}
+use Rattle.language.specs.Language.{Is, Matches}
+use Rattle.language.specs.Automaton.{State, accepting, States, Started, Stepped, After}
+use Rattle.language.specs.Nested.{Nested, leaf, catenation, union, star, below, Has, Models}
+use Rattle.language.specs.Acceptance.{accepts-exactly}
+use Rattle.language.specs.Models.{origin-onto}
+use Rattle.language.specs.Along.{after-step, reached-state, none-longer}
+use Rattle.tree.specs.Cut.{wanted}
+use Rattle.tree.specs.Records.{piece-count}
+use Rattle.tree.specs.Nesting.{pieces-below, whole-nest}
+use Rattle.tree.specs.Pieces.{stated}
+use Rattle.marks.specs.Words.{Bit, width, run, Holds, Clean}
+use Rattle.marks.specs.Tables.{cut-up, Holding}
+use Rattle.marks.specs.Bits.{bit-zero}
+use Rattle.marks.specs.Numbers.{number-accepting}
+use Rattle.marks.specs.Spots.{Spot, own, under, spot, Held, Within, iff-trans, bit-at, held-at, holds-held, spot-within, own-spot}
+
+-- there is a word for each piece below the top piece
+pub run-pieces : {A : Type 0} (x : Nested A) → run x ≡ pieces-below x
+run-pieces (leaf a) = refl
+run-pieces (catenation x y) = omega (arith, run-pieces x, run-pieces y)
+run-pieces (union x y) = omega (arith, run-pieces x, run-pieces y)
+run-pieces (star x) = run-pieces x
+run-pieces (below x) = omega (arith, run-pieces x)
+
+-- so there is a word for each piece of a tree
+pub all-words : (t : Tree ℕ) → 1 + run (cut-up t) ≡ piece-count t
+all-words t = ap (λ (n : ℕ). 1 + n) (run-pieces (cut-up t)) ∙ stated t .all-pieces
+
+-- the first so many words are 0
+abbrev pub All-zero : ℕ → List ℕ → Type 0
+All-zero count words = (k : ℕ) → k < count → getD words k 0 ≡ 0
+
+-- no bit is set in words that are 0
+unlit : (s : Spot) (k m : ℕ) (words : List ℕ) → All-zero (1 + m) words → Within k m s → Held s words → ⊥
+unlit (own b) k m words zeros within held = bit-zero b (subst (λ (n : ℕ). Bit n b) (zeros 0 (omega arith)) held)
+unlit (under o b) k m words zeros within held = bit-zero b (subst (λ (n : ℕ). Bit n b) (zeros (suc o) (omega arith)) held)
+
+-- words that are 0 hold no mark
+pub zero-holds : {A : Type 0} (x : Nested A) (words : List ℕ) → All-zero (1 + run x) words → (q : State) → Has x q → Holds x words q → ⊥
+zero-holds x words zeros q has held = unlit (spot x q) (width x) (run x) words zeros (spot-within x q has) (holds-held x words q has .0 held)
+
+module _ {t : Tree ℕ} {w words : List ℕ} (holding : Holding t w words) where
+  -- where the words of the pieces are 0, no state is marked after the text
+  none-marked : All-zero (piece-count t) words → (p : State) → After Is t w (Started t) p → ⊥
+  none-marked zeros p reached =
+      let (q, has, stands) = origin-onto (cut-up t) p (rw (whole-nest t (wanted t)) (reached-state Is t w p reached)) in
+      zero-holds (cut-up t) words (rw (all-words t) zeros) q has (holding .modelled q has .1 (rw stands reached))
+
+  -- and no text that begins with it is in the language
+  pub nothing-left : All-zero (piece-count t) words → (v : List ℕ) → Matches t (w ++ v) → ⊥
+  nothing-left zeros v = none-longer Is t w v (none-marked zeros)
+
+  -- the last state of piece 0 is the root's accepting state: it is marked exactly when the text is in the language
+  pub accepting-answer : Bit (getD words 0 0) (width (cut-up t) - 1) ↔ Matches t w
+  accepting-answer =
+      let x : Nested ℕ = cut-up t in
+      iff-trans (bit-at (getD words 0 0) (omega (arith, number-accepting x)))
+      (iff-trans (held-at words (sym (own-spot x accepting tt)))
+      (iff-trans (holds-held x words accepting tt .1, holds-held x words accepting tt .0)
+      (iff-trans (holding .modelled accepting tt) (accepts-exactly Is t w))))
+
+  -- after one byte more they hold what a step with it marks
+  pub holding-next : {b : ℕ} {later : List ℕ} → Models (cut-up t) (Holds (cut-up t) later) (Stepped Is t b (After Is t w (Started t))) → Clean (cut-up t) later → Holding t (w ++ (b ∷ [])) later
+  holding-next {b} {later} models clean =
+      record { modelled = subst (λ (X : States). Models (cut-up t) (Holds (cut-up t) later) X) (sym (after-step Is t w b (Started t))) models; clean = clean }
+
+-- before the first byte they hold what the start marks
+pub holding-first : {t : Tree ℕ} {words : List ℕ} → Models (cut-up t) (Holds (cut-up t) words) (Started t) → Clean (cut-up t) words → Holding t [] words
+holding-first models clean = record { modelled = models; clean = clean }
