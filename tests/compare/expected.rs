@@ -285,6 +285,7 @@ pub fn find(parts: &Parts) -> Option<std::ops::Range<usize>> {
 }
 
 /// The uncut automaton: state 2 i is node i's start, 2 i + 1 its accepting state.
+#[derive(Clone)]
 pub struct Automaton {
     empty: Vec<Vec<usize>>,
     characters: Vec<Option<u8>>,
@@ -396,6 +397,15 @@ impl Automaton {
     pub fn marks(&self, words: &[u64]) -> Option<Vec<bool>> {
         let marks: Vec<bool> = self.bits.iter().map(|bits| words[bits[0].0] >> bits[0].1 & 1 == 1).collect();
         (self.words(&marks) == words[..self.widths.len()]).then_some(marks)
+    }
+    /// The automaton that has lost a state.
+    pub fn without(&self, state: usize) -> Automaton {
+        let mut rest = self.clone();
+        rest.empty[state].clear();
+        for next in &mut rest.empty {
+            next.retain(|&s| s != state);
+        }
+        rest
     }
     /// The ends of the parts that start where the text does, in their order: those of a text of any length.
     pub fn ends(&self, text: &[u8]) -> Vec<usize> {

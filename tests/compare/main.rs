@@ -3,14 +3,14 @@
 //! each kind agreed; the first difference ends the run with status 1.
 
 mod calls;
+mod desk;
 mod expected;
-#[path = "../../rust/foamlattice.rs"]
-mod foamlattice;
 mod generate;
+mod wrapper;
 
 use calls::List;
-use foamlattice::{MOST_RECORD_BYTES, MOST_WORDS};
 use generate::Random;
+use wrapper::foamlattice::{MOST_RECORD_BYTES, MOST_WORDS};
 
 const SIGNS: &[u8] = b"ab()|*\\";
 
@@ -271,7 +271,8 @@ fn long_texts(_: &mut Random) -> usize {
 }
 
 fn main() {
-    let kinds: [(&str, fn(&mut Random) -> usize); 11] = [
+    let kinds: [(&str, fn(&mut Random) -> usize); 13] = [
+        ("edges through the Rust wrapper", |_| wrapper::compare()),
         ("short expressions", short_expressions),
         ("pairs of bytes", all_bytes),
         ("random expressions", random_expressions),
@@ -279,6 +280,7 @@ fn main() {
         ("runs of starts and steps", runs_of_steps),
         ("lists with one byte changed", changed_lists),
         ("damaged lists", damaged_lists),
+        ("dates", |_| desk::compare()),
         ("trees", trees),
         ("chains of stars", chains_of_stars),
         ("long expressions", long_expressions),
