@@ -19,4 +19,5 @@ pub mod Written
 pub mod Measured
 pub mod Bytes
 pub mod Handed
-pub mod Storing
+pub mod Recording
+pub mod Depth

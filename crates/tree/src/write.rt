@@ -8,7 +8,7 @@ ghost use Prim.Native.Nat.{_*_, _≤_};
 ghost use lib.ListN.{length};
 ghost use Rattle.tree.specs.Measured.{Postorder, Sized};
 ghost use Rattle.tree.specs.Handed.{Pieced};
-ghost use Rattle.tree.specs.Storing.{Recorded};
+ghost use Rattle.tree.specs.Recording.{Recorded};
 
 // Writes every record, by the sizes and the pieces in the slots.
 pub fn write_all(labels: &[u16], sizes: &[u16], pieces: &[u16], out: &mut [u8])

@@ -6,7 +6,7 @@ use mathlib.Core.Path.{_≡_, refl, _∙_}
 use native.Mathlib.Omega.{arith}
 use lib.ListN.{length, getD}
 use Rattle.tree.specs.Measured.{right-size-le, holds-less, slots, in-tree}
-use Rattle.tree.specs.Storing.{Stored, stored-none, stored-more, stored-all}
+use Rattle.tree.specs.Recording.{Stored, stored-none, stored-more, stored-all}
 use Rattle.tree.proofs.write.write_all.Statement.{statement}
 use Rattle.tree.proofs.write.write_all.Tie as tie
 use Rattle.tree.proofs.write.write_all.Reads as reads
