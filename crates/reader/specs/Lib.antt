@@ -13,4 +13,5 @@ pub mod Surroundings
 pub mod Reading
 pub mod Expression
 pub mod Answer
+pub mod Store
 pub mod TooLarge

@@ -6,4 +6,26 @@ mod expression;
 mod operand;
 mod part;
 mod stars;
+mod store;
 mod union;
+
+pub use answer::Answer;
+use expression::expression;
+use part::Part;
+use store::store;
+ghost use mathlib.Core.Path.{_≡_};
+ghost use lib.ListN.{length};
+ghost use Rattle.reader.specs.Answer.{numbers, answered, stored};
+
+// Reads an expression and writes its tree's records. The labels are collected apart, so that nothing is written before the answer is sure.
+pub fn read(expr: &[u8], records: &mut [u8]) -> Answer
+    ensures answer { λ r. ⌜ numbers r ≡ answered (now (expr .entry)) (length (now (records .entry))) ⌝ }
+    ensures buffer { λ r. ⌜ now (records .exit) ≡ stored (now (expr .entry)) (now (records .entry)) ⌝ }
+{
+    let mut labels = [0u16; 2047];
+    let whole = expression(expr, &mut labels);
+    match whole {
+        Part::Refused { number, place } => Answer::Refused { number, place },
+        Part::Read { next: _, count } => store(&labels[..count], records),
+    }
+}

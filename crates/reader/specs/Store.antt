@@ -1,0 +1,50 @@
+-- What storing the labels of a tree promises: the answer for that tree, and its records in the buffer.
+-- Assumes nothing.
+use Prim.Native.Nat.{ℕ, _*_, _<_, _≤_}
+use native.Mathlib.Omega.{arith}
+use mathlib.Core.Path.{_≡_, refl, ap, sym, _∙_}
+use mathlib.Core.Bool.{Bool, true, false}
+use mathlib.Core.List.{List, _++_}
+use lib.ListN.{length, drop}
+use lib.Dec.{ltb}
+use borrow.Author.Tests.{lt-ltb, le-ltb}
+use Rattle.language.specs.Tree.{Tree, nodes}
+use Rattle.tree.specs.Records.{labels, encode, piece-count}
+use Rattle.tree.specs.Lengths.{length-labels}
+use Rattle.reader.specs.Scanner.{tree, scanned}
+use Rattle.reader.specs.Answer.{numbers, refusing, reading, pick, answer-for, buffer-for, answered, stored}
+use Rattle.reader.specs.declared.answer.Answer.{Answer}
+use Rattle.reader.specs.declared.answer.Answer.the-variants.{Read, Refused}
+
+-- of whatever tree the labels are, the answer is that tree's, and so is what the buffer holds afterwards
+pub record Stored (ls before after : List ℕ) (r : Answer) : Type 0 where
+  pub answer : (t : Tree ℕ) → ls ≡ labels t → numbers r ≡ answer-for (tree t) (length before)
+  pub buffer : (t : Tree ℕ) → ls ≡ labels t → after ≡ buffer-for (tree t) before
+
+module _ (ls before : List ℕ) (n : ℕ) (count : (t : Tree ℕ) → ls ≡ labels t → n ≡ piece-count t) where
+  -- the tests, as the tree has them
+  many : (t : Tree ℕ) → ls ≡ labels t → 128 < n → ltb 128 (piece-count t) ≡ true
+  many t e h = lt-ltb 128 (piece-count t) (omega (arith, count t e))
+
+  not-many : (t : Tree ℕ) → ls ≡ labels t → n ≤ 128 → ltb 128 (piece-count t) ≡ false
+  not-many t e h = le-ltb 128 (piece-count t) (omega (arith, count t e))
+
+  long : (t : Tree ℕ) → ls ≡ labels t → length ls ≡ nodes t
+  long t e = ap length e ∙ length-labels t
+
+  pub stored-many : 128 < n → Stored ls before before (Refused 8 0)
+  stored-many h = record { answer = λ t e. rw (many t e h); buffer = λ t e. rw (many t e h) }
+
+  pub stored-short : n ≤ 128 → length before < 8 * length ls → Stored ls before before (Refused 9 0)
+  stored-short h short =
+      record {
+        answer = λ t e. rw (not-many t e h, lt-ltb (length before) (8 * nodes t) (omega (arith, long t e)));
+        buffer = λ t e. rw (not-many t e h, lt-ltb (length before) (8 * nodes t) (omega (arith, long t e)));
+      }
+
+  pub stored-whole : {after : List ℕ} → n ≤ 128 → 8 * length ls ≤ length before → ((t : Tree ℕ) → ls ≡ labels t → after ≡ encode t ++ drop (8 * nodes t) before) → Stored ls before after (Read (length ls) n)
+  stored-whole h room wrote =
+      record {
+        answer = λ t e. rw (not-many t e h, le-ltb (length before) (8 * nodes t) (omega (arith, long t e)), long t e, count t e);
+        buffer = λ t e. rw (not-many t e h, le-ltb (length before) (8 * nodes t) (omega (arith, long t e))) (wrote t e);
+      }
