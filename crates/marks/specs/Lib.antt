@@ -23,6 +23,8 @@ pub mod Passing
 pub mod Visiting
 pub mod Chains
 pub mod Sweeping
+pub mod Twice
+pub mod Simulated
 pub mod Moved
 pub mod Parents
 pub mod Agreed

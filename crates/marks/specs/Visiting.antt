@@ -26,6 +26,10 @@ own-holds x words q h o = (
   λ b. holds-held x words q h .1 (subst (λ (s : Spot). Held s words) (sym (own-spot x q o)) b),
 )
 
+-- the top piece's accepting state is its last
+pub accepting-holds : {A : Type 0} (x : Nested A) (words : List ℕ) → Holds x words accepting ↔ Bit (getD words 0 0) (width x - 1)
+accepting-holds x words = Iff·trans (own-holds x words accepting tt tt) (bit-at (getD words 0 0) (omega (arith, number-accepting x)))
+
 held-under : (s : Spot) (before after : List ℕ) → Under s → ((o : ℕ) → getD before (suc o) 0 ≡ getD after (suc o) 0) → Held s before → Held s after
 held-under (own b) before after u same h = absurd u
 held-under (under o b) before after u same h = subst (λ (w : ℕ). Bit w b) (same o) h
@@ -149,9 +153,8 @@ module _ (x : Nested ℕ) (e : State → State) (c : Child) (n : ℕ) (place : P
     -- the child's accepting state
     accepting-bit : Holds (c .tree) (part c after) accepting ↔ Bit (getD after (c .from) 0) (width (c .tree) - 1)
     accepting-bit =
-        Iff·trans (own-holds (c .tree) (part c after) accepting tt tt)
-        (Iff·trans (bit-of (number (c .tree) accepting) (part-at c after 0 (omega arith) ∙ ap (λ (k : ℕ). getD after k 0) (omega arith)))
-        (bit-at (getD after (c .from) 0) (omega (arith, number-accepting (c .tree)))))
+        Iff·trans (accepting-holds (c .tree) (part c after))
+        (bit-of (width (c .tree) - 1) (part-at c after 0 (omega arith) ∙ ap (λ (k : ℕ). getD after k 0) (omega arith)))
 
     -- no mark of the child piece is lost
     child-extends : (p : State) → Has (c .tree) p → Holds (c .tree) (part c before) p → Holds (c .tree) (part c after) p

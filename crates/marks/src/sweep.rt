@@ -4,6 +4,7 @@ ghost use mathlib.Core.Path.{_≡_};
 ghost use Prim.Native.Nat.{ℕ, _<_};
 ghost use Rattle.language.specs.Nested.{Nested};
 ghost use Rattle.marks.specs.Swept.{passed, Ready, Sweepable, Swept};
+ghost use Rattle.marks.specs.Twice.{Closable, Closed-twice};
 
 // The word with bit `to` set where bit `from` of the other is.
 fn pass(other: u64, from: usize, word: u64, to: usize) -> u64
@@ -39,4 +40,20 @@ pub fn sweep(
         words[0] = close(reach, piece, raised);
         at = next;
     }
+}
+
+// Closes the set of marks by two sweeps. The first `count` words are used, one for each piece.
+pub fn close_twice(
+    reach: &[u64],
+    runs: &[u8],
+    stands: &[u8],
+    tops: &[u8],
+    count: usize,
+    words: &mut [u64],
+)
+    requires { ⌜ Closable (now reach) (now runs) (now stands) (now tops) count (now words) ⌝ }
+    ensures { λ _. ⌜ Closed-twice (now (reach .entry)) (now (runs .entry)) (now (stands .entry)) (now (tops .entry)) count (now (words .entry)) (now (words .exit)) ⌝ }
+{
+    sweep(reach, runs, stands, tops, 0, &mut words[..count]);
+    sweep(reach, runs, stands, tops, 0, &mut words[..count]);
 }

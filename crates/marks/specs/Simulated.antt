@@ -1,0 +1,75 @@
+-- Start and step on words: what the words hold after the closing is what the plain simulation marks.
+-- Assumes nothing.
+use Prim.Native.Nat.{ℕ, zero, suc, _+_, _-_, _≤_, _<_}
+use native.Mathlib.Omega.{arith}
+use mathlib.Core.Path.{_≡_, refl, sym, subst}
+use mathlib.Core.Logic.{_↔_, Iff·trans, Iff·symm}
+use mathlib.Core.List.{List, _∷_}
+use lib.ListN.{getD}
+use lib.Pow.{pow-pos, pow-lt}
+use Rattle.language.specs.Language.{Is}
+use Rattle.language.specs.Automaton.{State, start, accepting, States, Started, Stepped}
+use Rattle.language.specs.Nested.{Nested, whole, Models, Move}
+use Rattle.language.specs.Same.{Agree, sweep-same, models-same}
+use Rattle.language.specs.Sweeps.{sweeps-start, sweeps-step}
+use Rattle.marks.specs.Words.{Bit, width, run, Holds, Clean}
+use Rattle.marks.specs.Plan.{Planned, Each, Reaches}
+use Rattle.marks.specs.Numbers.{width-two}
+use Rattle.marks.specs.Bits.{bit-zero, bit-power}
+use Rattle.marks.specs.Swept.{Narrow-below, tables, Laid}
+use Rattle.marks.specs.Spots.{Spot, own, under, spot, Held, holds-held, Within, spot-within, First, first-start, Bounded, clean-words, below-power, widths}
+use Rattle.marks.specs.Visiting.{accepting-holds}
+use Rattle.marks.specs.Twice.{Run-of, Closed-twice}
+
+-- the tables speak of all pieces of x, from piece 0 on
+pub laid-whole : (reach labels runs stands tops : List ℕ) (x : Nested ℕ) → Planned (tables labels runs stands tops) x → Each Reaches reach x
+    → width x ≤ 62 → Narrow-below x → Laid reach runs stands tops x 0
+laid-whole reach labels runs stands tops x planned reached narrow narrow-below = record {
+  labels = labels;
+  piece = planned .0;
+  children = planned .1;
+  reaches = reached .0;
+  reaches-below = reached .1;
+  narrow = narrow;
+  narrow-below = narrow-below;
+}
+
+-- the words with only the root's start marked
+pub record Start-marked (x : Nested ℕ) (words : List ℕ) : Type 0 where
+  pub first : getD words 0 0 ≡ 1
+  pub others : (o : ℕ) → o < run x → getD words (suc o) 0 ≡ 0
+
+module _ (x : Nested ℕ) (words : List ℕ) (marked : Start-marked x words) where
+  first-held : (s : Spot) → Within (width x) (run x) s → Held s words ↔ First s
+  first-held (own b) l = (λ h. bit-power 0 b .0 (subst (λ (w : ℕ). Bit w b) (marked .first) h), λ h. subst (λ (w : ℕ). Bit w b) (sym (marked .first)) (bit-power 0 b .1 h))
+  first-held (under o b) l = (λ h. bit-zero b (subst (λ (w : ℕ). Bit w b) (marked .others o l) h), λ h. absurd h)
+
+  -- they hold the start and nothing else
+  pub start-holds : Agree x (Holds x words) (λ q. q ≡ start)
+  start-holds q h =
+      Iff·trans (holds-held x words q h)
+      (Iff·trans (first-held (spot x q) (spot-within x q h)) (first-start x q h, λ e. subst (λ (p : State). First (spot x p)) (sym e) refl))
+
+  -- and no bit past a last state
+  pub start-clean : Clean x words
+  start-clean = clean-words x words .1 each
+    where
+      each : Bounded (1 + run x) words (width x ∷ widths x)
+      each zero l = below-power (marked .first) refl (pow-lt {i = 0} {j = width x} (omega (arith, width-two x)))
+      each (suc o) l = below-power (marked .others o (omega arith)) refl (pow-pos (getD (widths x) o 0))
+
+module _ (reach runs stands tops : List ℕ) (count : ℕ) (x : Nested ℕ) (before after : List ℕ)
+    (closed : Closed-twice reach runs stands tops count before after) (on : Run-of reach runs stands tops count x before) where
+  -- from the root's start, the closing is the start of the plain simulation
+  pub closed-start : Agree x (Holds x before) (λ q. q ≡ start) → Models x (Holds x after) (Started (whole x))
+  closed-start begins =
+      models-same x (Started (whole x)) (λ q h. Iff·trans (closed .marks x on q h) (sweep-same x (sweep-same x begins) q h)) (sweeps-start x)
+
+  -- after a move along the byte b, the closing is a step of the plain simulation
+  pub closed-step : (b : ℕ) (marks X : States) → Models x marks X → Agree x (Holds x before) (Move Is b x marks) → Models x (Holds x after) (Stepped Is (whole x) b X)
+  closed-step b marks X models moved =
+      models-same x (Stepped Is (whole x) b X) (λ q h. Iff·trans (closed .marks x on q h) (sweep-same x (sweep-same x moved) q h)) (sweeps-step Is b x marks X models)
+
+-- the bit of the top piece's last state says whether the accepting state is in the set that the words hold
+pub accepting-bit : (x : Nested ℕ) (words : List ℕ) (X : States) → Models x (Holds x words) X → Bit (getD words 0 0) (width x - 1) ↔ X accepting
+accepting-bit x words X models = Iff·trans (Iff·symm (accepting-holds x words)) (models accepting tt)

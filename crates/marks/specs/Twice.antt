@@ -1,0 +1,124 @@
+-- Closing a set of marks is two sweeps of the words that hold it: so the words hold the marks of the plain simulation.
+-- Assumes nothing.
+use Prim.Native.Nat.{ℕ, suc, _+_, _≤_}
+use native.Mathlib.Omega.{arith}
+use mathlib.Core.Path.{_≡_, refl, sym, _∙_, subst}
+use mathlib.Core.Logic.{_↔_, Iff·trans, Iff·symm}
+use mathlib.Core.List.{List, _++_}
+use lib.ListN.{length, take, drop}
+use lib.Seq.{getD-take, length-take-le, take-at, drop-at, length-front}
+use Rattle.language.specs.Automaton.{State}
+use Rattle.language.specs.Nested.{Nested, Has, Sweep}
+use Rattle.language.specs.Same.{Agree, sweep-same}
+use Rattle.marks.specs.Words.{width, run, Holds, Clean}
+use Rattle.marks.specs.Swept.{Laid, Sweepable, Sized, Ready, Swept}
+use Rattle.marks.specs.Sweeping.{sized-same}
+use Rattle.marks.specs.Spots.{Spot, own, under, spot, Held, holds-held, Within, spot-within, clean-words, below-power, bit-of}
+
+-- the first words hold what the words hold, where there is one for each piece
+front-held : (s : Spot) (k m n : ℕ) (words : List ℕ) → n ≡ 1 + m → Within k m s → Held s (take n words) ↔ Held s words
+front-held (own b) k m n words e l = bit-of b (getD-take n words 0 0 (omega arith))
+front-held (under o b) k m n words e l = bit-of b (getD-take n words (suc o) 0 (omega arith))
+
+front-holds : (x : Nested ℕ) (n : ℕ) (words : List ℕ) → n ≡ 1 + run x → Agree x (Holds x (take n words)) (Holds x words)
+front-holds x n words e q h =
+    Iff·trans (holds-held x (take n words) q h)
+    (Iff·trans (front-held (spot x q) (width x) (run x) n words e (spot-within x q h)) (Iff·symm (holds-held x words q h)))
+
+-- and have no bit past a last state exactly when the words have none
+front-clean : (x : Nested ℕ) (n : ℕ) (words : List ℕ) → n ≡ 1 + run x → Clean x (take n words) ↔ Clean x words
+front-clean x n words e = (
+  λ clean. clean-words x words .1 (λ o l. below-power (sym (getD-take n words o 0 (omega arith))) refl (clean-words x (take n words) .0 clean o l)),
+  λ clean. clean-words x (take n words) .1 (λ o l. below-power (getD-take n words o 0 (omega arith)) refl (clean-words x words .0 clean o l)),
+)
+
+module _ (reach runs stands tops : List ℕ) (count : ℕ) where
+  -- the first words, one for each piece, hold marks of the tree that the tables speak of
+  pub record Run-of (x : Nested ℕ) (words : List ℕ) : Type 0 where
+    pub laid : Laid reach runs stands tops x 0
+    pub counted : count ≡ 1 + run x
+    pub clean : Clean x words
+
+  -- the tables have room for each piece that there may be, and the words are enough
+  pub record Closable (words : List ℕ) : Type 0 where
+    pub sized : Sized reach runs stands tops 0 (take count words)
+    pub enough : count ≤ length words
+    pub tree : Nested ℕ
+    pub on-run : Run-of tree words
+
+  -- what two sweeps make of the words
+  pub record Closed-twice (before after : List ℕ) : Type 0 where
+    pub marks : (x : Nested ℕ) → Run-of x before → (q : State) → Has x q → Holds x after q ↔ Sweep x (Sweep x (Holds x before)) q
+    pub clean : (x : Nested ℕ) → Run-of x before → Clean x after
+    pub others : drop count after ≡ drop count before
+
+  module _ (words : List ℕ) (enough : count ≤ length words) where
+    -- the first words can be swept
+    pub run-sweepable : (x : Nested ℕ) → Run-of x words → Sweepable reach runs stands tops x 0 (take count words)
+    run-sweepable x on = record {
+      laid = on .laid;
+      whole-run = length-take-le count words enough ∙ on .counted;
+      clean = front-clean x count words (on .counted) .1 (on .clean);
+    }
+
+    module _ (ys : List ℕ) (same : length ys ≡ length (take count words))
+        (swept : (x : Nested ℕ) → Sweepable reach runs stands tops x 0 (take count words) → Swept x (take count words) ys) where
+      -- the words with the first words swept
+      abbrev after : List ℕ
+      after = ys ++ drop count words
+
+      as-many : length ys ≡ count
+      as-many = same ∙ length-take-le count words enough
+
+      pub after-length : length after ≡ length words
+      after-length = length-front words ys count same
+
+      pub after-others : drop count after ≡ drop count words
+      after-others = drop-at ys (drop count words) count as-many
+
+      front : take count after ≡ ys
+      front = take-at ys (drop count words) count as-many
+
+      -- they are swept
+      pub after-swept : (x : Nested ℕ) → Run-of x words → Swept x words after
+      after-swept x on =
+          let done : Swept x (take count words) (take count after) = subst (Swept x (take count words)) (sym front) (swept x (run-sweepable x on)) in
+          record {
+            marks = λ q h. Iff·trans (Iff·symm (front-holds x count after (on .counted) q h))
+                (Iff·trans (done .marks q h) (sweep-same x (front-holds x count words (on .counted)) q h));
+            clean = front-clean x count after (on .counted) .0 (done .clean);
+          }
+
+      -- and a run again
+      pub after-run : (x : Nested ℕ) → Run-of x words → Run-of x after
+      after-run x on = record { laid = on .laid; counted = on .counted; clean = after-swept x on .clean }
+
+  -- the first words are ready to be swept
+  pub run-ready : (words : List ℕ) → Closable words → Ready reach runs stands tops 0 (take count words)
+  run-ready words can = record { sized = can .sized; tree = can .tree; sweepable = run-sweepable words (can .enough) (can .tree) (can .on-run) }
+
+  module _ (words ys : List ℕ) (can : Closable words) (same : length ys ≡ length (take count words))
+      (swept : (x : Nested ℕ) → Sweepable reach runs stands tops x 0 (take count words) → Swept x (take count words) ys) where
+    -- once swept, the words can be swept again
+    pub closable-again : Closable (ys ++ drop count words)
+    closable-again = record {
+      sized = sized-same reach runs stands tops 0 (take count words) (take count (ys ++ drop count words))
+          (length-take-le count (ys ++ drop count words) (omega (arith, can .enough, after-length words (can .enough) ys same swept)) ∙ sym (length-take-le count words (can .enough)))
+          (can .sized);
+      enough = omega (arith, can .enough, after-length words (can .enough) ys same swept);
+      tree = can .tree;
+      on-run = after-run words (can .enough) ys same swept (can .tree) (can .on-run);
+    }
+
+    -- twice swept, the words are closed
+    pub closed-twice : (zs : List ℕ) → length zs ≡ length (take count (ys ++ drop count words))
+        → ((x : Nested ℕ) → Sweepable reach runs stands tops x 0 (take count (ys ++ drop count words)) → Swept x (take count (ys ++ drop count words)) zs)
+        → Closed-twice words (zs ++ drop count (ys ++ drop count words))
+    closed-twice zs as-many again = record {
+      marks = λ x on q h. Iff·trans (second x on .marks q h) (sweep-same x (after-swept words (can .enough) ys same swept x on .marks) q h);
+      clean = λ x on. second x on .clean;
+      others = after-others (ys ++ drop count words) (closable-again .enough) zs as-many again ∙ after-others words (can .enough) ys same swept;
+    }
+      where
+        second : (x : Nested ℕ) → Run-of x words → Swept x (ys ++ drop count words) (zs ++ drop count (ys ++ drop count words))
+        second x on = after-swept (ys ++ drop count words) (closable-again .enough) zs as-many again x (after-run words (can .enough) ys same swept x on)
