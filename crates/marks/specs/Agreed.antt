@@ -1,16 +1,15 @@
 -- The two bits of each shared state agree exactly when, at every cut edge, the stand-in's two bits are those of the child's start and accepting state.
 -- Assumes nothing.
-use Prim.Native.Nat.{ℕ, _+_, _-_, _^_, _≤_, _<_}
-use mathlib.Core.Path.{_≡_, refl, sym, ap, _∙_, subst}
+use Prim.Native.Nat.{ℕ, _+_}
+use mathlib.Core.Path.{_≡_, refl, ap, subst}
 use mathlib.Core.Logic.{_↔_}
 use mathlib.Core.List.{List}
 use native.Mathlib.Nat.{zero-add}
-use native.Mathlib.Omega.{arith}
 use lib.ListN.{getD, drop}
 use Rattle.language.specs.Automaton.{State, start, accepting, left, right}
 use Rattle.language.specs.Nested.{Nested, leaf, catenation, union, star, below, Has, origin}
-use Rattle.marks.specs.Words.{Bit, width, run, number, Marked, Holds, Agreeing}
-use Rattle.marks.specs.Spots.{iff-trans, iff-turn, bit-at}
+use Rattle.marks.specs.Words.{Bit, width, run, number, Marked, Agreeing}
+use Rattle.marks.specs.Spots.{iff-trans, bit-at}
 
 -- states that may be equal, by how they begin
 abbrev Alike : State → State → Type 0

@@ -1,8 +1,8 @@
 -- Refusal 13's test by the tables: each word has no bit past its last state, and each child piece's bits are those of its stand-in.
 -- Assumes nothing.
-use Prim.Native.Nat.{ℕ, _+_, _-_, _^_, _≤_, _<_}
+use Prim.Native.Nat.{ℕ, _+_, _^_, _≤_, _<_}
 use mathlib.Core.Path.{_≡_, refl, sym, ap, _∙_, subst, subst₂, subst₃}
-use mathlib.Core.Bool.{Bool, true, false}
+use mathlib.Core.Bool.{Bool}
 use mathlib.Core.Logic.{_↔_}
 use mathlib.Core.List.{List}
 use native.Mathlib.Nat.{add-zero}
@@ -16,7 +16,7 @@ use Rattle.marks.specs.Words.{Bit, width, run, number, Clean-below, Clea
 use Rattle.marks.specs.Plan.{Pieces, Piece-at, Children-at, Planned}
 use Rattle.marks.specs.Numbers.{width-two, number-accepting}
 use Rattle.marks.specs.Bits.{Told}
-use Rattle.marks.specs.Parents.{Parent, parent-unique, Every-child, Hanging, hanging-child, every-of-all, all-of-every}
+use Rattle.marks.specs.Parents.{Parent, parent-unique, Every-child, hanging-child, every-of-all, all-of-every}
 use Rattle.marks.specs.Agreed.{Pairs, agreeing-pairs}
 
 -- a child piece's word has no bit past its last state, numbered top, and its start and accepting state have the bits of their stand-in above

@@ -1,12 +1,11 @@
 -- Why joining the rows of the set bits of a piece's word closes it.
 -- Assumes nothing.
-use Prim.Native.Nat.{ℕ, _+_, _*_, _^_, _<_}
-use mathlib.Core.Path.{_≡_, sym, ap, _∙_, subst}
+use Prim.Native.Nat.{ℕ, _*_, _^_, _<_}
+use mathlib.Core.Path.{sym, ap, _∙_, subst}
 use mathlib.Core.List.{List}
 use lib.ListN.{getD}
-use Rattle.language.specs.Automaton.{State}
 use Rattle.language.specs.Nested.{Nested}
-use Rattle.marks.specs.Words.{Bit, width, Own, number}
+use Rattle.marks.specs.Words.{Bit, width, number}
 use Rattle.marks.specs.Plan.{row, Reaches, Closes}
 use Rattle.marks.specs.Bits.{bit-below, below-of-bits}
 use Rattle.marks.specs.Rows.{row-at}

@@ -1,8 +1,7 @@
 -- The labels of the states hold the transitions that read a byte: they lead from a state with the byte's label to the next in number.
 -- Assumes nothing.
-use Prim.Native.Nat.{ℕ, _+_, _<_}
+use Prim.Native.Nat.{ℕ, _+_}
 use mathlib.Core.Path.{_≡_, refl, sym, ap, _∙_}
-use mathlib.Core.List.{List, [], _∷_, _++_}
 use native.Mathlib.Omega.{arith}
 use lib.ListN.{length, getD}
 use Rattle.language.specs.Automaton.{State, start, accepting, left, right, Reads}

@@ -29,4 +29,5 @@ pub mod Moved
 pub mod Parents
 pub mod Agreed
 pub mod Checked
+pub mod Low
 pub mod Texts

@@ -1,8 +1,8 @@
 -- Moving every word along a byte moves the marks along it in every piece.
 -- Assumes nothing.
-use Prim.Native.Nat.{ℕ, _+_, _*_, _^_, _≤_, _<_}
+use Prim.Native.Nat.{ℕ, _+_, _^_, _≤_, _<_}
 use mathlib.Core.Path.{_≡_, refl, sym, ap, _∙_, subst, subst₂}
-use mathlib.Core.Logic.{_⊎_, inl, inr, _↔_}
+use mathlib.Core.Logic.{inr, _↔_}
 use mathlib.Core.List.{List}
 use native.Mathlib.Nat.{add-assoc, zero-add, add-zero}
 use native.Mathlib.Omega.{arith}
@@ -10,7 +10,7 @@ use lib.ListN.{length, getD, drop, set}
 use lib.Seq.{getD-drop, drop-drop}
 use Rattle.language.specs.Tree.{Tree}
 use Rattle.language.specs.Language.{Is}
-use Rattle.language.specs.Automaton.{State, start, accepting, left, right, States, Reads}
+use Rattle.language.specs.Automaton.{State, start, accepting, left, right, Reads}
 use Rattle.language.specs.Nested.{Nested, leaf, catenation, union, star, below, own, Has, Reading, Move, Leaf, stand-in, given}
 use Rattle.marks.specs.Words.{Bit, width, run, Own, number, Marked, Holds, Clean-below, Clean}
 use Rattle.marks.specs.Plan.{row, takes, Is-own, Moves, Pieces, Piece-at, Children-at, Planned}

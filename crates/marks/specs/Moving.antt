@@ -2,7 +2,7 @@
 -- Assumes nothing.
 use Prim.Native.Nat.{ℕ, zero, suc, _+_, _*_, _/_, _%_, _^_, _≤_, _<_}
 use mathlib.Core.Path.{_≡_, refl, sym, ap, _∙_, subst}
-use mathlib.Core.Logic.{_⊎_, inl, inr, _↔_, ⊎-elim}
+use mathlib.Core.Logic.{inl, inr, _↔_, ⊎-elim}
 use mathlib.Core.List.{List}
 use native.Mathlib.Decide.{ℕ-discrete}
 use native.Mathlib.Nat.{mod-eq-of-lt, lt-of-lt-of-le}
@@ -65,13 +65,34 @@ bit-up w j =
 no-bit-up : (w : ℕ) → Bit (w * 2) 0 → ⊥
 no-bit-up w b = omega (arith, bit-low (w * 2), b)
 
+-- from a state of w a transition that reads b leads to the state numbered j
+record Comes (x : Nested ℕ) (b w j : ℕ) : Type 0 where
+  from : State
+  to : State
+  from-own : Own x from
+  marked : Bit w (number x from)
+  numbered : number x to ≡ j
+  reads : Reads Is-own b (own x) from to
+
+comes-below : {x : Nested ℕ} {b w j : ℕ} → Comes x b w j → j < width x
+comes-below {x} {b} m = omega (arith, number-below x (m .to) (reads-on b x (m .reads) .to-own), m .numbered)
+
+comes-to : {x : Nested ℕ} {b w : ℕ} (q : State) → Own x q → Comes x b w (number x q)
+    → (p : State) × Own x p × Bit w (number x p) × Reads Is-own b (own x) p q
+comes-to {x} {b} q o m = (
+  m .from,
+  m .from-own,
+  m .marked,
+  subst (λ (s : State). Reads Is-own b (own x) (m .from) s) (number-injective x (m .to) q (reads-on b x (m .reads) .to-own) o (m .numbered)) (m .reads),
+)
+
 -- the picked bits, one place up, are the word moved
 pub moves-by-picking : (labels : List ℕ) (piece b w n r : ℕ) (x : Nested ℕ) → width x ≤ 62 → row labels piece (width x) ≡ takes x → w < 2 ^ width x
     → w / 2 ^ n ≡ 0 → Picked labels (64 * piece) (b + 1) w n r → Moves x b w (r * 2 % 2 ^ 64)
 moves-by-picking labels piece b w n r x narrow labelled small nothing picked =
     subst (λ (v : ℕ). Moves x b w v) (sym (mod-eq-of-lt fits)) record {
-      exactly = λ q o. (back q o, forth q o);
-      clean = below-of-bits (width x) (r * 2) (λ j c. let m = up j c in omega (arith, number-below x (m .1) (reads-on b x (m .5) .to-own), m .4));
+      exactly = λ q o. (λ c. comes-to q o (up (number x q) c), forth q o);
+      clean = below-of-bits (width x) (r * 2) (λ j c. comes-below (up j c));
     }
   where
     picked-small : r < 2 ^ 62
@@ -84,22 +105,20 @@ moves-by-picking labels piece b w n r x narrow labelled small nothing picked =
     label-at p j e h =
         ap (λ (i : ℕ). getD (takes x) i 0) e ∙ ap (λ (l : List ℕ). getD l j 0) (sym labelled) ∙ row-at labels piece (width x) j h
 
-    up : (j : ℕ) → Bit (r * 2) j → (p : State) × (q : State) × Own x p × Bit w (number x p) × (number x q ≡ j) × Reads Is-own b (own x) p q
+    up : (j : ℕ) → Bit (r * 2) j → Comes x b w j
     up zero c = absurd (no-bit-up r c)
     up (suc j) c =
         let m = picked .exactly j .0 (bit-up r j .0 c) in
         let s = number-onto x j (bit-below small (m .1)) in
         let t = reads-from b x (s .0) (s .1) (label-at (s .0) j (s .2) (bit-below small (m .1)) ∙ m .2) in
-        (s .0, t .0, s .1, subst (λ (i : ℕ). Bit w i) (sym (s .2)) (m .1), omega (arith, reads-on b x (t .1) .next, s .2), t .1)
-
-    back : (q : State) → Own x q → Bit (r * 2) (number x q) → (p : State) × Own x p × Bit w (number x p) × Reads Is-own b (own x) p q
-    back q o c =
-        let m = up (number x q) c in (
-          m .0,
-          m .2,
-          m .3,
-          subst (λ (s : State). Reads Is-own b (own x) (m .0) s) (number-injective x (m .1) q (reads-on b x (m .5) .to-own) o (m .4)) (m .5),
-        )
+        record {
+          from = s .0;
+          to = t .0;
+          from-own = s .1;
+          marked = subst (λ (i : ℕ). Bit w i) (sym (s .2)) (m .1);
+          numbered = omega (arith, reads-on b x (t .1) .next, s .2);
+          reads = t .1;
+        }
 
     forth : (q : State) → Own x q → (p : State) × Own x p × Bit w (number x p) × Reads Is-own b (own x) p q → Bit (r * 2) (number x q)
     forth q o m =

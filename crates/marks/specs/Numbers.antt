@@ -8,7 +8,7 @@ use lib.ListN.{length, getD, length-map, List·getD-map}
 use Rattle.language.specs.Automaton.{State, start, accepting, left, right}
 use Rattle.language.specs.Nested.{Nested, leaf, catenation, union, star, below}
 use Rattle.marks.specs.Words.{width, Own, number}
-use Rattle.marks.specs.Parts.{one-length, one-inside, one-end, two-length, two-left, two-right, two-end, Place, at-start, in-left, in-right, at-end, place}
+use Rattle.marks.specs.Parts.{one-length, one-inside, one-end, two-length, two-left, two-right, two-end, at-start, in-left, in-right, at-end, place}
 
 any-default : {A : Type 0} (l : List A) (i : ℕ) (d d′ : A) → i < length l → getD l i d ≡ getD l i d′
 any-default [] i d d′ h = absurd (omega arith)

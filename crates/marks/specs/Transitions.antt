@@ -1,15 +1,14 @@
 -- The words of the empty transitions hold them: bit j of the word of state i is set exactly for a transition from state i to state j.
 -- Assumes nothing.
-use Prim.Native.Nat.{ℕ, _+_, _*_, _^_, _<_}
+use Prim.Native.Nat.{ℕ, _+_, _^_, _<_}
 use mathlib.Core.Path.{_≡_, refl, sym, ap, _∙_, subst}
 use mathlib.Core.Logic.{_⊎_, inl, inr, _↔_, ⊎-elim}
-use mathlib.Core.List.{List, [], _∷_, _++_}
+use mathlib.Core.List.{[], _∷_, _++_}
 use native.Mathlib.Nat.{one-mul}
 use native.Mathlib.Omega.{arith}
 use lib.Bits.{bitOr, or-shifted-r}
 use lib.Pow.{pow-lt}
 use lib.ListN.{length, getD}
-use Rattle.language.specs.Tree.{Tree}
 use Rattle.language.specs.Automaton.{State, start, accepting, left, right, Empty}
 use Rattle.language.specs.Nested.{Nested, leaf, catenation, union, star, below, own}
 use Rattle.marks.specs.Words.{Bit, width, Own, number}
