@@ -2,14 +2,14 @@
 -- Assumes nothing.
 use Prim.Native.Nat.{ℕ, _+_}
 use mathlib.Core.Path.{_≡_, refl, ap, subst}
-use mathlib.Core.Logic.{_↔_}
+use mathlib.Core.Logic.{_↔_, Iff·trans as iff-trans}
 use mathlib.Core.List.{List}
 use native.Mathlib.Nat.{zero-add}
 use lib.ListN.{getD, drop}
 use Rattle.language.specs.Automaton.{State, start, accepting, left, right}
 use Rattle.language.specs.Nested.{Nested, leaf, catenation, union, star, below, Has, origin}
 use Rattle.marks.specs.Words.{Bit, width, run, number, Marked, Agreeing}
-use Rattle.marks.specs.Spots.{iff-trans, bit-at}
+use Rattle.marks.specs.Spots.{bit-at}
 
 -- states that may be equal, by how they begin
 abbrev Alike : State → State → Type 0

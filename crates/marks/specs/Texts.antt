@@ -3,7 +3,7 @@
 -- Assumes nothing.
 use Prim.Native.Nat.{ℕ, suc, _+_, _-_, _<_}
 use mathlib.Core.Path.{_≡_, refl, sym, ap, _∙_, subst}
-use mathlib.Core.Logic.{_↔_}
+use mathlib.Core.Logic.{_↔_, Iff·trans as iff-trans}
 use mathlib.Core.List.{List, [], _∷_, _++_}
 use native.Mathlib.Omega.{arith}
 use lib.ListN.{getD}
@@ -22,7 +22,7 @@ use Rattle.marks.specs.Words.{Bit, width, run, Holds, Clean}
 use Rattle.marks.specs.Tables.{cut-up, Holding}
 use Rattle.marks.specs.Bits.{bit-zero}
 use Rattle.marks.specs.Numbers.{number-accepting}
-use Rattle.marks.specs.Spots.{Spot, own, under, spot, Held, Within, iff-trans, bit-at, held-at, holds-held, spot-within, own-spot}
+use Rattle.marks.specs.Spots.{Spot, own, under, spot, Held, Within, bit-at, held-at, holds-held, spot-within, own-spot}
 
 -- there is a word for each piece below the top piece
 pub run-pieces : {A : Type 0} (x : Nested A) → run x ≡ pieces-below x
