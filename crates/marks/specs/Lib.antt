@@ -31,3 +31,5 @@ pub mod Agreed
 pub mod Checked
 pub mod Low
 pub mod Texts
+pub mod Alike
+pub mod Unique
