@@ -7,3 +7,4 @@ pub mod Searched
 pub mod Promise
 pub mod Computed
 pub mod Held
+pub mod Unique
