@@ -33,3 +33,9 @@ pub mod Low
 pub mod Texts
 pub mod Alike
 pub mod Unique
+pub mod Entries
+pub mod Standing
+pub mod Filling
+pub mod Walking
+pub mod Counting
+pub mod Making
