@@ -15,6 +15,10 @@ pub mod agree;
 
 pub mod bits;
 pub mod close;
+mod count;
+mod fields;
+mod fill;
 pub mod moves;
+pub mod plan;
 pub mod reach;
 pub mod sweep;
