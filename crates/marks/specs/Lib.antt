@@ -39,3 +39,4 @@ pub mod Filling
 pub mod Walking
 pub mod Counting
 pub mod Making
+pub mod Given

@@ -38,7 +38,7 @@ size-edge : (b : Bool) (x : Nested ℕ) → size (edge b x) ≡ size x
 size-edge true x = refl
 size-edge false x = refl
 
-size-nest : (t : Tree ℕ) (c : Cut t) → size (nest t c) ≡ nodes t
+pub size-nest : (t : Tree ℕ) (c : Cut t) → size (nest t c) ≡ nodes t
 size-nest (tree-leaf a) c = refl
 size-nest (tree-catenation s t) c = omega (arith, size-edge (c .0) (nest s (c .1)), size-edge (c .2) (nest t (c .3)), size-nest s (c .1), size-nest t (c .3))
 size-nest (tree-union s t) c = omega (arith, size-edge (c .0) (nest s (c .1)), size-edge (c .2) (nest t (c .3)), size-nest s (c .1), size-nest t (c .3))

@@ -1,11 +1,17 @@
 // The tables of a good list, made once before any byte is read.
+use crate::count::count;
+use crate::fields::wide;
 use crate::fill::fill;
 ghost use mathlib.Core.Path.{_≡_};
 ghost use Prim.Native.Nat.{ℕ, _+_, _<_};
+ghost use Rattle.language.specs.Tree.{Tree};
 ghost use Rattle.language.specs.Nested.{Nested};
+ghost use Rattle.tree.specs.Records.{Good};
+ghost use Rattle.marks.specs.Tables.{Roomy};
 ghost use Rattle.marks.specs.Filling.{Tables, tables};
 ghost use Rattle.marks.specs.Counting.{Top};
 ghost use Rattle.marks.specs.Making.{Made, Making, Inside, Total};
+ghost use Rattle.marks.specs.Given.{Good-list, Laid};
 
 // Makes what the tables tell of the piece k: its row, its run and its last state, and of its child pieces where their stand-ins are.
 fn piece(list: &[u8], counts: &[u8], k: usize, nexts: &mut [u64], labels: &mut [u16], runs: &mut [u8], stands: &mut [u8], tops: &mut [u8], roots: &mut [u16])
@@ -32,4 +38,20 @@ fn pieces(list: &[u8], counts: &[u8], total: usize, nexts: &mut [u64], labels: &
         piece(list, counts, k, nexts, labels, runs, stands, tops, roots);
         k += 1;
     }
+}
+
+// Makes the tables of a good list, and gives the number of its pieces. `nexts` has the words of the empty transitions.
+pub fn plan(list: &[u8], nexts: &mut [u64], labels: &mut [u16], runs: &mut [u8], stands: &mut [u8], tops: &mut [u8]) -> usize
+    requires { ⌜ Good-list (now list) ⌝ }
+    requires { ⌜ Roomy (now nexts) (now labels) (now runs) (now stands) (now tops) ⌝ }
+    ensures { λ r. ⌜ ((t : Tree ℕ) → Good (now (list .entry)) t → Laid t (now (nexts .exit)) (now (labels .exit)) (now (runs .exit)) (now (stands .exit)) (now (tops .exit)) r) ⌝ }
+{
+    let mut counts = [0u8; 1920];
+    let mut roots = [0u16; 128];
+    count(list, &mut counts);
+    let last = list.len() / 8 - 1;
+    let total = wide(counts[last]) + 1;
+    roots[0] = last as u16;
+    pieces(list, &counts, total, nexts, labels, runs, stands, tops, &mut roots);
+    total
 }
