@@ -37,8 +37,8 @@ adds list counts child p = getD counts child 0 + cond (eqb (own-piece list child
 module _ {list counts : List ℕ} {j : ℕ} (counted : Counted list counts j) where
   plain-adds : {f p n i : ℕ} (x : Nested ℕ) → Plain x → Fine list (spot x f p n i) → (child : ℕ) → child + 1 ≡ f + size x → child < j → adds list counts child p ≡ run x
   plain-adds {p = p} x plain h child e before =
-    let same = cond-equal (own-piece list child) p 0 1 (piece-shows x plain h child e) in
-    omega (arith, counted .each child before _ h plain e)
+      let same = cond-equal (own-piece list child) p 0 1 (piece-shows x plain h child e) in
+      omega (arith, counted .each child before _ h plain e)
 
   child-adds : {f p n i : ℕ} (x : Nested ℕ) → Fine list (spot x f p n i) → (child : ℕ) → child + 1 ≡ f + size x → child < j → adds list counts child p ≡ run x
   child-adds (leaf a) h child e before = plain-adds (leaf a) tt h child e before
@@ -46,10 +46,10 @@ module _ {list counts : List ℕ} {j : ℕ} (counted : Counted list counts j) wh
   child-adds (union x y) h child e before = plain-adds (union x y) tt h child e before
   child-adds (star x) h child e before = plain-adds (star x) tt h child e before
   child-adds {p = p} (below x) h child e before =
-    let under-h = child-fine under h in
-    let shown = piece-shows x (h .sound .0) under-h child e in
-    let other = cond-different (own-piece list child) p 0 1 (λ same. omega (arith, h .later)) in
-    omega (arith, counted .each child before _ under-h (h .sound .0) e)
+      let under-h = child-fine under h in
+      let shown = piece-shows x (h .sound .0) under-h child e in
+      let other = cond-different (own-piece list child) p 0 1 (λ same. omega (arith, h .later)) in
+      omega (arith, counted .each child before _ under-h (h .sound .0) e)
 
   -- the child's record comes before the parent's
   kid-adds : {f p n i : ℕ} (x : Nested ℕ) → Fine list (spot x f p n i) → (child : ℕ) → child ≡ f + size x - 1 → f + size x ≤ j → adds list counts child p ≡ run x
@@ -71,21 +71,27 @@ module _ {list counts : List ℕ} {node : ℕ} (counted : Counted list counts no
   runs-star kind (spot (catenation x y) f p n i) h plain e = absurd (omega (arith, catenation-shows h node e .kind-byte))
   runs-star kind (spot (union x y) f p n i) h plain e = absurd (omega (arith, union-shows h node e .kind-byte))
   runs-star kind (spot (star x) f p n i) h plain e =
-    let shown = star-shows h node e in
-    adds-at _ _ p _ (shown .piece-word) (kid-adds counted x (child-fine operand h) _ (shown .left-word) (omega arith))
+      let shown = star-shows h node e in
+      adds-at _ _ p _ (shown .piece-word) (kid-adds counted x (child-fine operand h) _ (shown .left-word) (omega arith))
   runs-star kind (spot (below x) f p n i) h plain e = absurd plain
 
   pub runs-two : (kind-of list node ≡ 1 → ⊥) → (kind-of list node ≡ 4 → ⊥)
       → Runs list node (adds list counts (left-of list node) (own-piece list node) + adds list counts (right-of list node) (own-piece list node))
   runs-two kind other (spot (leaf a) f p n i) h plain e = absurd (kind (leaf-shows h node e .kind-byte))
   runs-two kind other (spot (catenation x y) f p n i) h plain e =
-    let shown = catenation-shows h node e in
-    omega (arith, adds-at (left-of list node) _ p _ (shown .piece-word) (kid-adds counted x (child-fine catenation-left h) _ (shown .left-word) (omega arith)),
-      adds-at (right-of list node) _ p _ (shown .piece-word) (kid-adds counted y (child-fine catenation-right h) _ (shown .right-word) (omega arith)))
+      let shown = catenation-shows h node e in
+      omega (
+        arith,
+        adds-at (left-of list node) _ p _ (shown .piece-word) (kid-adds counted x (child-fine catenation-left h) _ (shown .left-word) (omega arith)),
+        adds-at (right-of list node) _ p _ (shown .piece-word) (kid-adds counted y (child-fine catenation-right h) _ (shown .right-word) (omega arith)),
+      )
   runs-two kind other (spot (union x y) f p n i) h plain e =
-    let shown = union-shows h node e in
-    omega (arith, adds-at (left-of list node) _ p _ (shown .piece-word) (kid-adds counted x (child-fine union-left h) _ (shown .left-word) (omega arith)),
-      adds-at (right-of list node) _ p _ (shown .piece-word) (kid-adds counted y (child-fine union-right h) _ (shown .right-word) (omega arith)))
+      let shown = union-shows h node e in
+      omega (
+        arith,
+        adds-at (left-of list node) _ p _ (shown .piece-word) (kid-adds counted x (child-fine union-left h) _ (shown .left-word) (omega arith)),
+        adds-at (right-of list node) _ p _ (shown .piece-word) (kid-adds counted y (child-fine union-right h) _ (shown .right-word) (omega arith)),
+      )
   runs-two kind other (spot (star x) f p n i) h plain e = absurd (other (star-shows h node e .kind-byte))
   runs-two kind other (spot (below x) f p n i) h plain e = absurd plain
 
@@ -122,11 +128,14 @@ right-listed {list} {node} h kind other = kid-listed h _ (low (h .at) (h .fine) 
 
 -- one more node counted
 pub counted-more : {list counts : List ℕ} {j r : ℕ} → Counted list counts j → Runs list j r → j < length counts → Counted list (set counts j r) (j + 1)
-counted-more {list} {counts} {j} {r} counted more fits = record { each = λ k low s h plain e.
-    elim (decLt k j) [
-      yes before ↦ getD-set-other counts j k r 0 (λ same. omega arith) ∙ counted .each k before s h plain e
-    | no after ↦ let same : k ≡ j = omega arith in
-      ap (λ (m : ℕ). getD (set counts j r) m 0) same ∙ getD-set-same counts j r 0 fits ∙ more s h plain (subst (λ (m : ℕ). m + 1 ≡ first s + size (tree s)) same e) ] }
+counted-more {list} {counts} {j} {r} counted more fits = record {
+  each = λ k low s h plain e.
+      elim (decLt k j) [
+        | yes before ↦ getD-set-other counts j k r 0 (λ same. omega arith) ∙ counted .each k before s h plain e
+        | no after ↦ let same : k ≡ j = omega arith in
+            ap (λ (m : ℕ). getD (set counts j r) m 0) same ∙ getD-set-same counts j r 0 fits ∙ more s h plain (subst (λ (m : ℕ). m + 1 ≡ first s + size (tree s)) same e)
+      ];
+}
 
 pub adds-same : (list counts : List ℕ) (child p own : ℕ) → own ≡ own-piece list child → own ≡ p → adds list counts child p ≡ getD counts child 0
 adds-same list counts child p own shown same = omega (arith, cond-equal (own-piece list child) p 0 1 (sym shown ∙ same))
@@ -144,7 +153,7 @@ module _ {list counts : List ℕ} {node kind piece left : ℕ} (counted : Counte
 
   pub read-two : {a b right : ℕ} → (kind ≡ 1 → ⊥) → (kind ≡ 4 → ⊥) → right ≡ right-of list node → a ≡ adds list counts left piece → b ≡ adds list counts right piece → Runs list node (a + b)
   read-two {a} {b} inner other of-right f g s h plain root =
-    omega (arith, f ∙ adds-read _ _ of-left, g ∙ adds-read _ _ of-right, runs-two counted (λ e. inner (of-kind ∙ e)) (λ e. other (of-kind ∙ e)) s h plain root)
+      omega (arith, f ∙ adds-read _ _ of-left, g ∙ adds-read _ _ of-right, runs-two counted (λ e. inner (of-kind ∙ e)) (λ e. other (of-kind ∙ e)) s h plain root)
 
 -- the list is that of x, and its numbers are within bounds
 pub record Top (list : List ℕ) (x : Nested ℕ) : Type 0 where

@@ -95,7 +95,7 @@ fill-leaf {a = a} {p = p} {i = i} h t room =
       leaves = labels-lie (t .labels) (64 * p + i) (a + 1) (omega arith);
       leaves-before = λ j low. labels-before (t .labels) (64 * p + i) (a + 1) j low;
       placed = λ u k m. absurd (no-stand-in-at-leaf (m .inside) (m .stands-for));
-      others = λ k none. record { stand = refl; root = refl }
+      others = λ k none. record { stand = refl; root = refl };
     }
 
 -- two entries for a stand-in, and what is told of its child piece k: the stand-in's number and its root's record
@@ -109,7 +109,7 @@ stand-placed {x = x} {n = n} {i = i} h t room node at here stand-in e =
     let q = room .of-roots in
     record {
       stand = getD-set-same (t .stands) n i 0 (omega arith);
-      root = ap (λ (m : ℕ). m + 1) (getD-set-same (t .roots) n node 0 (omega arith)) ∙ at
+      root = ap (λ (m : ℕ). m + 1) (getD-set-same (t .roots) n node 0 (omega arith)) ∙ at;
     }
 stand-placed h t room node at (step under m) s e = absurd (omega (arith, piece-grows (child-fine under h) m))
 
@@ -127,8 +127,8 @@ fill-stand {x = x} {f = f} {p = p} {n = n} {i = i} h t room node at =
       leaves-before = λ j low. labels-before (t .labels) (64 * p + i) 0 j low;
       placed = λ u k m. stand-placed h t room node at (m .inside) (m .stands-for) (m .same-piece);
       others = λ k none.
-        let other : k ≡ n → ⊥ = λ e. none _ (record { inside = here; stands-for = subst (λ (m : ℕ). Stand-in (spot (below x) f p n i) m) (sym e) stand-in; same-piece = refl }) in
-        record { stand = getD-set-other (t .stands) n k i 0 other; root = getD-set-other (t .roots) n k node 0 other }
+          let other : k ≡ n → ⊥ = λ e. none _ (record { inside = here; stands-for = subst (λ (m : ℕ). Stand-in (spot (below x) f p n i) m) (sym e) stand-in; same-piece = refl }) in
+          record { stand = getD-set-other (t .stands) n k i 0 other; root = getD-set-other (t .roots) n k node 0 other };
     }
 
 pub cond-equal : (a b x y : ℕ) → a ≡ b → cond (eqb a b) x y ≡ x
@@ -168,7 +168,7 @@ pub record Joint (kind : ℕ) (s l r : Spot) : Type 0 where
   pub number-right : number r ≡ number s + (1 + width (tree l))
   pub wide-as : width (tree s) ≡ 1 + width (tree l) + width (tree r) + 1
   pub words-as : let last = number s + (1 + width (tree l) + width (tree r)) in
-    fronts (tree s) (number s) ≡ start-word kind (number s) (number r) ∷ (Plan.nexts (tree l) (number l) (left-exit kind (number s) (number r) last) ++ Plan.nexts (tree r) (number r) (right-exit kind (number s) (number r) last))
+      fronts (tree s) (number s) ≡ start-word kind (number s) (number r) ∷ (Plan.nexts (tree l) (number l) (left-exit kind (number s) (number r) last) ++ Plan.nexts (tree r) (number r) (right-exit kind (number s) (number r) last))
   pub leaves-as : takes (tree s) ≡ 0 ∷ (takes (tree l) ++ takes (tree r) ++ (0 ∷ []))
   pub either : (u : Spot) (k : ℕ) → In s u → Stand-in u k → In l u ⊎ In r u
   pub apart : (k : ℕ) → Reaches-piece l k → Reaches-piece r k → ⊥
@@ -188,13 +188,33 @@ either-union (step union-right m) s = inr m
 module _ {x y : Nested ℕ} {f p n i : ℕ} where
   pub catenation-joint : Joint 2 (spot (catenation x y) f p n i) (spot x f p n (i + 1)) (spot y (f + size x) p (n + run x) (i + (1 + width x)))
   catenation-joint = record {
-      left = catenation-left; right = catenation-right; piece-left = refl; piece-right = refl; number-left = refl; number-right = refl; wide-as = refl; words-as = refl; leaves-as = refl;
-      either = λ u k m s. either-catenation m s; apart = λ k a b. omega arith }
+    left = catenation-left;
+    right = catenation-right;
+    piece-left = refl;
+    piece-right = refl;
+    number-left = refl;
+    number-right = refl;
+    wide-as = refl;
+    words-as = refl;
+    leaves-as = refl;
+    either = λ u k m s. either-catenation m s;
+    apart = λ k a b. omega arith;
+  }
 
   pub union-joint : Joint 3 (spot (union x y) f p n i) (spot x f p n (i + 1)) (spot y (f + size x) p (n + run x) (i + (1 + width x)))
   union-joint = record {
-      left = union-left; right = union-right; piece-left = refl; piece-right = refl; number-left = refl; number-right = refl; wide-as = refl; words-as = refl; leaves-as = refl;
-      either = λ u k m s. either-union m s; apart = λ k a b. omega arith }
+    left = union-left;
+    right = union-right;
+    piece-left = refl;
+    piece-right = refl;
+    number-left = refl;
+    number-right = refl;
+    wide-as = refl;
+    words-as = refl;
+    leaves-as = refl;
+    either = λ u k m s. either-union m s;
+    apart = λ k a b. omega arith;
+  }
 
 -- two labels set to 0
 labels-other : (table : List ℕ) (a b k : ℕ) → (k ≡ a → ⊥) → (k ≡ b → ⊥) → getD (set (set table a 0) b 0) k 0 ≡ getD table k 0
@@ -222,11 +242,11 @@ both-same a b = record { stand = b .stand ∙ a .stand; root = b .root ∙ a .ro
 module _ {list : List ℕ} {kind : ℕ} {s l r : Spot} (j : Joint kind s l r) (h : Fine list s) (t mid after : Tables) (room : Room after) (middle last : ℕ) (a : Filled l t mid middle) (b : Filled r mid after last) where
   two-placed : (u : Spot) (k : ℕ) → Own-stand-in s u k → Placed after u k
   two-placed u k m =
-    ⊎-elim
-    (λ inside. still-placed (a .placed u k (down (j .piece-left) inside m))
+      ⊎-elim
+      (λ inside. still-placed (a .placed u k (down (j .piece-left) inside m))
       (b .others k (λ v w. j .apart k (in-reaches inside (stand-in-reaches (m .stands-for))) (in-reaches (w .inside) (stand-in-reaches (w .stands-for))))))
-    (λ inside. b .placed u k (down (j .piece-right) inside m))
-    (j .either u k (m .inside) (m .stands-for))
+      (λ inside. b .placed u k (down (j .piece-right) inside m))
+      (j .either u k (m .inside) (m .stands-for))
 
   two-others : (k : ℕ) → ((u : Spot) → Own-stand-in s u k → ⊥) → Same-place t after k
   two-others k none = both-same (a .others k (λ u w. none u (up (j .left) (j .piece-left) w))) (b .others k (λ u w. none u (up (j .right) (j .piece-right) w)))
@@ -242,97 +262,97 @@ module _ {list : List ℕ} {kind : ℕ} {s l r : Spot} (j : Joint kind s l r) (h
 
   two-words : Lies (joined after two-base kind (number s) middle last .nexts) (two-base + number s) (fronts (tree s) (number s))
   two-words =
-    let e = middle-is in
-    let g = last-is in
-    let few = h .few in
-    let later = h .later in
-    let narrow = h .narrow in
-    let wide-s = j .wide-as in
-    let wide-l = wide (tree l) in
-    let wide-r = wide (tree r) in
-    let number-l = j .number-left in
-    let number-r = j .number-right in
-    let piece-l = j .piece-left in
-    let piece-r = j .piece-right in
-    let long-l = length-fronts (tree l) (number l) in
-    let long-r = length-fronts (tree r) (number r) in
-    let full = room .of-nexts in
-    let table = joined after two-base kind (number s) middle last .nexts in
-    let x = two-base + number s in
-    let y = two-base + middle - 1 in
-    let z = two-base + last - 1 in
-    let u = start-word kind (number s) middle in
-    let v = left-exit kind (number s) middle last in
-    let w = right-exit kind (number s) middle last in
-    let keeps : (k : ℕ) → (k ≡ x → ⊥) → (k ≡ y → ⊥) → (k ≡ z → ⊥) → getD table k 0 ≡ getD (after .nexts) k 0 = thrice-other (after .nexts) x y z u v w in
-    let front-l : Lies table (x + 1) (fronts (tree l) (number l)) =
+      let e = middle-is in
+      let g = last-is in
+      let few = h .few in
+      let later = h .later in
+      let narrow = h .narrow in
+      let wide-s = j .wide-as in
+      let wide-l = wide (tree l) in
+      let wide-r = wide (tree r) in
+      let number-l = j .number-left in
+      let number-r = j .number-right in
+      let piece-l = j .piece-left in
+      let piece-r = j .piece-right in
+      let long-l = length-fronts (tree l) (number l) in
+      let long-r = length-fronts (tree r) (number r) in
+      let full = room .of-nexts in
+      let table = joined after two-base kind (number s) middle last .nexts in
+      let x = two-base + number s in
+      let y = two-base + middle - 1 in
+      let z = two-base + last - 1 in
+      let u = start-word kind (number s) middle in
+      let v = left-exit kind (number s) middle last in
+      let w = right-exit kind (number s) middle last in
+      let keeps : (k : ℕ) → (k ≡ x → ⊥) → (k ≡ y → ⊥) → (k ≡ z → ⊥) → getD table k 0 ≡ getD (after .nexts) k 0 = thrice-other (after .nexts) x y z u v w in
+      let front-l : Lies table (x + 1) (fronts (tree l) (number l)) =
       lies-at (lies-same table (a .words) (λ k low high. keeps k (λ same. omega arith) (λ same. omega arith) (λ same. omega arith) ∙ b .words-before k (omega arith))) (omega arith) in
-    let front-r : Lies table (y + 1) (fronts (tree r) (number r)) =
+      let front-r : Lies table (y + 1) (fronts (tree r) (number r)) =
       lies-at (lies-same table (b .words) (λ k low high. keeps k (λ same. omega arith) (λ same. omega arith) (λ same. omega arith))) (omega arith) in
-    let part-l : Lies table (x + 1) (Plan.nexts (tree l) (number l) v) =
+      let part-l : Lies table (x + 1) (Plan.nexts (tree l) (number l) v) =
       lies-is (lies-append front-l (entry (thrice-second (after .nexts) x y z u v w (omega arith) (λ same. omega arith)) ends) (omega arith)) (sym (nexts-fronts (tree l) (number l) v)) in
-    let part-r : Lies table (y + 1) (Plan.nexts (tree r) (number r) w) =
+      let part-r : Lies table (y + 1) (Plan.nexts (tree r) (number r) w) =
       lies-is (lies-append front-r (entry (thrice-third (after .nexts) x y z u v w (omega arith)) ends) (omega arith)) (sym (nexts-fronts (tree r) (number r) w)) in
-    lies-is
-    (entry (thrice-first (after .nexts) x y z u v w (omega arith) (λ same. omega arith) (λ same. omega arith))
+      lies-is
+      (entry (thrice-first (after .nexts) x y z u v w (omega arith) (λ same. omega arith) (λ same. omega arith))
       (lies-append part-l part-r (omega (arith, length-nexts (tree l) (number l) v))))
-    (ap (λ (n : ℕ). start-word kind (number s) n ∷ (Plan.nexts (tree l) (number l) (left-exit kind (number s) n last) ++ Plan.nexts (tree r) (number r) (right-exit kind (number s) n last))) e
+      (ap (λ (n : ℕ). start-word kind (number s) n ∷ (Plan.nexts (tree l) (number l) (left-exit kind (number s) n last) ++ Plan.nexts (tree r) (number r) (right-exit kind (number s) n last))) e
       ∙ ap (λ (n : ℕ). start-word kind (number s) (number r) ∷ (Plan.nexts (tree l) (number l) (left-exit kind (number s) (number r) n) ++ Plan.nexts (tree r) (number r) (right-exit kind (number s) (number r) n))) g
       ∙ sym (j .words-as))
 
   two-leaves : Lies (joined after two-base kind (number s) middle last .labels) (two-base + number s) (takes (tree s))
   two-leaves =
-    let e = middle-is in
-    let g = last-is in
-    let few = h .few in
-    let later = h .later in
-    let narrow = h .narrow in
-    let wide-s = j .wide-as in
-    let number-l = j .number-left in
-    let number-r = j .number-right in
-    let piece-l = j .piece-left in
-    let piece-r = j .piece-right in
-    let long-l = length-takes (tree l) in
-    let long-r = length-takes (tree r) in
-    let full = room .of-labels in
-    let x = two-base + number s in
-    let z = two-base + last in
-    let table = set (set (after .labels) x 0) z 0 in
-    let keeps : (k : ℕ) → (k ≡ x → ⊥) → (k ≡ z → ⊥) → getD table k 0 ≡ getD (after .labels) k 0 = labels-other (after .labels) x z in
-    let part-l : Lies table (x + 1) (takes (tree l)) =
+      let e = middle-is in
+      let g = last-is in
+      let few = h .few in
+      let later = h .later in
+      let narrow = h .narrow in
+      let wide-s = j .wide-as in
+      let number-l = j .number-left in
+      let number-r = j .number-right in
+      let piece-l = j .piece-left in
+      let piece-r = j .piece-right in
+      let long-l = length-takes (tree l) in
+      let long-r = length-takes (tree r) in
+      let full = room .of-labels in
+      let x = two-base + number s in
+      let z = two-base + last in
+      let table = set (set (after .labels) x 0) z 0 in
+      let keeps : (k : ℕ) → (k ≡ x → ⊥) → (k ≡ z → ⊥) → getD table k 0 ≡ getD (after .labels) k 0 = labels-other (after .labels) x z in
+      let part-l : Lies table (x + 1) (takes (tree l)) =
       lies-at (lies-same table (a .leaves) (λ k low high. keeps k (λ same. omega arith) (λ same. omega arith) ∙ b .leaves-before k (omega arith))) (omega arith) in
-    let part-r : Lies table (two-base + middle) (takes (tree r)) =
+      let part-r : Lies table (two-base + middle) (takes (tree r)) =
       lies-at (lies-same table (b .leaves) (λ k low high. keeps k (λ same. omega arith) (λ same. omega arith))) (omega arith) in
-    lies-is
-    (entry (labels-first (after .labels) x z (omega arith) (λ same. omega arith))
+      lies-is
+      (entry (labels-first (after .labels) x z (omega arith) (λ same. omega arith))
       (lies-append (lies-append part-l part-r (omega arith)) (entry (labels-last (after .labels) x z (omega arith)) ends)
-        (omega (arith, length-append (takes (tree l)) (takes (tree r))))))
-    (sym (j .leaves-as))
+      (omega (arith, length-append (takes (tree l)) (takes (tree r))))))
+      (sym (j .leaves-as))
 
   -- the part of a node with two children
   pub fill-two : Filled s t (joined after two-base kind (number s) middle last) (last + 1)
   fill-two =
-    let e = middle-is in
-    let g = last-is in
-    let wide-s = j .wide-as in
-    let number-l = j .number-left in
-    let number-r = j .number-right in
-    let piece-l = j .piece-left in
-    let piece-r = j .piece-right in
-    let wide-l = wide (tree l) in
-    let wide-r = wide (tree r) in
-    let x = two-base + number s in
-    record {
-      ended = omega arith;
-      words = two-words;
-      words-before = λ k low.
-        thrice-other (after .nexts) x (two-base + middle - 1) (two-base + last - 1) _ _ _ k (λ same. omega arith) (λ same. omega arith) (λ same. omega arith)
-        ∙ b .words-before k (omega arith) ∙ a .words-before k (omega arith);
-      leaves = two-leaves;
-      leaves-before = λ k low. labels-other (after .labels) x (two-base + last) k (λ same. omega arith) (λ same. omega arith) ∙ b .leaves-before k (omega arith) ∙ a .leaves-before k (omega arith);
-      placed = λ u k m. still-placed (two-placed u k m) (record { stand = refl; root = refl });
-      others = λ k none. both-same (two-others k none) (record { stand = refl; root = refl })
-    }
+      let e = middle-is in
+      let g = last-is in
+      let wide-s = j .wide-as in
+      let number-l = j .number-left in
+      let number-r = j .number-right in
+      let piece-l = j .piece-left in
+      let piece-r = j .piece-right in
+      let wide-l = wide (tree l) in
+      let wide-r = wide (tree r) in
+      let x = two-base + number s in
+      record {
+        ended = omega arith;
+        words = two-words;
+        words-before = λ k low.
+            thrice-other (after .nexts) x (two-base + middle - 1) (two-base + last - 1) _ _ _ k (λ same. omega arith) (λ same. omega arith) (λ same. omega arith)
+            ∙ b .words-before k (omega arith) ∙ a .words-before k (omega arith);
+        leaves = two-leaves;
+        leaves-before = λ k low. labels-other (after .labels) x (two-base + last) k (λ same. omega arith) (λ same. omega arith) ∙ b .leaves-before k (omega arith) ∙ a .leaves-before k (omega arith);
+        placed = λ u k m. still-placed (two-placed u k m) (record { stand = refl; root = refl });
+        others = λ k none. both-same (two-others k none) (record { stand = refl; root = refl });
+      }
 
 operand-only : {x : Nested ℕ} {f p n i : ℕ} {u : Spot} {k : ℕ} → In (spot (star x) f p n i) u → Stand-in u k → In (spot x f p n (i + 1)) u
 operand-only here s = absurd (plain-no-stand-in tt s)
@@ -341,49 +361,49 @@ operand-only (step operand m) s = m
 module _ {list : List ℕ} {x : Nested ℕ} {f p n i : ℕ} (h : Fine list (spot (star x) f p n i)) (t after : Tables) (room : Room after) (last : ℕ) (a : Filled (spot x f p n (i + 1)) t after last) where
   star-words : Lies (joined after (64 * p) 4 i last last .nexts) (64 * p + i) (fronts (star x) i)
   star-words =
-    let few = h .few in
-    let later = h .later in
-    let narrow = h .narrow in
-    let e = a .ended in
-    let wide-x = wide x in
-    let long = length-fronts x (i + 1) in
-    let full = room .of-nexts in
-    let table = joined after (64 * p) 4 i last last .nexts in
-    let z = 64 * p + last - 1 in
-    let w = 2 ^ (i + 1) + 2 ^ last in
-    let front : Lies table (64 * p + i + 1) (fronts x (i + 1)) =
+      let few = h .few in
+      let later = h .later in
+      let narrow = h .narrow in
+      let e = a .ended in
+      let wide-x = wide x in
+      let long = length-fronts x (i + 1) in
+      let full = room .of-nexts in
+      let table = joined after (64 * p) 4 i last last .nexts in
+      let z = 64 * p + last - 1 in
+      let w = 2 ^ (i + 1) + 2 ^ last in
+      let front : Lies table (64 * p + i + 1) (fronts x (i + 1)) =
       lies-at (lies-same table (a .words) (λ k low high. thrice-other (after .nexts) (64 * p + i) z z w w w k (λ same. omega arith) (λ same. omega arith) (λ same. omega arith))) (omega arith) in
-    let part : Lies table (64 * p + i + 1) (Plan.nexts x (i + 1) w) =
+      let part : Lies table (64 * p + i + 1) (Plan.nexts x (i + 1) w) =
       lies-is (lies-append front (entry (thrice-third (after .nexts) (64 * p + i) z z w w w (omega arith)) ends) (omega arith)) (sym (nexts-fronts x (i + 1) w)) in
-    lies-is (entry (thrice-first (after .nexts) (64 * p + i) z z w w w (omega arith) (λ same. omega arith) (λ same. omega arith)) part)
-    (ap (λ (m : ℕ). (2 ^ (i + 1) + 2 ^ m) ∷ Plan.nexts x (i + 1) (2 ^ (i + 1) + 2 ^ m)) (omega arith))
+      lies-is (entry (thrice-first (after .nexts) (64 * p + i) z z w w w (omega arith) (λ same. omega arith) (λ same. omega arith)) part)
+      (ap (λ (m : ℕ). (2 ^ (i + 1) + 2 ^ m) ∷ Plan.nexts x (i + 1) (2 ^ (i + 1) + 2 ^ m)) (omega arith))
 
   star-leaves : Lies (joined after (64 * p) 4 i last last .labels) (64 * p + i) (takes (star x))
   star-leaves =
-    let few = h .few in
-    let later = h .later in
-    let narrow = h .narrow in
-    let e = a .ended in
-    let long = length-takes x in
-    let full = room .of-labels in
-    let table = joined after (64 * p) 4 i last last .labels in
-    let part : Lies table (64 * p + i + 1) (takes x) =
+      let few = h .few in
+      let later = h .later in
+      let narrow = h .narrow in
+      let e = a .ended in
+      let long = length-takes x in
+      let full = room .of-labels in
+      let table = joined after (64 * p) 4 i last last .labels in
+      let part : Lies table (64 * p + i + 1) (takes x) =
       lies-at (lies-same table (a .leaves) (λ k low high. labels-other (after .labels) (64 * p + i) (64 * p + last) k (λ same. omega arith) (λ same. omega arith))) (omega arith) in
-    entry (labels-first (after .labels) (64 * p + i) (64 * p + last) (omega arith) (λ same. omega arith))
-    (lies-append part (entry (labels-last (after .labels) (64 * p + i) (64 * p + last) (omega arith)) ends) (omega arith))
+      entry (labels-first (after .labels) (64 * p + i) (64 * p + last) (omega arith) (λ same. omega arith))
+      (lies-append part (entry (labels-last (after .labels) (64 * p + i) (64 * p + last) (omega arith)) ends) (omega arith))
 
   -- the part of a star
   pub fill-star : Filled (spot (star x) f p n i) t (joined after (64 * p) 4 i last last) (last + 1)
   fill-star =
-    let e = a .ended in
-    let wide-x = wide x in
-    record {
-      ended = omega arith;
-      words = star-words;
-      words-before = λ k low.
-        thrice-other (after .nexts) (64 * p + i) (64 * p + last - 1) (64 * p + last - 1) _ _ _ k (λ same. omega arith) (λ same. omega arith) (λ same. omega arith) ∙ a .words-before k (omega arith);
-      leaves = star-leaves;
-      leaves-before = λ k low. labels-other (after .labels) (64 * p + i) (64 * p + last) k (λ same. omega arith) (λ same. omega arith) ∙ a .leaves-before k (omega arith);
-      placed = λ u k m. still-placed (a .placed u k (down refl (operand-only (m .inside) (m .stands-for)) m)) (record { stand = refl; root = refl });
-      others = λ k none. both-same (a .others k (λ u w. none u (up operand refl w))) (record { stand = refl; root = refl })
-    }
+      let e = a .ended in
+      let wide-x = wide x in
+      record {
+        ended = omega arith;
+        words = star-words;
+        words-before = λ k low.
+            thrice-other (after .nexts) (64 * p + i) (64 * p + last - 1) (64 * p + last - 1) _ _ _ k (λ same. omega arith) (λ same. omega arith) (λ same. omega arith) ∙ a .words-before k (omega arith);
+        leaves = star-leaves;
+        leaves-before = λ k low. labels-other (after .labels) (64 * p + i) (64 * p + last) k (λ same. omega arith) (λ same. omega arith) ∙ a .leaves-before k (omega arith);
+        placed = λ u k m. still-placed (a .placed u k (down refl (operand-only (m .inside) (m .stands-for)) m)) (record { stand = refl; root = refl });
+        others = λ k none. both-same (a .others k (λ u w. none u (up operand refl w))) (record { stand = refl; root = refl });
+      }

@@ -63,10 +63,10 @@ good-top {list} {t} good =
         few = omega (arith, run-nest t (wanted t), good .few);
         narrow = omega (arith, small-narrow x (small .0));
         short = omega (arith, size-nest t (wanted t), good-small list t good);
-        sound = sound-nest t (wanted t) (small .1)
+        sound = sound-nest t (wanted t) (small .1);
       };
       plain = plain-nest t (wanted t);
-      all = ap length is ∙ length-listed x 0 0 1
+      all = ap length is ∙ length-listed x 0 0 1;
     }
 
 -- the list is good
@@ -92,22 +92,31 @@ has-records h = omega (arith, h .top .all, size-positive (h .some), h .top .fine
 
 -- the number of all pieces is one more than of those below the root's
 pub total-of : {list counts : List ℕ} {count total : ℕ} → Counted list counts (length list / 8) → count ≡ getD counts (length list / 8 - 1) 0 → total ≡ count + 1 → Total list total
-total-of counted e f = record { counts-all = λ x top.
-    omega (arith, last-root top, size-positive x, counted .each _ (omega (arith, last-root top, size-positive x)) (whole-spot x) (top .fine) (top .plain) (last-root top ∙ omega arith)) }
+total-of counted e f = record {
+  counts-all = λ x top.
+      omega (arith, last-root top, size-positive x, counted .each _ (omega (arith, last-root top, size-positive x)) (whole-spot x) (top .fine) (top .plain) (last-root top ∙ omega arith));
+}
 
 pub root-runs : {list counts : List ℕ} → Listed list → Counted list counts (length list / 8) → getD counts (length list / 8 - 1) 0 < 128
-root-runs h counted = omega (arith, last-root (h .top), h .top .fine .few,
-    counted .each _ (omega (arith, last-root (h .top), size-positive (h .some))) (whole-spot (h .some)) (h .top .fine) (h .top .plain) (last-root (h .top) ∙ omega arith))
+root-runs h counted = omega (
+  arith,
+  last-root (h .top),
+  h .top .fine .few,
+  counted .each _ (omega (arith, last-root (h .top), size-positive (h .some))) (whole-spot (h .some)) (h .top .fine) (h .top .plain) (last-root (h .top) ∙ omega arith),
+)
 
 -- before the first piece
 pub making-none : {list counts nexts labels runs stands tops roots : List ℕ} → Listed list → Counted list counts (length list / 8) → length counts ≡ 1920 → Roomy nexts labels runs stands tops → length roots ≡ 128
     → getD roots 0 0 ≡ length list / 8 - 1 → Making list counts 0 (tables nexts labels stands roots) runs tops
 making-none {runs = runs} {tops = tops} listed counted counts-room roomy roots-room first =
     record {
-      listed = listed; counted = counted; counts-room = counts-room;
+      listed = listed;
+      counted = counted;
+      counts-room = counts-room;
       room = record { of-nexts = roomy .reach-room; of-labels = roomy .labels-room; of-stands = roomy .stands-room; of-roots = roots-room };
-      runs-room = roomy .runs-room; tops-room = roomy .tops-room;
-      so-far = λ x top. made-none x _ runs tops (omega (arith, last-root top))
+      runs-room = roomy .runs-room;
+      tops-room = roomy .tops-room;
+      so-far = λ x top. made-none x _ runs tops (omega (arith, last-root top));
     }
 
 -- after the last

@@ -47,8 +47,9 @@ pub record Piece-of (x : Nested ℕ) (k : ℕ) : Type 0 where
 pub piece-of : (x : Nested ℕ) (k : ℕ) → k < 1 + run x → Piece-of x k
 piece-of x k low =
     elim (decLt 0 k) [
-      yes h ↦ let found = piece-below x 0 0 1 0 k (omega arith) (omega arith) in record { top = found .top; begin = found .begin; head = child (found .inside) }
-    | no h ↦ subst (Piece-of x) (omega arith) (record { top = x; begin = 0; head = root }) ]
+      | yes h ↦ let found = piece-below x 0 0 1 0 k (omega arith) (omega arith) in record { top = found .top; begin = found .begin; head = child (found .inside) }
+      | no h ↦ subst (Piece-of x) (omega arith) (record { top = x; begin = 0; head = root })
+    ]
 
 -- the piece in which a spot is
 pub record Owner (x : Nested ℕ) (u : Spot) : Type 0 where
@@ -107,8 +108,8 @@ abbrev pub closed-row : Tables → (k last : ℕ) → Tables
 closed-row t k last = tables (set (t .nexts) (64 * k + last - 1) 0) (t .labels) (t .stands) (t .roots)
 
 module _ {list : List ℕ} {x : Nested ℕ} (top : Top list x) (k : ℕ) (inside : k < 1 + run x) {t after : Tables} (full : Room after)
-  {runs tops : List ℕ} (runs-room : length runs ≡ 128) (tops-room : length tops ≡ 128) (made : Made x k t runs tops)
-  {last r : ℕ} (done : Visited list (getD (t .roots) k 0) k 0 t after last) (counted : Runs list (getD (t .roots) k 0) r) where
+    {runs tops : List ℕ} (runs-room : length runs ≡ 128) (tops-room : length tops ≡ 128) (made : Made x k t runs tops)
+    {last r : ℕ} (done : Visited list (getD (t .roots) k 0) k 0 t after last) (counted : Runs list (getD (t .roots) k 0) r) where
   filled : {y : Nested ℕ} {f : ℕ} → Head x y f k → Filled (head-spot y f k) t after last
   filled head = done _ (head-sits top made head)
 
@@ -124,70 +125,73 @@ module _ {list : List ℕ} {x : Nested ℕ} (top : Top list x) (k : ℕ) (inside
   -- a stand-in of a piece made before keeps its place
   still : (u : Spot) (n : ℕ) → In (whole-spot x) u → Stand-in u n → piece u < k → Same-place t after n
   still u n m s low =
-    this-filled .others n (λ v own.
+      this-filled .others n (λ v own.
       let same : u ≡ v = one-stand-in m (in-in (head-in (this .head)) (own .inside)) s (own .stands-for) in
       omega (arith, ap piece same, own .same-piece))
 
   placed-more : (u : Spot) (n : ℕ) → In (whole-spot x) u → Stand-in u n → piece u < k + 1 → Placed after u n
   placed-more u n m s low =
-    elim (decLt (piece u) k) [
-      yes h ↦ still-placed (made .placed u n m s h) (still u n m s h)
-    | no h ↦
-      let same : piece u ≡ k = omega arith in
-      let own = owner m in
-      let at : Head x (own .top) (own .begin) k = subst (Head x (own .top) (own .begin)) same (own .head) in
-      let inside-u : In (head-spot (own .top) (own .begin) k) u = subst (λ (p : ℕ). In (head-spot (own .top) (own .begin) p) u) same (own .inside) in
-      filled at .placed u n (record { inside = inside-u; stands-for = s; same-piece = same }) ]
+      elim (decLt (piece u) k) [
+        | yes h ↦ still-placed (made .placed u n m s h) (still u n m s h)
+        | no h ↦
+            let same : piece u ≡ k = omega arith in
+            let own = owner m in
+            let at : Head x (own .top) (own .begin) k = subst (Head x (own .top) (own .begin)) same (own .head) in
+            let inside-u : In (head-spot (own .top) (own .begin) k) u = subst (λ (p : ℕ). In (head-spot (own .top) (own .begin) p) u) same (own .inside) in
+            filled at .placed u n (record { inside = inside-u; stands-for = s; same-piece = same })
+      ]
 
   rooted-more : getD (after .roots) 0 0 + 1 ≡ size x
   rooted-more =
-    let same = this-filled .others 0 (λ v own. omega (arith, in-reaches (in-in (head-in (this .head)) (own .inside)) (stand-in-reaches (own .stands-for)))) in
-    ap (λ (n : ℕ). n + 1) (same .root) ∙ made .rooted
+      let same = this-filled .others 0 (λ v own. omega (arith, in-reaches (in-in (head-in (this .head)) (own .inside)) (stand-in-reaches (own .stands-for)))) in
+      ap (λ (n : ℕ). n + 1) (same .root) ∙ made .rooted
 
   row-this : {y : Nested ℕ} {f : ℕ} → Head x y f k → Row-made y k (closed-row after k last) (set runs k (r + 1)) (set tops k (last - 1))
   row-this {y} {f} head =
-    let part = filled head in
-    let e = part .ended in
-    let long = length-fronts y 0 in
-    let broad = wide y in
-    let small = in-fine (head-in head) (top .fine) .narrow in
-    let room = full .of-nexts in
-    let low-k = few in
-    let front : Lies (closed-row after k last .nexts) (64 * k) (fronts y 0) =
+      let part = filled head in
+      let e = part .ended in
+      let long = length-fronts y 0 in
+      let broad = wide y in
+      let small = in-fine (head-in head) (top .fine) .narrow in
+      let room = full .of-nexts in
+      let low-k = few in
+      let front : Lies (closed-row after k last .nexts) (64 * k) (fronts y 0) =
       lies-at (lies-same (closed-row after k last .nexts) (part .words) (λ j low high. getD-set-other (after .nexts) (64 * k + last - 1) j 0 0 (λ same. omega arith))) (omega arith) in
-    record {
-      words = lies-is (lies-append front (entry (getD-set-same (after .nexts) (64 * k + last - 1) 0 0 (omega arith)) ends) (omega arith)) (sym (nexts-fronts y 0 0));
-      leaves = lies-at (part .leaves) (omega arith);
-      ran = getD-set-same runs k (r + 1) 0 (omega arith) ∙ omega (arith, counted _ (in-fine (head-in head) (top .fine)) (head-plain top head) (head-root top made head));
-      topped = getD-set-same tops k (last - 1) 0 (omega arith) ∙ omega arith
-    }
+      record {
+        words = lies-is (lies-append front (entry (getD-set-same (after .nexts) (64 * k + last - 1) 0 0 (omega arith)) ends) (omega arith)) (sym (nexts-fronts y 0 0));
+        leaves = lies-at (part .leaves) (omega arith);
+        ran = getD-set-same runs k (r + 1) 0 (omega arith) ∙ omega (arith, counted _ (in-fine (head-in head) (top .fine)) (head-plain top head) (head-root top made head));
+        topped = getD-set-same tops k (last - 1) 0 (omega arith) ∙ omega arith;
+      }
 
   row-before : {y : Nested ℕ} {f n : ℕ} → Head x y f n → n < k → Row-made y n (closed-row after k last) (set runs k (r + 1)) (set tops k (last - 1))
   row-before {y} {f} {n} head low =
-    let part = this-filled in
-    let e = part .ended in
-    let row = made .rows head low in
-    let broad = wide (this .top) in
-    let small = in-fine (head-in head) (top .fine) .narrow in
-    let long = length-nexts y 0 0 in
-    let long-labels = length-takes y in
-    record {
-      words = lies-same (closed-row after k last .nexts) (row .words)
-        (λ j above high. getD-set-other (after .nexts) (64 * k + last - 1) j 0 0 (λ same. omega arith) ∙ part .words-before j (omega arith));
-      leaves = lies-same (after .labels) (row .leaves) (λ j above high. part .leaves-before j (omega arith));
-      ran = getD-set-other runs k n (r + 1) 0 (λ same. omega arith) ∙ row .ran;
-      topped = getD-set-other tops k n (last - 1) 0 (λ same. omega arith) ∙ row .topped
-    }
+      let part = this-filled in
+      let e = part .ended in
+      let row = made .rows head low in
+      let broad = wide (this .top) in
+      let small = in-fine (head-in head) (top .fine) .narrow in
+      let long = length-nexts y 0 0 in
+      let long-labels = length-takes y in
+      record {
+        words = lies-same (closed-row after k last .nexts) (row .words)
+            (λ j above high. getD-set-other (after .nexts) (64 * k + last - 1) j 0 0 (λ same. omega arith) ∙ part .words-before j (omega arith));
+        leaves = lies-same (after .labels) (row .leaves) (λ j above high. part .leaves-before j (omega arith));
+        ran = getD-set-other runs k n (r + 1) 0 (λ same. omega arith) ∙ row .ran;
+        topped = getD-set-other tops k n (last - 1) 0 (λ same. omega arith) ∙ row .topped;
+      }
 
   -- one piece more
   pub made-more : Made x (k + 1) (closed-row after k last) (set runs k (r + 1)) (set tops k (last - 1))
   made-more = record {
-      rooted = rooted-more;
-      placed = λ u n m s low. still-placed (placed-more u n m s low) (record { stand = refl; root = refl });
-      rows = λ {y} {f} {n} head low. elim (decLt n k) [
-        yes h ↦ row-before head h
+    rooted = rooted-more;
+    placed = λ u n m s low. still-placed (placed-more u n m s low) (record { stand = refl; root = refl });
+    rows = λ {y} {f} {n} head low. elim (decLt n k) [
+      | yes h ↦ row-before head h
       | no h ↦ let same : k ≡ n = omega arith in
-        subst (λ (m : ℕ). Row-made y m (closed-row after k last) (set runs k (r + 1)) (set tops k (last - 1))) same (row-this (subst (Head x y f) (sym same) head)) ] }
+          subst (λ (m : ℕ). Row-made y m (closed-row after k last) (set runs k (r + 1)) (set tops k (last - 1))) same (row-this (subst (Head x y f) (sym same) head))
+    ];
+  }
 
 -- when all pieces have been made, the tables are those that are wanted
 module _ {list : List ℕ} {x : Nested ℕ} (top : Top list x) {t : Tables} (room : Room t) {runs tops : List ℕ} (made : Made x (1 + run x) t runs tops) where
@@ -197,26 +201,26 @@ module _ {list : List ℕ} {x : Nested ℕ} (top : Top list x) {t : Tables} (roo
   head-low : {y : Nested ℕ} {f n : ℕ} → Head x y f n → n < 1 + run x
   head-low root = omega arith
   head-low (child {y = y} {f = f} {p = p} {n = n} {i = i} m) =
-    let itself : Stand-in (spot (below y) f p n i) n = stand-in in
-    omega (arith, in-reaches m (stand-in-reaches itself))
+      let itself : Stand-in (spot (below y) f p n i) n = stand-in in
+      omega (arith, in-reaches m (stand-in-reaches itself))
 
   piece-told : {y : Nested ℕ} {f n : ℕ} → Head x y f n → Plan.Piece-at told y n
   piece-told {y} {f} {n} head =
-    let row = made .rows head (head-low head) in
-    let long = length-takes y in
-    let small = in-fine (head-in head) (top .fine) in
-    record {
-      labelled = subst (λ (k : ℕ). take k (drop (64 * n) (t .labels)) ≡ takes y) long (lies-row (row .leaves) (omega (arith, room .of-labels, small .narrow, small .later, small .few)));
-      ran = row .ran;
-      topped = row .topped
-    }
+      let row = made .rows head (head-low head) in
+      let long = length-takes y in
+      let small = in-fine (head-in head) (top .fine) in
+      record {
+        labelled = subst (λ (k : ℕ). take k (drop (64 * n) (t .labels)) ≡ takes y) long (lies-row (row .leaves) (omega (arith, room .of-labels, small .narrow, small .later, small .few)));
+        ran = row .ran;
+        topped = row .topped;
+      }
 
   words-told : {y : Nested ℕ} {f n : ℕ} → Head x y f n → Plan.Nexts y (Plan.row (t .nexts) n (width y))
   words-told {y} {f} {n} head =
-    let row = made .rows head (head-low head) in
-    let long = length-nexts y 0 0 in
-    let small = in-fine (head-in head) (top .fine) in
-    subst (λ (k : ℕ). take k (drop (64 * n) (t .nexts)) ≡ Plan.nexts y 0 0) long (lies-row (row .words) (omega (arith, room .of-nexts, small .narrow, small .later, small .few)))
+      let row = made .rows head (head-low head) in
+      let long = length-nexts y 0 0 in
+      let small = in-fine (head-in head) (top .fine) in
+      subst (λ (k : ℕ). take k (drop (64 * n) (t .nexts)) ≡ Plan.nexts y 0 0) long (lies-row (row .words) (omega (arith, room .of-nexts, small .narrow, small .later, small .few)))
 
   children-told : (y : Nested ℕ) {f p n i : ℕ} → In (whole-spot x) (spot y f p n i) → Plan.Children-at told y i n
   children-told (leaf a) m = tt
@@ -224,7 +228,7 @@ module _ {list : List ℕ} {x : Nested ℕ} (top : Top list x) {t : Tables} (roo
   children-told (union y z) m = (children-told y (in-child m union-left), children-told z (in-child m union-right))
   children-told (star y) m = children-told y (in-child m operand)
   children-told (below y) m =
-    (made .placed _ _ m stand-in (omega (arith, head-low (child m), in-fine m (top .fine) .later)) .stand, piece-told (child m), children-told y (in-child m under))
+      (made .placed _ _ m stand-in (omega (arith, head-low (child m), in-fine m (top .fine) .later)) .stand, piece-told (child m), children-told y (in-child m under))
 
   below-told : (y : Nested ℕ) {f p n i : ℕ} → In (whole-spot x) (spot y f p n i) → Plan.Each-below Plan.Nexts (t .nexts) y n
   below-told (leaf a) m = tt
@@ -272,11 +276,11 @@ module _ {list counts : List ℕ} {k : ℕ} {t : Tables} {runs tops : List ℕ} 
 
   pub piece-node : Node list (getD (t .roots) k 0)
   piece-node = record {
-      at = head-spot (the-piece .top) (the-piece .begin) k;
-      fine = in-fine (head-in (the-piece .head)) (the-top .fine);
-      plain = head-plain the-top (the-piece .head);
-      is-root = head-root the-top (making .so-far _ the-top) (the-piece .head)
-    }
+    at = head-spot (the-piece .top) (the-piece .begin) k;
+    fine = in-fine (head-in (the-piece .head)) (the-top .fine);
+    plain = head-plain the-top (the-piece .head);
+    is-root = head-root the-top (making .so-far _ the-top) (the-piece .head);
+  }
 
   pub piece-runs : Runs list (getD (t .roots) k 0) (getD counts (getD (t .roots) k 0) 0)
   piece-runs = making .counted .each _ (omega (arith, node-listed piece-node))
@@ -320,9 +324,13 @@ pub making-more : {list counts : List ℕ} {k : ℕ} {t : Tables} {runs tops : L
     → Making list counts (k + 1) (tables nexts labels stands roots) runs-after tops-after
 making-more making nexts labels runs-after stands tops-after roots a b c d e f more =
     record {
-      listed = making .listed; counted = making .counted; counts-room = making .counts-room;
+      listed = making .listed;
+      counted = making .counted;
+      counts-room = making .counts-room;
       room = room-kept nexts labels stands roots (making .room) a b d f;
-      runs-room = c ∙ making .runs-room; tops-room = e ∙ making .tops-room; so-far = more
+      runs-room = c ∙ making .runs-room;
+      tops-room = e ∙ making .tops-room;
+      so-far = more;
     }
 
 pub making-at : {list counts : List ℕ} {k j : ℕ} {t : Tables} {runs tops : List ℕ} → Making list counts k t runs tops → k ≡ j → Making list counts j t runs tops

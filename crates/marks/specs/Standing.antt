@@ -67,11 +67,11 @@ child-same false s c same f p n m e = same f p (0 + m) ∙ ap (λ (k : ℕ). lis
 -- the records of two children and of their parent of the kind k
 two-same : (b d : Bool) (s t : Tree ℕ) (c : Cut s) (e : Cut t) → Same s c → Same t e → (k f p n : ℕ)
     → records s c f (child-piece b p n) (one b + n)
-        ++ records t e (f + nodes s) (child-piece d p (one b + cuts s c + n)) (one d + (one b + cuts s c + n))
-        ++ record-of k 0 (f + nodes s - 1) (f + nodes s + nodes t - 1) p
+    ++ records t e (f + nodes s) (child-piece d p (one b + cuts s c + n)) (one d + (one b + cuts s c + n))
+    ++ record-of k 0 (f + nodes s - 1) (f + nodes s + nodes t - 1) p
     ≡ listed (edge b (nest s c)) f p n
-        ++ listed (edge d (nest t e)) (f + size (edge b (nest s c))) p (n + run (edge b (nest s c)))
-        ++ record-of k 0 (f + size (edge b (nest s c)) - 1) (f + size (edge b (nest s c)) + size (edge d (nest t e)) - 1) p
+    ++ listed (edge d (nest t e)) (f + size (edge b (nest s c))) p (n + run (edge b (nest s c)))
+    ++ record-of k 0 (f + size (edge b (nest s c)) - 1) (f + size (edge b (nest s c)) + size (edge d (nest t e)) - 1) p
 two-same b d s t c e same-s same-t k f p n =
     let size-s : size (edge b (nest s c)) ≡ nodes s = size-edge b (nest s c) ∙ size-nest s c in
     let size-t : size (edge d (nest t e)) ≡ nodes t = size-edge d (nest t e) ∙ size-nest t e in
@@ -151,7 +151,7 @@ shows before after r kind character left right piece e small-left small-right sm
       character-byte = at 1 _ (omega arith);
       left-word = omega (arith, at 2 (8 * r + 2) (omega arith), at 3 (8 * r + 2 + 1) (omega arith));
       right-word = omega (arith, at 4 (8 * r + 4) (omega arith), at 5 (8 * r + 4 + 1) (omega arith));
-      piece-word = omega (arith, at 6 (8 * r + 6) (omega arith), at 7 (8 * r + 6 + 1) (omega arith))
+      piece-word = omega (arith, at 6 (8 * r + 6) (omega arith), at 7 (8 * r + 6 + 1) (omega arith));
     }
 
 -- a node, or a stand-in with the child piece below it, and where it stands: the number of its first record, its piece,
@@ -238,13 +238,21 @@ child-written : {list : List ℕ} {s t : Spot} → Child s t → Written list s 
 child-written (catenation-left {x = x} {y = y} {f = f} {p = p} {n = n}) w =
     record { before = w .before; after = _; parts = written-left (listed x f p n) _ _ (w .before) (w .after) (w .parts); begins = w .begins }
 child-written (catenation-right {x = x} {y = y} {f = f} {p = p} {n = n}) w =
-    record { before = w .before ++ listed x f p n; after = _; parts = written-right (listed x f p n) _ _ (w .before) (w .after) (w .parts);
-      begins = let e = w .begins in let g = length-listed x f p n in simp length-append (omega arith) }
+    record {
+      before = w .before ++ listed x f p n;
+      after = _;
+      parts = written-right (listed x f p n) _ _ (w .before) (w .after) (w .parts);
+      begins = let e = w .begins in let g = length-listed x f p n in simp length-append (omega arith);
+    }
 child-written (union-left {x = x} {y = y} {f = f} {p = p} {n = n}) w =
     record { before = w .before; after = _; parts = written-left (listed x f p n) _ _ (w .before) (w .after) (w .parts); begins = w .begins }
 child-written (union-right {x = x} {y = y} {f = f} {p = p} {n = n}) w =
-    record { before = w .before ++ listed x f p n; after = _; parts = written-right (listed x f p n) _ _ (w .before) (w .after) (w .parts);
-      begins = let e = w .begins in let g = length-listed x f p n in simp length-append (omega arith) }
+    record {
+      before = w .before ++ listed x f p n;
+      after = _;
+      parts = written-right (listed x f p n) _ _ (w .before) (w .after) (w .parts);
+      begins = let e = w .begins in let g = length-listed x f p n in simp length-append (omega arith);
+    }
 child-written (operand {x = x} {f = f} {p = p} {n = n}) w =
     record { before = w .before; after = _; parts = w .parts ∙ ap (λ (l : List ℕ). w .before ++ l) (append-assoc (listed x f p n) _ (w .after)); begins = w .begins }
 child-written under w = record { before = w .before; after = w .after; parts = w .parts; begins = w .begins }
@@ -274,7 +282,7 @@ root-shows : {list : List ℕ} {s : Spot} → Written list s → (r kind charact
     → Shows list r kind character left right own
 root-shows {list} {s = spot x f p n i} w r kind character left right own at e small-left small-right small-piece =
     let split : list ≡ (w .before ++ inner x f p n) ++ (record-of kind character left right own ++ w .after) =
-      w .parts ∙ ap (λ (l : List ℕ). w .before ++ (l ++ w .after)) (listed-inner x f p n ∙ ap (λ (l : List ℕ). inner x f p n ++ l) e) ∙ simp append-assoc in
+    w .parts ∙ ap (λ (l : List ℕ). w .before ++ (l ++ w .after)) (listed-inner x f p n ∙ ap (λ (l : List ℕ). inner x f p n ++ l) e) ∙ simp append-assoc in
     let begins = w .begins in
     let long = length-inner x f p n in
     rw split (shows (w .before ++ inner x f p n) (w .after) r kind character left right own (simp length-append (omega arith)) small-left small-right small-piece)
@@ -381,20 +389,25 @@ pub node-at : (x : Nested ℕ) (f p n i r : ℕ) → f ≤ r → r < f + size x 
 node-at (leaf a) f p n i r low high = record { at = _; inside = here; plain = tt; is-root = omega arith }
 node-at (catenation x y) f p n i r low high =
     elim (decLt r (f + size x)) [
-      yes h ↦ node-below catenation-left (node-at x f p n (i + 1) r low h)
-    | no h ↦ elim (decLt r (f + size x + size y)) [
-        yes g ↦ node-below catenation-right (node-at y (f + size x) p (n + run x) (i + (1 + width x)) r (omega arith) g)
-      | no g ↦ record { at = _; inside = here; plain = tt; is-root = omega arith } ] ]
+      | yes h ↦ node-below catenation-left (node-at x f p n (i + 1) r low h)
+      | no h ↦ elim (decLt r (f + size x + size y)) [
+        | yes g ↦ node-below catenation-right (node-at y (f + size x) p (n + run x) (i + (1 + width x)) r (omega arith) g)
+        | no g ↦ record { at = _; inside = here; plain = tt; is-root = omega arith }
+      ]
+    ]
 node-at (union x y) f p n i r low high =
     elim (decLt r (f + size x)) [
-      yes h ↦ node-below union-left (node-at x f p n (i + 1) r low h)
-    | no h ↦ elim (decLt r (f + size x + size y)) [
-        yes g ↦ node-below union-right (node-at y (f + size x) p (n + run x) (i + (1 + width x)) r (omega arith) g)
-      | no g ↦ record { at = _; inside = here; plain = tt; is-root = omega arith } ] ]
+      | yes h ↦ node-below union-left (node-at x f p n (i + 1) r low h)
+      | no h ↦ elim (decLt r (f + size x + size y)) [
+        | yes g ↦ node-below union-right (node-at y (f + size x) p (n + run x) (i + (1 + width x)) r (omega arith) g)
+        | no g ↦ record { at = _; inside = here; plain = tt; is-root = omega arith }
+      ]
+    ]
 node-at (star x) f p n i r low high =
     elim (decLt r (f + size x)) [
-      yes h ↦ node-below operand (node-at x f p n (i + 1) r low h)
-    | no h ↦ record { at = _; inside = here; plain = tt; is-root = omega arith } ]
+      | yes h ↦ node-below operand (node-at x f p n (i + 1) r low h)
+      | no h ↦ record { at = _; inside = here; plain = tt; is-root = omega arith }
+    ]
 node-at (below x) f p n i r low high = node-below under (node-at x f n (n + 1) 0 r low high)
 
 -- the stand-in of the child piece k below a spot: `top` is the top piece's tree, and its records begin at `begin`
@@ -413,14 +426,17 @@ pub piece-below : (x : Nested ℕ) (f p n i k : ℕ) → n ≤ k → k < n + run
 piece-below (leaf a) f p n i k low high = absurd (omega arith)
 piece-below (catenation x y) f p n i k low high =
     elim (decLt k (n + run x)) [
-      yes h ↦ piece-under catenation-left (piece-below x f p n (i + 1) k low h)
-    | no h ↦ piece-under catenation-right (piece-below y (f + size x) p (n + run x) (i + (1 + width x)) k (omega arith) (omega arith)) ]
+      | yes h ↦ piece-under catenation-left (piece-below x f p n (i + 1) k low h)
+      | no h ↦ piece-under catenation-right (piece-below y (f + size x) p (n + run x) (i + (1 + width x)) k (omega arith) (omega arith))
+    ]
 piece-below (union x y) f p n i k low high =
     elim (decLt k (n + run x)) [
-      yes h ↦ piece-under union-left (piece-below x f p n (i + 1) k low h)
-    | no h ↦ piece-under union-right (piece-below y (f + size x) p (n + run x) (i + (1 + width x)) k (omega arith) (omega arith)) ]
+      | yes h ↦ piece-under union-left (piece-below x f p n (i + 1) k low h)
+      | no h ↦ piece-under union-right (piece-below y (f + size x) p (n + run x) (i + (1 + width x)) k (omega arith) (omega arith))
+    ]
 piece-below (star x) f p n i k low high = piece-under operand (piece-below x f p n (i + 1) k low high)
 piece-below (below x) f p n i k low high =
     elim (decLt n k) [
-      yes h ↦ piece-under under (piece-below x f n (n + 1) 0 k (omega arith) (omega arith))
-    | no h ↦ record { top = x; begin = f; parent = p; place = i; inside = subst (λ (m : ℕ). In (spot (below x) f p n i) (spot (below x) f p m i)) (omega arith) here } ]
+      | yes h ↦ piece-under under (piece-below x f n (n + 1) 0 k (omega arith) (omega arith))
+      | no h ↦ record { top = x; begin = f; parent = p; place = i; inside = subst (λ (m : ℕ). In (spot (below x) f p n i) (spot (below x) f p m i)) (omega arith) here }
+    ]

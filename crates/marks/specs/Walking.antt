@@ -217,11 +217,11 @@ module _ {list : List ℕ} {node piece own kind : ℕ} (met : Met list node piec
 
       pub star-bounds : kind ≡ 4 → (piece < 128) × (at < middle) × (middle ≤ middle) × (middle < 62)
       star-bounds e =
-        omega (arith, past-left, filled-ends (ready .sitting) (visit-star (ready .sitting) met-own (met-kind 4 e) t mid room middle done-left), bounds (ready .sitting))
+          omega (arith, past-left, filled-ends (ready .sitting) (visit-star (ready .sitting) met-own (met-kind 4 e) t mid room middle done-left), bounds (ready .sitting))
 
       second-kid : {right : ℕ} → right ≡ right-of list node → (kind ≡ 4 → ⊥) → Kid list node right piece middle
       second-kid right-is other =
-        subst (λ (k : ℕ). Kid list node k piece middle) (sym right-is) (visit-right (ready .sitting) met-own (met-other 1 inner) (met-other 4 other) t mid middle done-left)
+          subst (λ (k : ℕ). Kid list node k piece middle) (sym right-is) (visit-right (ready .sitting) met-own (met-other 1 inner) (met-other 4 other) t mid middle done-left)
 
       pub right-ready : {right : ℕ} → right ≡ right-of list node → (kind ≡ 4 → ⊥) → (right < node) × Ready list right piece middle mid
       right-ready right-is other = let kid = second-kid right-is other in (kid .earlier, record { some = kid .at-spot; sitting = kid .sitting; room = room })
@@ -229,10 +229,15 @@ module _ {list : List ℕ} {node piece own kind : ℕ} (met : Met list node piec
       pub two-bounds : {right last : ℕ} {after : Tables} → right ≡ right-of list node → (kind ≡ 4 → ⊥) → Room after → Visited list right piece middle mid after last
           → (piece < 128) × (at < middle) × (middle ≤ last) × (last < 62)
       two-bounds {right} {last} {after} right-is other full done-right =
-        let kid = second-kid right-is other in
-        let moved : Visited list (right-of list node) piece middle mid after last = subst (λ (k : ℕ). Visited list k piece middle mid after last) right-is done-right in
-        omega (arith, past-left, filled-ends (kid .sitting) (done-right _ (kid .sitting)),
-          filled-ends (ready .sitting) (visit-two (ready .sitting) met-own (met-other 1 inner) (met-other 4 other) t mid after full middle last done-left moved), bounds (ready .sitting))
+          let kid = second-kid right-is other in
+          let moved : Visited list (right-of list node) piece middle mid after last = subst (λ (k : ℕ). Visited list k piece middle mid after last) right-is done-right in
+          omega (
+            arith,
+            past-left,
+            filled-ends (kid .sitting) (done-right _ (kid .sitting)),
+            filled-ends (ready .sitting) (visit-two (ready .sitting) met-own (met-other 1 inner) (met-other 4 other) t mid after full middle last done-left moved),
+            bounds (ready .sitting),
+          )
 
       joined-as : (last : ℕ) (after : Tables) {words leaves : List ℕ}
           → words ≡ thrice (after .nexts) (64 * piece + at) (64 * piece + middle - 1) (64 * piece + last - 1) (start-word kind at middle) (left-exit kind at middle last) (right-exit kind at middle last)
@@ -251,5 +256,5 @@ module _ {list : List ℕ} {node piece own kind : ℕ} (met : Met list node piec
           → leaves ≡ set (set (after .labels) (64 * piece + at) 0) (64 * piece + last) 0
           → Visited list node piece at t (tables words leaves (after .stands) (after .roots)) end
       visited-two {last = last} {after = after} right-is other full done-right g f h s here =
-        let moved : Visited list (right-of list node) piece middle mid after last = subst (λ (k : ℕ). Visited list k piece middle mid after last) right-is done-right in
-        filled-as (visit-two here met-own (met-other 1 inner) (met-other 4 other) t mid after full middle last done-left moved) (joined-as last after f h) g
+          let moved : Visited list (right-of list node) piece middle mid after last = subst (λ (k : ℕ). Visited list k piece middle mid after last) right-is done-right in
+          filled-as (visit-two here met-own (met-other 1 inner) (met-other 4 other) t mid after full middle last done-left moved) (joined-as last after f h) g

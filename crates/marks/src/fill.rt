@@ -79,7 +79,14 @@ fn label(character: u8) -> u16
 }
 
 // The entries of a leaf at the number `at`. Gives the number after its last state's.
-fn leaf(list: &[u8], node: usize, piece: usize, at: usize, nexts: &mut [u64], labels: &mut [u16]) -> usize
+fn leaf(
+    list: &[u8],
+    node: usize,
+    piece: usize,
+    at: usize,
+    nexts: &mut [u64],
+    labels: &mut [u16],
+) -> usize
     requires { ⌜ Within (now list) node piece at ⌝ }
     requires { ⌜ Wide (now nexts) (now labels) ⌝ }
     ensures { λ r. ⌜ r ≡ at + 2 ⌝ }
@@ -91,7 +98,16 @@ fn leaf(list: &[u8], node: usize, piece: usize, at: usize, nexts: &mut [u64], la
 }
 
 // The entries of the stand-in of the piece `child`, whose root's record is `node`, and what is told of that piece.
-fn stand(child: usize, node: usize, piece: usize, at: usize, nexts: &mut [u64], labels: &mut [u16], stands: &mut [u8], roots: &mut [u16]) -> usize
+fn stand(
+    child: usize,
+    node: usize,
+    piece: usize,
+    at: usize,
+    nexts: &mut [u64],
+    labels: &mut [u16],
+    stands: &mut [u8],
+    roots: &mut [u16],
+) -> usize
     requires { ⌜ (child < 128) × (node < 65536) × (piece < 128) × (at + 2 ≤ 62) ⌝ }
     requires { ⌜ Room (tables (now nexts) (now labels) (now stands) (now roots)) ⌝ }
     ensures { λ r. ⌜ r ≡ at + 2 ⌝ }
@@ -104,7 +120,15 @@ fn stand(child: usize, node: usize, piece: usize, at: usize, nexts: &mut [u64], 
 }
 
 // The entries of a node whose children's are there: its start's, its children's accepting states', and its labels.
-fn join(kind: u8, piece: usize, at: usize, middle: usize, last: usize, nexts: &mut [u64], labels: &mut [u16]) -> usize
+fn join(
+    kind: u8,
+    piece: usize,
+    at: usize,
+    middle: usize,
+    last: usize,
+    nexts: &mut [u64],
+    labels: &mut [u16],
+) -> usize
     requires { ⌜ (piece < 128) × (at < middle) × (middle ≤ last) × (last < 62) ⌝ }
     requires { ⌜ Wide (now nexts) (now labels) ⌝ }
     ensures { λ r. ⌜ r ≡ last + 1 ⌝ }
@@ -125,7 +149,16 @@ fn join(kind: u8, piece: usize, at: usize, middle: usize, last: usize, nexts: &m
 
 // The entries of the part of a piece at and below a record, from the number `at` on, but for the word of its accepting state.
 // Gives the number after its last state's. A record of another piece is a stand-in's.
-pub fn fill(list: &[u8], node: usize, piece: usize, at: usize, nexts: &mut [u64], labels: &mut [u16], stands: &mut [u8], roots: &mut [u16]) -> usize
+pub fn fill(
+    list: &[u8],
+    node: usize,
+    piece: usize,
+    at: usize,
+    nexts: &mut [u64],
+    labels: &mut [u16],
+    stands: &mut [u8],
+    roots: &mut [u16],
+) -> usize
     requires { ⌜ Ready (now list) node piece at (tables (now nexts) (now labels) (now stands) (now roots)) ⌝ }
     ensures { λ r. ⌜ Visited (now (list .entry)) node piece at (tables (now (nexts .entry)) (now (labels .entry)) (now (stands .entry)) (now (roots .entry))) (tables (now (nexts .exit)) (now (labels .exit)) (now (stands .exit)) (now (roots .exit))) r ⌝ }
 {

@@ -14,7 +14,17 @@ ghost use Rattle.marks.specs.Making.{Made, Making, Inside, Total};
 ghost use Rattle.marks.specs.Given.{Good-list, Laid};
 
 // Makes what the tables tell of the piece k: its row, its run and its last state, and of its child pieces where their stand-ins are.
-fn piece(list: &[u8], counts: &[u8], k: usize, nexts: &mut [u64], labels: &mut [u16], runs: &mut [u8], stands: &mut [u8], tops: &mut [u8], roots: &mut [u16])
+fn piece(
+    list: &[u8],
+    counts: &[u8],
+    k: usize,
+    nexts: &mut [u64],
+    labels: &mut [u16],
+    runs: &mut [u8],
+    stands: &mut [u8],
+    tops: &mut [u8],
+    roots: &mut [u16],
+)
     requires { ⌜ Making (now list) (now counts) k (tables (now nexts) (now labels) (now stands) (now roots)) (now runs) (now tops) ⌝ }
     requires { ⌜ Inside (now list) k ⌝ }
     ensures { λ _. ⌜ ((x : Nested ℕ) → Top (now (list .entry)) x → Made x (k + 1) (tables (now (nexts .exit)) (now (labels .exit)) (now (stands .exit)) (now (roots .exit))) (now (runs .exit)) (now (tops .exit))) ⌝ }
@@ -28,7 +38,17 @@ fn piece(list: &[u8], counts: &[u8], k: usize, nexts: &mut [u64], labels: &mut [
 }
 
 // Makes what the tables tell of every piece, in the order of their numbers.
-fn pieces(list: &[u8], counts: &[u8], total: usize, nexts: &mut [u64], labels: &mut [u16], runs: &mut [u8], stands: &mut [u8], tops: &mut [u8], roots: &mut [u16])
+fn pieces(
+    list: &[u8],
+    counts: &[u8],
+    total: usize,
+    nexts: &mut [u64],
+    labels: &mut [u16],
+    runs: &mut [u8],
+    stands: &mut [u8],
+    tops: &mut [u8],
+    roots: &mut [u16],
+)
     requires { ⌜ Making (now list) (now counts) 0 (tables (now nexts) (now labels) (now stands) (now roots)) (now runs) (now tops) ⌝ }
     requires { ⌜ Total (now list) total ⌝ }
     ensures { λ _. ⌜ Making (now (list .entry)) (now (counts .entry)) total (tables (now (nexts .exit)) (now (labels .exit)) (now (stands .exit)) (now (roots .exit))) (now (runs .exit)) (now (tops .exit)) ⌝ }
@@ -41,7 +61,14 @@ fn pieces(list: &[u8], counts: &[u8], total: usize, nexts: &mut [u64], labels: &
 }
 
 // Makes the tables of a good list, and gives the number of its pieces. `nexts` has the words of the empty transitions.
-pub fn plan(list: &[u8], nexts: &mut [u64], labels: &mut [u16], runs: &mut [u8], stands: &mut [u8], tops: &mut [u8]) -> usize
+pub fn plan(
+    list: &[u8],
+    nexts: &mut [u64],
+    labels: &mut [u16],
+    runs: &mut [u8],
+    stands: &mut [u8],
+    tops: &mut [u8],
+) -> usize
     requires { ⌜ Good-list (now list) ⌝ }
     requires { ⌜ Roomy (now nexts) (now labels) (now runs) (now stands) (now tops) ⌝ }
     ensures { λ r. ⌜ ((t : Tree ℕ) → Good (now (list .entry)) t → Laid t (now (nexts .exit)) (now (labels .exit)) (now (runs .exit)) (now (stands .exit)) (now (tops .exit)) r) ⌝ }
@@ -52,6 +79,16 @@ pub fn plan(list: &[u8], nexts: &mut [u64], labels: &mut [u16], runs: &mut [u8],
     let last = list.len() / 8 - 1;
     let total = wide(counts[last]) + 1;
     roots[0] = last as u16;
-    pieces(list, &counts, total, nexts, labels, runs, stands, tops, &mut roots);
+    pieces(
+        list,
+        &counts,
+        total,
+        nexts,
+        labels,
+        runs,
+        stands,
+        tops,
+        &mut roots,
+    );
     total
 }

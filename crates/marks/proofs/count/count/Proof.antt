@@ -17,13 +17,13 @@ loop-holds : tie.Need-loop-holds Inv-loop μ-loop
 loop-holds c = (omega arith, refl, counted-none _ _)
 
 pieces-below-requires : tie.Need-pieces-below-requires Inv-loop μ-loop
-pieces-below-requires c κs = 
+pieces-below-requires c κs =
     let start = c .before .before .before .before .before in
     let few = few-records (start .pre .0) in
     (node-of (start .pre .0) _ (c .before .loop-test .taken), (c .before .before .loop .inv .2, omega arith))
 
 cast-counts : tie.Need-cast-counts Inv-loop μ-loop
-cast-counts c = 
+cast-counts c =
     let start = c .before .before .before .before .before .before in
     omega (arith, few-runs (node-of (start .pre .0) _ (c .before .before .loop-test .taken)) (c .pieces-below .ensures))
 
@@ -37,7 +37,7 @@ loop-less : tie.Need-loop-less Inv-loop μ-loop
 loop-less c = omega arith
 
 loop-again : tie.Need-loop-again Inv-loop μ-loop
-loop-again c = 
+loop-again c =
     let few = few-records (c .before .before .before .before .before .before .pre .0) in
     (omega arith, simp length-set (c .before .before .before .loop .inv .1), counted-more (c .before .before .before .loop .inv .2) (c .pieces-below .ensures) (omega arith))
 

@@ -40,7 +40,7 @@ fill-field-requires : (t : ℕ) → fill-lts.Need-field-requires (fill-claims t)
 fill-field-requires t c κs = let within = bounds (c .before .before .before .before .before .pre .1 .sitting) in omega arith
 
 fill-stand-requires : (t : ℕ) → fill-lts.Need-stand-requires (fill-claims t) (fill-at t) fill.Post
-fill-stand-requires t c κs = 
+fill-stand-requires t c κs =
     let start = c .before .before .before .before .before .before .before .before .before .before .before in
     let within = bounds (start .pre .1 .sitting) in
     let few = stand-few (start .pre .1 .sitting) in
@@ -60,7 +60,7 @@ fill-same-length-4 : (t : ℕ) → fill-lts.Need-same-length-4 (fill-claims t) (
 fill-same-length-4 t c = search needs
 
 fill-returns : (t : ℕ) → fill-lts.Need-returns (fill-claims t) (fill-at t) fill.Post
-fill-returns t c = 
+fill-returns t c =
     let made = c .before .before .before .before .before .before .before .before in
     visited-stand (made .before .before .before .before .before .before .before .before .before .before .before .before .pre .1 .room) (made .before .before .before .before .before .before .field .ensures) (made .before .before .before .before .before .if1 .taken) (made .stand .ensures .0) (made .stand .ensures .1)
 
@@ -77,7 +77,7 @@ fill-same-length-6 : (t : ℕ) → fill-lts.Need-same-length-6 (fill-claims t) (
 fill-same-length-6 t c = search needs
 
 fill-returns-2 : (t : ℕ) → fill-lts.Need-returns-2 (fill-claims t) (fill-at t) fill.Post
-fill-returns-2 t c = 
+fill-returns-2 t c =
     let made = c .before .before .before .before in
     visited-leaf (met t (made .before .before .before .before)) (made .before .before .before .before .before .before .before .before .before .before .before .before .pre .1 .room) (made .before .before .before .if2 .taken) (made .leaf .ensures .0) (made .leaf .ensures .1 .0) (made .leaf .ensures .1 .1)
 
@@ -88,7 +88,7 @@ fill-add-fill : (t : ℕ) → fill-lts.Need-add-fill (fill-claims t) (fill-at t)
 fill-add-fill t c = let within = bounds (c .before .before .before .before .before .before .before .before .before .before .pre .1 .sitting) in omega arith
 
 fill-fill-requires : (t : ℕ) → fill-lts.Need-fill-requires (fill-claims t) (fill-at t) fill.Post
-fill-fill-requires t c κs = 
+fill-fill-requires t c κs =
     let start = c .before .before .before .before .before .before .before .before .before .before .before .before .before .before in
     let ready = left-ready (met t (c .before .before .before .before .before .before)) (c .before .before .before .before .field2 .ensures) (c .before .before .before .before .before .if2 .left) (start .pre .1) in
     (subst (λ (k : ℕ). c .before .before .before .before .field2 .result < k) (start .pre .0) (ready .0), ready .1)
@@ -98,7 +98,7 @@ room-left : (t : ℕ) (c : fill-lts.After-fill (fill-claims t) (fill-at t) fill.
 room-left t c = room-kept _ _ _ _ (c .before .before .before .before .before .before .before .before .before .before .before .before .before .before .before .pre .1 .room) (c .fill .kept .1 .1 .1 .1 .0) (c .fill .kept .1 .1 .1 .1 .1 .0) (c .fill .kept .1 .1 .1 .1 .1 .1 .0) (c .fill .kept .1 .1 .1 .1 .1 .1 .1 .0)
 
 fill-join-requires : (t : ℕ) → fill-lts.Need-join-requires (fill-claims t) (fill-at t) fill.Post
-fill-join-requires t c κs = 
+fill-join-requires t c κs =
     let made = c .before .before .before .before .before .before .before .before .before .before .before in
     let start = made .before .before .before .before .before .before .before .before .before .before .before .before .before .before .before in
     let room = room-left t made in
@@ -117,7 +117,7 @@ fill-same-length-10 : (t : ℕ) → fill-lts.Need-same-length-10 (fill-claims t)
 fill-same-length-10 t c = search needs
 
 fill-returns-3 : (t : ℕ) → fill-lts.Need-returns-3 (fill-claims t) (fill-at t) fill.Post
-fill-returns-3 t c = 
+fill-returns-3 t c =
     let done = c .before .before .before .before in
     let made = done .before .before .before .before .before .before .before .before .before .before .before .before in
     visited-star (met t (made .before .before .before .before .before .before .before)) (made .before .before .before .before .before .field2 .ensures) (made .before .before .before .before .before .before .if2 .left) (made .before .before .before .before .before .before .before .before .before .before .before .before .before .before .before .pre .1) (room-left t made) (made .fill .ensures) (done .before .before .before .if3 .taken) (done .join .ensures .0) (done .join .ensures .1 .0) (done .join .ensures .1 .1)
@@ -126,7 +126,7 @@ fill-field-requires-3 : (t : ℕ) → fill-lts.Need-field-requires-3 (fill-claim
 fill-field-requires-3 t c κs = let within = bounds (c .before .before .before .before .before .before .before .before .before .before .before .before .before .before .before .before .before .before .before .before .before .before .before .before .pre .1 .sitting) in omega arith
 
 fill-fill-requires-2 : (t : ℕ) → fill-lts.Need-fill-requires-2 (fill-claims t) (fill-at t) fill.Post
-fill-fill-requires-2 t c κs = 
+fill-fill-requires-2 t c κs =
     let made = c .before .before .before .before .before .before .before .before .before .before .before .before .before .before in
     let start = made .before .before .before .before .before .before .before .before .before .before .before .before .before .before .before in
     let ready = right-ready (met t (made .before .before .before .before .before .before .before)) (made .before .before .before .before .before .field2 .ensures) (made .before .before .before .before .before .before .if2 .left) (start .pre .1) (room-left t made) (made .fill .ensures) (c .before .before .before .before .field3 .ensures) (c .before .before .before .before .before .if3 .left) in
@@ -137,7 +137,7 @@ room-right : (t : ℕ) (c : fill-lts.After-fill2 (fill-claims t) (fill-at t) fil
 room-right t c = room-kept _ _ _ _ (room-left t (c .before .before .before .before .before .before .before .before .before .before .before .before .before .before .before)) (c .fill2 .kept .1 .1 .1 .1 .0) (c .fill2 .kept .1 .1 .1 .1 .1 .0) (c .fill2 .kept .1 .1 .1 .1 .1 .1 .0) (c .fill2 .kept .1 .1 .1 .1 .1 .1 .1 .0)
 
 fill-join-requires-2 : (t : ℕ) → fill-lts.Need-join-requires-2 (fill-claims t) (fill-at t) fill.Post
-fill-join-requires-2 t c κs = 
+fill-join-requires-2 t c κs =
     let last = c .before .before .before .before .before .before .before .before .before .before in
     let made = last .before .before .before .before .before .before .before .before .before .before .before .before .before .before .before in
     let room = room-right t last in
@@ -156,7 +156,7 @@ fill-same-length-14 : (t : ℕ) → fill-lts.Need-same-length-14 (fill-claims t)
 fill-same-length-14 t c = search needs
 
 fill-returns-4 : (t : ℕ) → fill-lts.Need-returns-4 (fill-claims t) (fill-at t) fill.Post
-fill-returns-4 t c = 
+fill-returns-4 t c =
     let done = c .before .before .before .before in
     let last = done .before .before .before .before .before .before .before .before .before .before .before in
     let made = last .before .before .before .before .before .before .before .before .before .before .before .before .before .before .before in

@@ -37,7 +37,7 @@ slice-aggregate-pieces-2 : tie.Need-slice-aggregate-pieces-2
 slice-aggregate-pieces-2 c = search needs
 
 pieces-requires : tie.Need-pieces-requires
-pieces-requires c κs = 
+pieces-requires c κs =
     let start = c .before .before .before .before .before .before .before .before .before .before .before .before .before .before .before .before .before in
     let counted = c .before .before .before .before .before .before .before .before .before .count .ensures in
     (making-none (good-listed (start .pre .0)) counted (c .before .before .before .before .before .before .before .before .before .count .kept .1 .0) (start .pre .1) refl refl, total-of counted (c .before .before .before .before .before .before .before .wide .ensures .0) refl)
