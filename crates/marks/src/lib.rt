@@ -1,4 +1,14 @@
 // Marks in words: start and step, by moves and sweeps over the pieces of a good list.
+pub mod agree;
+pub mod bits;
+pub mod close;
+mod count;
+mod fields;
+mod fill;
+pub mod moves;
+pub mod plan;
+pub mod reach;
+pub mod sweep;
 
 // What a start or a step answers.
 pub enum Answer {
@@ -11,14 +21,3 @@ pub enum Answer {
     // A bit past the last state is set, or the two bits of a shared state differ.
     NotMarks,
 }
-pub mod agree;
-
-pub mod bits;
-pub mod close;
-mod count;
-mod fields;
-mod fill;
-pub mod moves;
-pub mod plan;
-pub mod reach;
-pub mod sweep;
