@@ -22,14 +22,14 @@ use Rattle.marks.specs.Counting.{Top, Listed, Counted}
 use Rattle.marks.specs.Making.{whole-spot, Made, made-none, made-planned, made-nexts, Making, making-at, Total}
 
 -- two states for each node of a piece's own tree
-width-own : (x : Nested ℕ) → width x ≡ 2 * nodes (own x)
+pub width-own : (x : Nested ℕ) → width x ≡ 2 * nodes (own x)
 width-own (leaf a) = refl
 width-own (catenation x y) = omega (arith, width-own x, width-own y)
 width-own (union x y) = omega (arith, width-own x, width-own y)
 width-own (star x) = omega (arith, width-own x)
 width-own (below x) = refl
 
-small-narrow : (x : Nested ℕ) → Small x → width x ≤ 62
+pub small-narrow : (x : Nested ℕ) → Small x → width x ≤ 62
 small-narrow x small = omega (arith, width-own x, small .few-own-nodes)
 
 plain-nest : (t : Tree ℕ) (c : Cut t) → Plain (nest t c)

@@ -40,3 +40,4 @@ pub mod Walking
 pub mod Counting
 pub mod Making
 pub mod Given
+pub mod Inner

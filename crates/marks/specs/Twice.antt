@@ -20,13 +20,13 @@ front-held : (s : Spot) (k m n : ℕ) (words : List ℕ) → n ≡ 1 + m → Wit
 front-held (own b) k m n words e l = bit-of b (getD-take n words 0 0 (omega arith))
 front-held (under o b) k m n words e l = bit-of b (getD-take n words (suc o) 0 (omega arith))
 
-front-holds : (x : Nested ℕ) (n : ℕ) (words : List ℕ) → n ≡ 1 + run x → Agree x (Holds x (take n words)) (Holds x words)
+pub front-holds : (x : Nested ℕ) (n : ℕ) (words : List ℕ) → n ≡ 1 + run x → Agree x (Holds x (take n words)) (Holds x words)
 front-holds x n words e q h =
     Iff·trans (holds-held x (take n words) q h)
     (Iff·trans (front-held (spot x q) (width x) (run x) n words e (spot-within x q h)) (Iff·symm (holds-held x words q h)))
 
 -- and have no bit past a last state exactly when the words have none
-front-clean : (x : Nested ℕ) (n : ℕ) (words : List ℕ) → n ≡ 1 + run x → Clean x (take n words) ↔ Clean x words
+pub front-clean : (x : Nested ℕ) (n : ℕ) (words : List ℕ) → n ≡ 1 + run x → Clean x (take n words) ↔ Clean x words
 front-clean x n words e = (
   λ clean. clean-words x words .1 (λ o l. below-power (sym (getD-take n words o 0 (omega arith))) refl (clean-words x (take n words) .0 clean o l)),
   λ clean. clean-words x (take n words) .1 (λ o l. below-power (getD-take n words o 0 (omega arith)) refl (clean-words x words .0 clean o l)),

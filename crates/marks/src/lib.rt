@@ -5,6 +5,7 @@ pub mod close;
 mod count;
 mod fields;
 mod fill;
+pub mod inner;
 pub mod moves;
 pub mod plan;
 pub mod reach;

@@ -1,0 +1,74 @@
+-- `marks::inner::prepare` meets its contract: the tables are laid, and the words of the empty transitions closed. Assumes nothing.
+use mathlib.Core.Path.{_∙_}
+use native.Mathlib.Omega.{arith}
+use Rattle.marks.specs.Inner.{tops-low, prepared-of}
+use borrow.Author.Needs.{needs}
+use Rattle.marks.proofs.inner.prepare.Statement.{statement}
+use Rattle.marks.proofs.inner.prepare.Tie as tie
+use Rattle.marks.proofs.inner.prepare.Reads as reads
+use Rattle.marks.proofs.inner.prepare.Lts as lts
+use Rattle.marks.proofs.plan.plan.Reads as plan-reads
+use Rattle.marks.proofs.reach.close_all.Reads as close-all-reads
+
+-- src/inner.rt:34:9
+plan-requires : tie.Need-plan-requires
+plan-requires c κs = search needs
+
+-- src/inner.rt:35:5
+close-all-requires : tie.Need-close-all-requires
+close-all-requires c κs =
+    let known = c .before .before .before .before .before .before .before .before .before .before .before .before .before .before .before .before .before .before .before .before .before .before .before .before .pre .0 in
+    let roomy = c .before .before .before .before .before .before .before .before .before .before .before .before .before .before .before .before .before .before .before .before .before .before .before .before .pre .1 in
+    let kept = c .before .before .before .before .before .before .before .before .before .before .before .before .plan .kept in
+    let made = c .before .before .before .before .before .before .before .before .before .before .before .before .plan .ensures (known .some) (known .good) in
+    (omega (arith, made .counted, known .good .few, roomy .reach-room, kept .1 .0),
+    omega (arith, made .counted, known .good .few, roomy .tops-room, kept .1 .1 .1 .1 .1 .0),
+    tops-low (known .some) made)
+
+-- src/inner.rt:21:1
+same-length : tie.Need-same-length
+same-length c = search needs
+
+-- src/inner.rt:21:1
+same-length-2 : tie.Need-same-length-2
+same-length-2 c = search needs
+
+-- src/inner.rt:21:1
+same-length-3 : tie.Need-same-length-3
+same-length-3 c = search needs
+
+-- src/inner.rt:21:1
+same-length-4 : tie.Need-same-length-4
+same-length-4 c = search needs
+
+-- src/inner.rt:21:1
+same-length-5 : tie.Need-same-length-5
+same-length-5 c = search needs
+
+-- src/inner.rt:21:1
+returns : tie.Need-returns
+returns c =
+    let roomy = c .before .before .before .before .before .before .before .before .before .before .before .before .before .before .before .before .before .before .before .before .before .before .before .before .before .before .before .pre .1 in
+    let kept = c .before .before .before .before .before .before .before .before .before .before .before .before .before .before .before .plan .kept in
+    let closed = c .before .before .close-all .ensures in
+    (record {
+      reach-room = closed .same-length ∙ kept .1 .0 ∙ roomy .reach-room;
+      labels-room = kept .1 .1 .0 ∙ roomy .labels-room;
+      runs-room = kept .1 .1 .1 .0 ∙ roomy .runs-room;
+      stands-room = kept .1 .1 .1 .1 .0 ∙ roomy .stands-room;
+      tops-room = kept .1 .1 .1 .1 .1 .0 ∙ roomy .tops-room;
+    },
+    λ t good. prepared-of t good (c .before .before .before .before .before .before .before .before .before .before .before .before .before .before .before .plan .ensures t good) closed)
+
+pub prepare-spec : {M : Type 1} → statement M
+prepare-spec =
+    tie.close
+    (tie.spec
+    plan-requires
+    close-all-requires
+    same-length
+    same-length-2
+    same-length-3
+    same-length-4
+    same-length-5
+    returns)

@@ -1,0 +1,279 @@
+-- The layer inside: the marks of a start and of a step over the tables of a list, which are made once.
+-- Assumes nothing.
+use Prim.Native.Nat.{ℕ, zero, suc, _+_, _*_, _-_, _≤_, _<_}
+use native.Mathlib.Omega.{arith}
+use mathlib.Core.Path.{_≡_, refl, sym, ap, _∙_, subst}
+use mathlib.Core.Bool.{Bool, true, false}
+use mathlib.Core.Logic.{_↔_, Iff·trans, Iff·symm}
+use mathlib.Core.List.{List, [], _∷_, _++_}
+use native.Mathlib.Numerals.{add-one}
+use lib.ListN.{length, getD, take, drop, set, replicate, length-append, length-drop, length-set}
+use lib.Seq.{getD-drop, ext-getD, length-take-le, take-at, drop-at, drop-cons, set-at, append-snoc, take-suc}
+use Rattle.language.specs.Tree.{Tree, nodes}
+use Rattle.language.specs.Language.{Is}
+use Rattle.language.specs.Automaton.{State, States, accepting, start, Started, Stepped, After}
+use Rattle.language.specs.Nested.{Nested, leaf, catenation, union, star, below, whole, own, Has, origin, Models, Move}
+use Rattle.language.specs.Same.{Agree, models-same}
+use Rattle.language.specs.Simulation.{_⊆_, stepped-more}
+use Rattle.language.specs.Acceptance.{accepts-exactly}
+use Rattle.language.specs.Models.{State-of, alike-models, models-alike, models-origins, started-state, stepped-state}
+use Rattle.tree.specs.Cut.{wanted, nest}
+use Rattle.tree.specs.Records.{Good, piece-count}
+use Rattle.tree.specs.Least.{wanted-fits}
+use Rattle.tree.specs.Nesting.{Small, Every-below, small-pieces, whole-nest}
+use Rattle.marks.specs.Words.{Bit, width, run, Holds, Clean, Agreeing, Set-of}
+use Rattle.marks.specs.Plan.{Planned, Each, Reaches}
+use Rattle.marks.specs.Bits.{Told}
+use Rattle.marks.specs.Tables.{cut-up, Prepared, Roomy, Ready, Holding, Answered}
+use Rattle.marks.specs.Promise.{Hold, Marks-of}
+use Rattle.marks.specs.Swept.{Narrow-below, Laid, Sized}
+use Rattle.marks.specs.Given
+use Rattle.marks.specs.Given.{width-own}
+use Rattle.marks.specs.Table.{Closed-all}
+use Rattle.marks.specs.Low.{low-tops}
+use Rattle.marks.specs.Moved.{Moved-all}
+use Rattle.marks.specs.Twice.{Run-of, Closable, Closed-twice, front-holds, front-clean}
+use Rattle.marks.specs.Simulated.{laid-whole, Start-marked, start-holds, start-clean, closed-start, closed-step, accepting-bit}
+use Rattle.marks.specs.Texts.{all-words, holding-first, holding-next, accepting-answer}
+use Rattle.marks.specs.Visiting.{accepting-holds}
+
+-- a test that tells a fact passes exactly when the fact holds
+told-exactly : {P : Type 0} (answer : Bool) → Told P answer → (answer ≡ true) ↔ P
+told-exactly true told = (told .holds, λ p. refl)
+told-exactly false told = (told .holds, λ p. absurd (told .fails refl p))
+
+-- words with the same first words hold the same marks
+same-front : (x : Nested ℕ) (n : ℕ) (v w : List ℕ) → n ≡ 1 + run x → take n v ≡ take n w → Agree x (Holds x v) (Holds x w)
+same-front x n v w e same q has =
+    Iff·trans (Iff·symm (front-holds x n v e q has))
+    (Iff·trans (subst (λ (l : List ℕ). Holds x (take n v) q ↔ Holds x l q) same (λ h. h, λ h. h)) (front-holds x n w e q has))
+
+-- and have no bit past a last state alike
+same-clean : (x : Nested ℕ) (n : ℕ) (v w : List ℕ) → n ≡ 1 + run x → take n v ≡ take n w → Clean x w → Clean x v
+same-clean x n v w e same clean = front-clean x n v e .0 (subst (Clean x) (sym same) (front-clean x n w e .1 clean))
+
+-- lists that agree from n on
+ext-drop : (n : ℕ) (v w : List ℕ) → length v ≡ length w → ((k : ℕ) → n ≤ k → getD v k 0 ≡ getD w k 0) → drop n v ≡ drop n w
+ext-drop n v w long same =
+    ext-getD 0 (drop n v) (drop n w) (simp length-drop (omega arith)) (λ i inside. rw (getD-drop n v i 0, getD-drop n w i 0) (same (n + i) (omega arith)))
+
+-- every child piece of a tree has at most 62 states, where each is small
+narrow-below : (x : Nested ℕ) → Every-below Small x → Narrow-below x
+narrow-below (leaf a) h = tt
+narrow-below (catenation x y) h = (narrow-below x (h .0), narrow-below y (h .1))
+narrow-below (union x y) h = (narrow-below x (h .0), narrow-below y (h .1))
+narrow-below (star x) h = narrow-below x h
+narrow-below (below x) h = (omega (arith, width-own x, h .0 .few-own-nodes), narrow-below x (h .1))
+
+-- so it is with the pieces of every tree
+pub all-narrow : (t : Tree ℕ) → Narrow-below (cut-up t)
+all-narrow t = narrow-below (cut-up t) (small-pieces t (wanted t) (wanted-fits t) .1)
+
+pub narrow : (t : Tree ℕ) → width (cut-up t) ≤ 62
+narrow t = omega (arith, width-own (cut-up t), small-pieces t (wanted t) (wanted-fits t) .0 .few-own-nodes)
+
+-- the marks to start with, and whether the accepting state is among them
+pub record Begun (t : Tree ℕ) (before after : List ℕ) (yes' : Bool) : Type 0 where
+  pub hold : Hold t (Started t) before after
+  pub answer : (yes' ≡ true) ↔ Started t accepting
+
+-- the marks after one more byte, from the set that the words held before, and whether the accepting state is among them
+pub record Advanced (t : Tree ℕ) (byte : ℕ) (before after : List ℕ) (yes' : Bool) : Type 0 where
+  pub hold : Hold t (Stepped Is t byte (Set-of (cut-up t) before)) before after
+  pub answer : (yes' ≡ true) ↔ Stepped Is t byte (Set-of (cut-up t) before) accepting
+
+-- the tables are those of a tree of which the words are marks, but for agreement
+pub record Running (reach labels runs stands tops : List ℕ) (count : ℕ) (words : List ℕ) : Type 0 where
+  pub ready : Ready reach labels runs stands tops count
+  pub enough : count ≤ length words
+  pub clean : Clean (cut-up (ready .of-tree .0)) words
+
+module _ {t : Tree ℕ} {reach labels runs stands tops : List ℕ} {count : ℕ} (prepared : Prepared t reach labels runs stands tops count) where
+  -- the tables speak of every piece
+  pub prepared-laid : Laid reach runs stands tops (cut-up t) 0
+  prepared-laid = laid-whole reach labels runs stands tops (cut-up t) (prepared .planned) (prepared .reached) (narrow t) (all-narrow t)
+
+  -- there is a word for each piece
+  pub prepared-count : count ≡ 1 + run (cut-up t)
+  prepared-count = prepared .counted ∙ sym (all-words t)
+
+  -- words that are clean are the run of the pieces
+  pub prepared-run : {words : List ℕ} → Clean (cut-up t) words → Run-of reach runs stands tops count (cut-up t) words
+  prepared-run clean = record { laid = prepared-laid; counted = prepared-count; clean = clean }
+
+  -- and can be closed
+  pub prepared-closable : {words : List ℕ} → Roomy reach labels runs stands tops → count ≤ length words → Clean (cut-up t) words → Closable reach runs stands tops count words
+  prepared-closable {words} roomy enough clean = record {
+    sized = record {
+      reach-sized = roomy .reach-room;
+      runs-sized = roomy .runs-room;
+      stands-sized = roomy .stands-room;
+      tops-sized = roomy .tops-room;
+      within = omega (arith, length-take-le count words enough, prepared .counted, prepared .few);
+    };
+    enough = enough;
+    tree = cut-up t;
+    on-run = prepared-run clean;
+  }
+
+  -- the last state of the top piece is its accepting state, and its bit is one of the word
+  pub top-low : getD tops 0 0 < 64
+  top-low = omega (arith, prepared .planned .0 .topped, narrow t)
+
+  -- the bit of the last state of the top piece tells whether the accepting state is marked
+  pub answer-told : (words : List ℕ) (X : States) (yes' : Bool) → Models (cut-up t) (Holds (cut-up t) words) X → Told (Bit (getD words 0 0) (getD tops 0 0)) yes' → (yes' ≡ true) ↔ X accepting
+  answer-told words X yes' models told =
+      Iff·trans (told-exactly yes' told) (Iff·trans (same-bit (prepared .planned .0 .topped)) (accepting-bit (cut-up t) words X models))
+    where
+      same-bit : {i j : ℕ} → i ≡ j → Bit (getD words 0 0) i ↔ Bit (getD words 0 0) j
+      same-bit e = (subst (λ (i : ℕ). Bit (getD words 0 0) i) e, subst (λ (i : ℕ). Bit (getD words 0 0) i) (sym e))
+
+  -- from words with the root's start alone marked, closed twice, and the first of them put into the lent words
+  pub begun : (marked closed lent after : List ℕ) (yes' : Bool) → Start-marked (cut-up t) marked → Closed-twice reach runs stands tops count marked closed
+      → count ≤ length closed → count ≤ length lent → after ≡ take count closed ++ drop count lent → Told (Bit (getD after 0 0) (getD tops 0 0)) yes' → Begun t lent after yes'
+  begun marked closed lent after yes' starts twice enough room put told =
+      let x = cut-up t in
+      let on = prepared-run (start-clean x marked starts) in
+      let front : length (take count closed) ≡ count = length-take-le count closed enough in
+      let same : take count after ≡ take count closed = ap (take count) put ∙ take-at (take count closed) (drop count lent) count front in
+      let agree : Agree x (Holds x after) (Holds x closed) = same-front x count after closed prepared-count same in
+      let models : Models x (Holds x after) (Started t) =
+          subst (λ (s : Tree ℕ). Models x (Holds x after) (Started s)) (whole-nest t (wanted t))
+          (models-same x (Started (whole x)) agree (closed-start reach runs stands tops count x marked closed twice on (start-holds x marked starts)))
+      in
+      record {
+        hold = record {
+          marks = models;
+          clean = same-clean x count after closed prepared-count same (twice .clean x on);
+          others = subst (λ (n : ℕ). drop n after ≡ drop n lent) (prepared .counted) (ap (drop count) put ∙ drop-at (take count closed) (drop count lent) count front);
+          same-length = ap length put ∙ length-append (take count closed) (drop count lent) ∙ omega (arith, front, length-drop count lent);
+        };
+        answer = answer-told after (Started t) yes' models told;
+      }
+
+  -- from words moved along the byte, and closed twice
+  pub advanced : (byte : ℕ) (before moved after : List ℕ) (yes' : Bool) → Marks-of t before → Moved-all labels before moved byte count → Closed-twice reach runs stands tops count moved after
+      → length after ≡ length moved → Told (Bit (getD after 0 0) (getD tops 0 0)) yes' → Advanced t byte before after yes'
+  advanced byte before moved after yes' marks moves twice long told =
+      let x = cut-up t in
+      let went = moves .marks (record { labels = labels; runs = runs; stands = stands; tops = tops }) x refl (prepared .planned) (omega (arith, prepared-count)) (narrow t) (all-narrow t) (marks .clean) in
+      let on = prepared-run (went .clean) in
+      let models : Models x (Holds x after) (Stepped Is t byte (Set-of x before)) =
+          subst (λ (s : Tree ℕ). Models x (Holds x after) (Stepped Is s byte (Set-of x before))) (whole-nest t (wanted t))
+          (closed-step reach runs stands tops count x moved after twice on byte (Holds x before) (Set-of x before) (alike-models x (Holds x before) (marks .agreeing)) (went .holds))
+      in
+      record {
+        hold = record {
+          marks = models;
+          clean = twice .clean x on;
+          others = subst (λ (n : ℕ). drop n after ≡ drop n before) (prepared .counted) (twice .others ∙ ext-drop count moved before (moves .same-length) (moves .others));
+          same-length = long ∙ moves .same-length;
+        };
+        answer = answer-told after (Stepped Is t byte (Set-of x before)) yes' models told;
+      }
+
+-- words that hold the marks after a text are marks
+pub holding-marks : {t : Tree ℕ} {w words : List ℕ} → Holding t w words → Marks-of t words
+holding-marks {t} {w} {words} holding = record {
+  clean = holding .clean;
+  agreeing = models-alike (cut-up t) (Holds (cut-up t) words) (After Is t w (Started t)) (holding .modelled);
+}
+
+-- after the start the words hold the marks after the empty text
+pub answered-first : {t : Tree ℕ} {before after : List ℕ} {yes' : Bool} → Begun t before after yes' → Answered t [] after yes'
+answered-first {t} begins =
+    record { holding = holding-first (begins .hold .marks) (begins .hold .clean); answer = Iff·trans (begins .answer) (accepts-exactly Is t []) }
+
+-- every state after a text is one of the automaton's
+after-state : (t : Tree ℕ) (w : List ℕ) (X : States) → X ⊆ State-of t → After Is t w X ⊆ State-of t
+after-state t [] X states = states
+after-state t (b ∷ w) X states = after-state t w (Stepped Is t b X) (stepped-state Is t b X)
+
+-- after one more byte they hold the marks after one more byte
+pub answered-next : {t : Tree ℕ} {w before after : List ℕ} {b : ℕ} {yes' : Bool} → Holding t w before → Advanced t b before after yes' → Answered t (w ++ (b ∷ [])) after yes'
+answered-next {t} {w} {before} {after} {b} {yes'} holding went =
+    let x = cut-up t in
+    let X = After Is t w (Started t) in
+    let states : X ⊆ State-of (whole x) = subst (λ (s : Tree ℕ). X ⊆ State-of s) (sym (whole-nest t (wanted t))) (after-state t w (Started t) (started-state t)) in
+    let same : (p : State) → X p ↔ Set-of x before p = models-origins x (Holds x before) X (holding .modelled) states in
+    let stepped : (p : State) → Stepped Is t b (Set-of x before) p ↔ Stepped Is t b X p = λ p. (stepped-more Is t b (λ q. same q .1) p, stepped-more Is t b (λ q. same q .0) p) in
+    let held : Holding t (w ++ (b ∷ [])) after = holding-next holding (λ q has. Iff·trans (went .hold .marks q has) (stepped (origin x q))) (went .hold .clean) in
+    record {
+      holding = held;
+      answer = Iff·trans (went .answer) (Iff·trans (Iff·symm (went .hold .marks accepting tt)) (Iff·trans (accepting-holds x after) (accepting-answer held)));
+    }
+
+-- words that were moved can be closed
+pub moved-closable : {reach labels runs stands tops : List ℕ} {count byte : ℕ} {before moved : List ℕ} → Running reach labels runs stands tops count before → Moved-all labels before moved byte count
+    → Closable reach runs stands tops count moved
+moved-closable {labels = labels} {runs = runs} {stands = stands} {tops = tops} running moves =
+    let t = running .ready .of-tree .0 in
+    let prepared = running .ready .of-tree .1 in
+    let went = moves .marks (record { labels = labels; runs = runs; stands = stands; tops = tops }) (cut-up t) refl (prepared .planned) (omega (arith, prepared-count prepared)) (narrow t) (all-narrow t) (running .clean) in
+    prepared-closable prepared (running .ready .roomy) (omega (arith, moves .same-length, running .enough)) (went .clean)
+
+-- 128 words of zero, then the root's start marked
+abbrev pub begins : List ℕ
+begins = set (replicate 128 0) 0 1
+
+zeros : (n o : ℕ) → _≡_ {A = ℕ} (getD (replicate n 0) o 0) 0
+zeros zero o = refl
+zeros (suc n) zero = refl
+zeros (suc n) (suc o) = zeros n o
+
+pub begins-marked : (x : Nested ℕ) → Start-marked x begins
+begins-marked x = record { first = refl; others = λ o inside. zeros 127 o }
+
+-- words with the root's start alone marked can be closed
+pub start-closable : {reach labels runs stands tops : List ℕ} {count : ℕ} → Ready reach labels runs stands tops count → Closable reach runs stands tops count begins
+start-closable ready =
+    let t = ready .of-tree .0 in
+    let prepared = ready .of-tree .1 in
+    prepared-closable prepared (ready .roomy) (omega (arith, prepared .counted, prepared .few)) (start-clean (cut-up t) begins (begins-marked (cut-up t)))
+
+-- the tables that were made are those of t, once the table of the empty transitions is closed
+pub prepared-of : {list nexts reach labels runs stands tops : List ℕ} {count : ℕ} (t : Tree ℕ) → Good list t → Given.Laid t nexts labels runs stands tops count
+    → Closed-all tops nexts reach count → Prepared t reach labels runs stands tops count
+prepared-of t good made closed = record {
+  planned = made .planned;
+  reached = closed .reached (record { labels = _; runs = _; stands = _; tops = _ }) (cut-up t) refl (made .planned) (omega (arith, made .counted, all-words t)) (made .words);
+  counted = made .counted;
+  few = good .few;
+}
+
+-- every top is a number of a state
+pub tops-low : {nexts labels runs stands tops : List ℕ} {count : ℕ} (t : Tree ℕ) → Given.Laid t nexts labels runs stands tops count → (k : ℕ) → k < count → getD tops k 0 < 64
+tops-low {count = count} t made k inside = omega (arith, low-tops _ (cut-up t) count (made .planned) (all-words t ∙ sym (made .counted)) (narrow t) (all-narrow t) k inside)
+
+-- the first i of `count` words are put in the place of the old ones
+pub record Copying (from old : List ℕ) (count : ℕ) (new : List ℕ) (i : ℕ) : Type 0 where
+  pub so-far : i ≤ count
+  pub enough : count ≤ length from
+  pub room : count ≤ length old
+  pub put : new ≡ take i from ++ drop i old
+  pub long : length new ≡ length old
+
+-- before the first
+pub copying-none : {from old : List ℕ} {count : ℕ} → count ≤ length from → count ≤ length old → Copying from old count old 0
+copying-none enough room = record { so-far = omega arith; enough = enough; room = room; put = refl; long = refl }
+
+-- one more
+pub copying-next : {from old new : List ℕ} {count i : ℕ} → Copying from old count new i → i < count → Copying from old count (set new i (getD from i 0)) (i + 1)
+copying-next {from} {old} {new} {count} {i} h inside = record {
+  so-far = omega arith;
+  enough = h .enough;
+  room = h .room;
+  put = ap (λ (l : List ℕ). set l i (getD from i 0)) (h .put)
+      ∙ ap (λ (l : List ℕ). set (take i from ++ l) i (getD from i 0)) (drop-cons old i 0 (omega (arith, h .room)))
+      ∙ set-at (take i from) (getD old i 0) (drop (suc i) old) (getD from i 0) i (length-take-le i from (omega (arith, h .enough)))
+      ∙ sym (append-snoc (take i from) (getD from i 0) (drop (suc i) old))
+      ∙ ap (λ (l : List ℕ). l ++ drop (suc i) old) (sym (take-suc from i 0 (omega (arith, h .enough))))
+      ∙ ap (λ (n : ℕ). take n from ++ drop n old) (sym (add-one i));
+  long = length-set new i (getD from i 0) ∙ h .long;
+}
+
+-- after the last
+pub copying-done : {from old new : List ℕ} {count i : ℕ} → Copying from old count new i → count ≤ i → new ≡ take count from ++ drop count old
+copying-done {from} {old} {count = count} {i = i} h past =
+    let all : i ≡ count = omega (arith, h .so-far) in
+    h .put ∙ ap (λ (n : ℕ). take n from ++ drop n old) all

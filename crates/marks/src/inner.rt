@@ -1,0 +1,106 @@
+// The layer inside, for those who run many bytes or many texts over one list: its tables are made once.
+use crate::bits::has_bit;
+use crate::moves::move_all;
+use crate::plan::plan;
+use crate::reach::close_all;
+use crate::sweep::close_twice;
+ghost use Prim.Native.Nat.{ℕ, _≤_};
+ghost use mathlib.Core.Path.{_≡_};
+ghost use mathlib.Core.List.{_++_};
+ghost use lib.ListN.{length, take, drop};
+ghost use Rattle.language.specs.Tree.{Tree};
+ghost use Rattle.tree.specs.Records.{Good};
+ghost use Rattle.marks.specs.Bits.{Told};
+ghost use Rattle.marks.specs.Given.{Good-list};
+ghost use Rattle.marks.specs.Promise.{Marks-of};
+ghost use Rattle.marks.specs.Tables.{Prepared, Roomy, Ready};
+ghost use Rattle.marks.specs.Texts.{All-zero};
+ghost use Rattle.marks.specs.Inner.{Running, Begun, Advanced};
+
+// Makes the tables of a good list, and answers how many pieces it has.
+pub fn prepare(
+    list: &[u8],
+    reach: &mut [u64],
+    labels: &mut [u16],
+    runs: &mut [u8],
+    stands: &mut [u8],
+    tops: &mut [u8],
+) -> usize
+    requires { ⌜ Good-list (now list) ⌝ }
+    requires { ⌜ Roomy (now reach) (now labels) (now runs) (now stands) (now tops) ⌝ }
+    ensures { λ r. ⌜ Roomy (now (reach .exit)) (now (labels .exit)) (now (runs .exit)) (now (stands .exit)) (now (tops .exit)) ⌝ }
+    ensures { λ r. ⌜ ((t : Tree ℕ) → Good (now (list .entry)) t → Prepared t (now (reach .exit)) (now (labels .exit)) (now (runs .exit)) (now (stands .exit)) (now (tops .exit)) r) ⌝ }
+{
+    let count = plan(list, reach, labels, runs, stands, tops);
+    close_all(reach, tops, count);
+    count
+}
+
+// Puts the first `count` words of one slice in the place of those of another.
+fn copy(from: &[u64], count: usize, to: &mut [u64])
+    requires { ⌜ (count ≤ length (now from)) × (count ≤ length (now to)) ⌝ }
+    ensures { λ _. ⌜ now (to .exit) ≡ take count (now (from .entry)) ++ drop count (now (to .entry)) ⌝ }
+{
+    let mut i = 0;
+    while i < count {
+        to[i] = from[i];
+        i += 1;
+    }
+}
+
+// Marks the root's start alone and closes. Answers whether the root's accepting state is now marked.
+pub fn begin(
+    reach: &[u64],
+    labels: &[u16],
+    runs: &[u8],
+    stands: &[u8],
+    tops: &[u8],
+    count: usize,
+    words: &mut [u64],
+) -> bool
+    requires { ⌜ Ready (now reach) (now labels) (now runs) (now stands) (now tops) count ⌝ }
+    requires { ⌜ count ≤ length (now words) ⌝ }
+    ensures { λ r. ⌜ ((t : Tree ℕ) → Prepared t (now (reach .entry)) (now (labels .entry)) (now (runs .entry)) (now (stands .entry)) (now (tops .entry)) count → Begun t (now (words .entry)) (now (words .exit)) r) ⌝ }
+{
+    let mut marks = [0u64; 128];
+    marks[0] = 1;
+    close_twice(reach, runs, stands, tops, count, &mut marks);
+    copy(&marks, count, words);
+    let top = tops[0] as usize;
+    has_bit(words[0], top)
+}
+
+// Moves the marks along the byte and closes. Answers whether the root's accepting state is now marked.
+pub fn advance(
+    reach: &[u64],
+    labels: &[u16],
+    runs: &[u8],
+    stands: &[u8],
+    tops: &[u8],
+    count: usize,
+    words: &mut [u64],
+    byte: u8,
+) -> bool
+    requires { ⌜ Running (now reach) (now labels) (now runs) (now stands) (now tops) count (now words) ⌝ }
+    ensures { λ r. ⌜ ((t : Tree ℕ) → Prepared t (now (reach .entry)) (now (labels .entry)) (now (runs .entry)) (now (stands .entry)) (now (tops .entry)) count → Marks-of t (now (words .entry)) → Advanced t byte (now (words .entry)) (now (words .exit)) r) ⌝ }
+{
+    move_all(labels, words, byte, count);
+    close_twice(reach, runs, stands, tops, count, words);
+    let top = tops[0] as usize;
+    has_bit(words[0], top)
+}
+
+// Whether no state is marked.
+pub fn nothing_left(words: &[u64], count: usize) -> bool
+    requires { ⌜ count ≤ length (now words) ⌝ }
+    ensures { λ r. ⌜ Told (All-zero count (now (words .entry))) r ⌝ }
+{
+    let mut i = 0;
+    while i < count {
+        if words[i] != 0 {
+            return false;
+        }
+        i += 1;
+    }
+    true
+}
