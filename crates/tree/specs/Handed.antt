@@ -6,7 +6,7 @@ use mathlib.Core.Logic.{_⊎_, inl, inr, ⊎-elim}
 use mathlib.Core.Bool.{Bool, true, false, cond}
 use mathlib.Core.List.{List, [], _∷_, _++_, map}
 use native.Mathlib.Omega.{arith}
-use native.Mathlib.Nat.{le-trans, sub-zero}
+use native.Mathlib.Nat.{sub-zero}
 use native.Mathlib.Decide.{decLt, decLe, ℕ-discrete}
 use native.Mathlib.Numerals.{add-one}
 use lib.Dec.{eqb}
@@ -16,7 +16,7 @@ use Rattle.language.specs.Tree.{Tree, leaf, catenation, union, star, nodes}
 use Rattle.tree.specs.Cut.{open-size, one, cut-left, cut-right}
 use Rattle.tree.specs.Records.{labels, child-piece, piece-count}
 use borrow.Author.Tests.{ne-eqb}
-use Rattle.tree.specs.Gathered.{cuts-gathered, cut-edges-lt}
+use Rattle.tree.specs.Gathered.{cut-sum, cut-edges-lt}
 use Rattle.tree.specs.Written.{seat-small}
 use Rattle.tree.specs.Lengths.{length-labels}
 use Rattle.tree.specs.Measured.{node, in-tree, Measured, measured-less, Children, children, gathered, Postorder}
@@ -159,43 +159,37 @@ abbrev pub new-of : Seat → ℕ
 new-of x = x .new
 
 -- what a record hands to its children, by the open sizes of both, the cut edges below the left one, and its own numbers
-pub record Hands (xs : List Seat) (limit left right left-open right-open left-cuts own new : ℕ) : Type 0 where
+pub record Hands (xs : List Seat) (left right left-open right-open left-cuts own new : ℕ) : Type 0 where
   pub left-piece-is : 1 ≤ left → child-piece (cut-left left-open right-open) own new ≡ held piece-of xs left
   pub left-new-is : 1 ≤ left → one (cut-left left-open right-open) + new ≡ held new-of xs left
   pub right-piece-is : 1 ≤ right → child-piece (cut-right left-open right-open) own (one (cut-left left-open right-open) + left-cuts + new) ≡ held piece-of xs right
   pub right-new-is : 1 ≤ right → one (cut-right left-open right-open) + (one (cut-left left-open right-open) + left-cuts + new) ≡ held new-of xs right
-  pub last-new : one (cut-right left-open right-open) + (one (cut-left left-open right-open) + left-cuts + new) ≤ limit
 
 -- these are the numbers of the children's seats
-hands-root : (xs : List Seat) (i limit : ℕ) (u : Tree ℕ) (p n : ℕ) → Around xs i (seat u p n) → n + cut-edges u ≤ limit
-    → Hands xs limit (left-slot (root-label u) i (of-right nodes u)) (right-slot (root-label u) i) (of-left open-size u) (of-right open-size u) (of-left cut-edges u) p n
-hands-root xs i limit u p n a h =
+hands-root : (xs : List Seat) (i : ℕ) (u : Tree ℕ) (p n : ℕ) → Around xs i (seat u p n)
+    → Hands xs (left-slot (root-label u) i (of-right nodes u)) (right-slot (root-label u) i) (of-left open-size u) (of-right open-size u) (of-left cut-edges u) p n
+hands-root xs i u p n a =
     record {
       left-piece-is = λ there. sym (a .left piece-of ∙ of-left-there u i (of-right nodes u) (left-piece u p n) there);
       left-new-is = λ there. sym (a .left new-of ∙ of-left-there u i (of-right nodes u) (left-new u n) there);
       right-piece-is = λ there. sym (a .right piece-of ∙ of-right-there u i (right-piece u p n) there);
       right-new-is = λ there. sym (a .right new-of ∙ of-right-there u i (right-new u n) there);
-      last-new = omega (arith, cuts-gathered u);
     }
 
 -- the same where each number is known by an equation
-hands-by : (xs : List Seat) (limit : ℕ) {l r lo ro lc p n left right left-open right-open left-cuts own new : ℕ} → left ≡ l → right ≡ r → left-open ≡ lo → right-open ≡ ro → left-cuts ≡ lc
-    → own ≡ p → new ≡ n → Hands xs limit l r lo ro lc p n → Hands xs limit left right left-open right-open left-cuts own new
-hands-by xs limit l r lo ro lc o n h = rw (l, r, lo, ro, lc, o, n) h
-
--- there are no more pieces than nodes
-pub pieces-le : (t : Tree ℕ) → piece-count t ≤ nodes t
-pieces-le t = omega (arith, cut-edges-lt t)
+hands-by : (xs : List Seat) {l r lo ro lc p n left right left-open right-open left-cuts own new : ℕ} → left ≡ l → right ≡ r → left-open ≡ lo → right-open ≡ ro → left-cuts ≡ lc
+    → own ≡ p → new ≡ n → Hands xs l r lo ro lc p n → Hands xs left right left-open right-open left-cuts own new
+hands-by xs l r lo ro lc o n h = rw (l, r, lo, ro, lc, o, n) h
 
 -- what record i of a tree hands to its children
 pub hands : (t : Tree ℕ) (i : ℕ) {left right left-open right-open left-cuts own new : ℕ} → i < nodes t
     → left ≡ left-slot (root-label (node t i)) i (of-right nodes (node t i)) → right ≡ right-slot (root-label (node t i)) i
     → left-open ≡ of-left open-size (node t i) → right-open ≡ of-right open-size (node t i) → left-cuts ≡ of-left cut-edges (node t i)
-    → own ≡ seat-at (seats t 0 1) i .piece → new ≡ seat-at (seats t 0 1) i .new → Hands (seats t 0 1) (nodes t) left right left-open right-open left-cuts own new
+    → own ≡ seat-at (seats t 0 1) i .piece → new ≡ seat-at (seats t 0 1) i .new → Hands (seats t 0 1) left right left-open right-open left-cuts own new
 hands t i h l r lo ro lc o n =
-    hands-by (seats t 0 1) (nodes t) l r lo ro lc o n
-    (hands-root (seats t 0 1) i (nodes t) (node t i) (seat-at (seats t 0 1) i .piece) (seat-at (seats t 0 1) i .new)
-    (around (seats t 0 1) i (seats-seated t 0 1) (rw (length-seats t 0 1) h)) (le-trans (seat-small t i h .bounded) (pieces-le t)))
+    hands-by (seats t 0 1) l r lo ro lc o n
+    (hands-root (seats t 0 1) i (node t i) (seat-at (seats t 0 1) i .piece) (seat-at (seats t 0 1) i .new)
+    (around (seats t 0 1) i (seats-seated t 0 1) (rw (length-seats t 0 1) h)))
 
 -- the records from number i on have handed their pieces and new pieces to their children
 pub record Handed (ls pieces news : List ℕ) (i : ℕ) : Type 0 where
@@ -225,7 +219,7 @@ own-number f t i slots h g =
 pub record Turn-small (left right slot : ℕ) (opens cuts news : List ℕ) : Type 0 where
   pub left-le : getD opens left 0 ≤ 15
   pub right-le : getD opens right 0 ≤ 15
-  pub last-new : one (cut-right (getD opens left 0) (getD opens right 0)) + (one (cut-left (getD opens left 0) (getD opens right 0)) + getD cuts left 0 + getD news slot 0) ≤ 2047
+  pub all-new : cut-sum (getD opens left 0) (getD opens right 0) (getD cuts left 0) (getD cuts right 0) + getD news slot 0 ≤ 2047
 
 -- a turn at record i, whose slot is i + 1
 module _ (ls : List ℕ) (i slot left right : ℕ) (sizes opens cuts pieces news : List ℕ) (next : slot ≡ i + 1) (in-list : i < length ls) (measured : Measured ls sizes opens cuts (length ls))
@@ -235,7 +229,7 @@ module _ (ls : List ℕ) (i slot left right : ℕ) (sizes opens cuts pieces news
 
   -- what the record hands on
   pub turn-hands : (t : Tree ℕ) → ls ≡ labels t
-      → Hands (seats t 0 1) (nodes t) left right (getD opens left 0) (getD opens right 0) (getD cuts left 0) (getD pieces slot 0) (getD news slot 0)
+      → Hands (seats t 0 1) left right (getD opens left 0) (getD opens right 0) (getD cuts left 0) (getD pieces slot 0) (getD news slot 0)
   turn-hands t e =
       let c = turn-children t e in
       let h : i < nodes t = in-tree ls t i e in-list in
@@ -279,8 +273,14 @@ module _ (ls : List ℕ) (i slot left right : ℕ) (sizes opens cuts pieces news
   turn-small o h =
       let t = o .tree in
       let e = o .same in
+      let inside : i < nodes t = in-tree ls t i e in-list in
       let g = gathered t i left right sizes opens cuts (turn-children t e) in
-      record { left-le = g .left-le; right-le = g .right-le; last-new = omega (arith, turn-hands t e .last-new, ap length e, length-labels t) }
+      let own : getD news slot 0 ≡ seat-at (seats t 0 1) i .new = rw next (own-number new-of t i news inside (rw next at (handed .renewed t e))) in
+      record {
+        left-le = g .left-le;
+        right-le = g .right-le;
+        all-new = rw (g .cuts-is, own) (omega (arith, seat-small t i inside .bounded, cut-edges-lt t, ap length e, length-labels t));
+      }
 
 -- every record has its piece
 pub record Pieced (ls pieces : List ℕ) : Type 0 where

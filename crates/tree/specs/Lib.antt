@@ -21,3 +21,4 @@ pub mod Bytes
 pub mod Handed
 pub mod Recording
 pub mod Depth
+pub mod Decide

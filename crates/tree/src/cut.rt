@@ -5,18 +5,21 @@ ghost use Rattle.tree.specs.Cut.{cut-left, cut-right, kept, one};
 ghost use Rattle.tree.specs.Records.{child-piece};
 ghost use Rattle.tree.specs.Gathered.{open-sum, cut-sum};
 
+// How many nodes a piece has at most.
+const MOST: u16 = 15;
+
 // Whether the left or only child is cut off: it is the larger, or as large, where the two pass 15.
 pub fn left_cut(l: u16, r: u16) -> bool
     requires { ⌜ (l ≤ 15) × (r ≤ 15) ⌝ }
     ensures { λ b. ⌜ b ≡ cut-left l r ⌝ }
 {
-    if 1 + l + r <= 15 {
+    if 1 + l + r <= MOST {
         return false;
     }
     if r <= l {
         return true;
     }
-    15 < 1 + l
+    MOST < 1 + l
 }
 
 // Whether the right child is cut off: it is the larger where the two pass 15.
@@ -24,13 +27,13 @@ pub fn right_cut(l: u16, r: u16) -> bool
     requires { ⌜ (l ≤ 15) × (r ≤ 15) ⌝ }
     ensures { λ b. ⌜ b ≡ cut-right l r ⌝ }
 {
-    if 1 + l + r <= 15 {
+    if 1 + l + r <= MOST {
         return false;
     }
     if l < r {
         return true;
     }
-    15 < 1 + r
+    MOST < 1 + r
 }
 
 // 1 for a cut edge.

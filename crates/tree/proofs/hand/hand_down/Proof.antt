@@ -133,10 +133,10 @@ shared-slice-read-past-left : tie.Need-shared-slice-read-past-left Inv-loop μ-l
 shared-slice-read-past-left c = omega arith
 
 add-past-left : tie.Need-add-past-left Inv-loop μ-loop
-add-past-left c = omega (arith, small (c .before .before .before .before .before .before) .last-new, ap one (c .before .before .before .left-cut .ensures))
+add-past-left c = omega (arith, small (c .before .before .before .before .before .before) .all-new, ap one (c .before .before .before .left-cut .ensures), ap one (c .before .before .right-cut .ensures))
 
 add-past-left-2 : tie.Need-add-past-left-2 Inv-loop μ-loop
-add-past-left-2 c = omega (arith, small (c .before .before .before .before .before .before) .last-new, ap one (c .before .before .before .left-cut .ensures))
+add-past-left-2 c = omega (arith, small (c .before .before .before .before .before .before) .all-new, ap one (c .before .before .before .left-cut .ensures), ap one (c .before .before .right-cut .ensures))
 
 piece-below-requires : tie.Need-piece-below-requires Inv-loop μ-loop
 piece-below-requires c κs = tt
@@ -160,7 +160,7 @@ one-if-requires-2 : tie.Need-one-if-requires-2 Inv-loop μ-loop
 one-if-requires-2 c κs = tt
 
 add-news : tie.Need-add-news Inv-loop μ-loop
-add-news c = omega (arith, small (c .before .before .before .before .before .before .before .before .before) .last-new, ap one (c .before .before .before .before .before .before .left-cut .ensures))
+add-news c = omega (arith, small (c .before .before .before .before .before .before .before .before .before) .all-new, ap one (c .before .before .before .before .before .before .left-cut .ensures), ap one (c .before .before .before .before .before .right-cut .ensures))
 
 mul-news-2 : tie.Need-mul-news-2 Inv-loop μ-loop
 mul-news-2 c = omega arith
@@ -172,7 +172,7 @@ one-if-requires-3 : tie.Need-one-if-requires-3 Inv-loop μ-loop
 one-if-requires-3 c κs = tt
 
 add-news-2 : tie.Need-add-news-2 Inv-loop μ-loop
-add-news-2 c = omega (arith, small (c .before .before .before .before .before .before .before .before .before .before) .last-new, ap one (c .before .before .before .before .before .before .before .left-cut .ensures), ap one (c .before .before .before .before .before .before .right-cut .ensures))
+add-news-2 c = omega (arith, small (c .before .before .before .before .before .before .before .before .before .before) .all-new, ap one (c .before .before .before .before .before .before .before .left-cut .ensures), ap one (c .before .before .before .before .before .before .right-cut .ensures))
 
 mul-news-3 : tie.Need-mul-news-3 Inv-loop μ-loop
 mul-news-3 c = omega arith
