@@ -5,3 +5,4 @@ pub mod Print
 pub mod Sample
 pub mod Room
 pub mod Edges
+pub mod Chain

@@ -15,3 +15,4 @@ pub mod Expression
 pub mod Answer
 pub mod Store
 pub mod TooLarge
+pub mod Exactly

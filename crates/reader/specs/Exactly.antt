@@ -1,0 +1,89 @@
+-- When an expression is read: exactly when it is written by the grammar, has at most 1,024 bytes, can be cut into few enough small
+-- pieces, and the buffer has room for its records.
+-- Assumes nothing.
+use Prim.Native.Nat.{ℕ, _*_, _≤_}
+use native.Mathlib.Decide.{decLt}
+use native.Mathlib.Omega.{arith}
+use mathlib.Core.Path.{_≡_, refl}
+use mathlib.Core.Bool.{Bool, true, false}
+use mathlib.Core.List.{List}
+use mathlib.Core.Logic.{_↔_}
+use lib.ListN.{length}
+use lib.Dec.{ltb}
+use borrow.Author.Tests.{ltb-false, le-ltb}
+use Rattle.language.specs.Tree.{Tree, nodes}
+use Rattle.tree.specs.Cut.{Cut, Fits, pieces, wanted}
+use Rattle.tree.specs.Records.{piece-count}
+use Rattle.tree.specs.Least.{wanted-fits, least}
+use Rattle.reader.specs.Grammar.{Written}
+use Rattle.reader.specs.Scanner.{Outcome, tree, refused, scanned}
+use Rattle.reader.specs.Agree.{scanned-exactly, scanned-refusal, written-size}
+use Rattle.reader.specs.Answer.{refusing, reading, pick, answer-for, answered}
+
+-- some cut of t with pieces of at most 15 nodes has at most 128 of them
+abbrev pub Small-enough : Tree ℕ → Type 0
+Small-enough t = (c : Cut t) × Fits t c × (pieces t c ≤ 128)
+
+-- then the wanted cut has at most 128, since it has the fewest; and the other way round
+pub small-enough-exactly : (t : Tree ℕ) → (piece-count t ≤ 128) ↔ Small-enough t
+small-enough-exactly t = (λ few. (wanted t, wanted-fits t, few), λ (c, fits, few). omega (arith, least t c fits))
+
+-- the expression has the tree t, which is small enough, and there is room for its records
+pub record Fit-to-read (bytes : List ℕ) (room : ℕ) : Type 0 where
+  pub few : length bytes ≤ 1024
+  pub t : Tree ℕ
+  pub written : Written bytes t
+  pub small : Small-enough t
+  pub fits : 8 * nodes t ≤ room
+
+-- of the answers to a tree, only the one past both tests is no refusal
+past-both : (t : Tree ℕ) (many short : Bool) → pick many (refusing 8 0) (pick short (refusing 9 0) (reading t)) .refusal ≡ 0 → (many ≡ false) × (short ≡ false)
+past-both t true short e = absurd (omega arith)
+past-both t false true e = absurd (omega arith)
+past-both t false false e = (refl, refl)
+
+-- no refusal, seen from the outcome
+taken-outcome : (bytes : List ℕ) (room : ℕ) (outcome : Outcome) → scanned bytes ≡ outcome → answer-for outcome room .refusal ≡ 0 → Fit-to-read bytes room
+taken-outcome bytes room (refused number place) scans e = absurd (omega (arith, scanned-refusal bytes number place scans .least))
+taken-outcome bytes room (tree t) scans e =
+    let tests = past-both t (ltb 128 (piece-count t)) (ltb room (8 * nodes t)) e in
+    let (few, written) = scanned-exactly bytes t .0 scans in
+    record {
+      few = few;
+      t = t;
+      written = written;
+      small = small-enough-exactly t .0 (ltb-false 128 (piece-count t) (tests .0));
+      fits = ltb-false room (8 * nodes t) (tests .1);
+    }
+
+-- what is fit to be read is read
+fit-taken : (bytes : List ℕ) (room : ℕ) → Fit-to-read bytes room → answered bytes room .refusal ≡ 0
+fit-taken bytes room fit =
+    rw (
+      scanned-exactly bytes (fit .t) .1 (fit .few, fit .written),
+      le-ltb 128 (piece-count (fit .t)) (small-enough-exactly (fit .t) .1 (fit .small)),
+      le-ltb room (8 * nodes (fit .t)) (fit .fits),
+    )
+
+-- an expression is read exactly when it is fit
+pub fit-exactly : (bytes : List ℕ) (room : ℕ) → (answered bytes room .refusal ≡ 0) ↔ Fit-to-read bytes room
+fit-exactly bytes room = (taken-outcome bytes room (scanned bytes) refl, fit-taken bytes room)
+
+-- the expression has at most 1,024 bytes, is written by the grammar, and its tree can be cut into few enough small pieces
+abbrev pub Expressible : List ℕ → Type 0
+Expressible bytes = (length bytes ≤ 1024) × ((t : Tree ℕ) × Written bytes t × Small-enough t)
+
+module _ (bytes : List ℕ) (room : ℕ) (enough : 8 * 2047 ≤ room) where
+  -- with room for 2,047 records it is read exactly then: it has no more
+  pub expression-read-exactly : (answered bytes room .refusal ≡ 0) ↔ Expressible bytes
+  expression-read-exactly = (
+    λ e. let fit = fit-exactly bytes room .0 e in (fit .few, (fit .t, fit .written, fit .small)),
+    λ (few, (t, written, small)). fit-exactly bytes room .1 (record { few = few; t = t; written = written; small = small; fits = omega (arith, written-size written) }),
+  )
+
+  -- and is refused exactly when not
+  pub expression-refused-exactly : (1 ≤ answered bytes room .refusal) ↔ (Expressible bytes → ⊥)
+  expression-refused-exactly = (
+    λ h fit. omega (arith, expression-read-exactly .1 fit),
+    λ never. elim (decLt 0 (answered bytes room .refusal)) [ yes h ↦ omega arith | no h ↦ absurd (never (expression-read-exactly .0 (omega arith))) ],
+  )
