@@ -56,8 +56,8 @@ fn log_line(r: &mut Random) -> Vec<u8> {
     let host = ["mail", "desk", "gate", "shelf"][r.below(4)];
     let level = ["info", "info", "info", "info", "warning", "error"][r.below(6)];
     let what = ["login", "logout", "read", "written", "refused"][r.below(5)];
-    format!("{time} {host}-{} {level}: user {} {what} {} lines in {} ms", r.below(100), r.below(10_000), r.below(1_000), r.below(500))
-        .into_bytes()
+    let (number, user, lines, time_taken, port) = (r.below(100), r.below(10_000), r.below(1_000), r.below(500), r.below(65_536));
+    format!("{time} {host}-{number} {level}: user {user} {what} {lines} lines in {time_taken} ms, port {port}").into_bytes()
 }
 
 fn log() -> Workload {
@@ -65,7 +65,7 @@ fn log() -> Workload {
     let digit = "(0|1|2|3|4|5|6|7|8|9)";
     let rules = ["error|warning".into(), format!("user {digit}{digit}* (login|logout)"), format!("(1|2|3|4){digit}{digit} ms")];
     Workload {
-        name: "log: 3 short rules on 2,000 lines",
+        name: "log: 3 short rules on 2,000 lines of some 80 bytes",
         expressions: rules.into_iter().map(String::into_bytes).collect(),
         texts: (0..2_000).map(|_| log_line(&mut r)).collect(),
     }

@@ -6,6 +6,7 @@ mod calls;
 mod desk;
 mod expected;
 mod generate;
+mod pick;
 mod wrapper;
 
 use calls::List;
@@ -271,7 +272,7 @@ fn long_texts(_: &mut Random) -> usize {
 }
 
 fn main() {
-    let kinds: [(&str, fn(&mut Random) -> usize); 13] = [
+    let kinds: [(&str, fn(&mut Random) -> usize); 14] = [
         ("edges through the Rust wrapper", |_| wrapper::compare()),
         ("short expressions", short_expressions),
         ("pairs of bytes", all_bytes),
@@ -285,6 +286,7 @@ fn main() {
         ("chains of stars", chains_of_stars),
         ("long expressions", long_expressions),
         ("long texts", long_texts),
+        ("runs of pick", pick::compare),
     ];
     let mut r = Random::new(0x2902_2028_0301_0366);
     let mut total = 0;
