@@ -30,17 +30,22 @@ impl List {
 }
 
 /// Adds a state and all that empty transitions reach from it.
-fn add(list: &mut List, next: &[[usize; 2]], characters: &[Option<u8>], state: usize) {
-    if state == NONE || list.marked[state] == list.mark {
-        return;
+fn add(list: &mut List, next: &[[usize; 2]], characters: &[Option<u8>], mut state: usize) {
+    while list.marked[state] != list.mark {
+        list.marked[state] = list.mark;
+        list.accepting |= state + 1 == next.len();
+        if state % 2 == 0 && characters[state / 2].is_some() {
+            list.states.push(state);
+        }
+        let [first, second] = next[state];
+        if second != NONE {
+            add(list, next, characters, second);
+        }
+        if first == NONE {
+            return;
+        }
+        state = first;
     }
-    list.marked[state] = list.mark;
-    if state % 2 == 0 && characters[state / 2].is_some() {
-        list.states.push(state);
-    }
-    list.accepting |= state + 1 == next.len();
-    add(list, next, characters, next[state][0]);
-    add(list, next, characters, next[state][1]);
 }
 
 impl Plain {
