@@ -20,6 +20,9 @@ use workloads::Workload;
 /// What a run over all texts answered: how many were found, and the sums of starts and ends. `None` where it gave up.
 type Answers = Option<(usize, usize, usize)>;
 
+/// A run of matchers over all texts.
+type Run = fn(&mut [Box<dyn Matcher>], &[Vec<u8>]) -> Answers;
+
 fn match_all(matchers: &mut [Box<dyn Matcher>], texts: &[Vec<u8>]) -> Answers {
     let mut yes = 0;
     for matcher in matchers {
@@ -61,7 +64,7 @@ struct Measured {
     nanoseconds_per_byte: f64,
 }
 
-fn measure(engine: &Engine, load: &Workload, run: fn(&mut [Box<dyn Matcher>], &[Vec<u8>]) -> Answers) -> Measured {
+fn measure(engine: &Engine, load: &Workload, run: Run) -> Measured {
     let bytes = load.expressions.len() * load.texts.iter().map(Vec::len).sum::<usize>();
     let prepared: Option<Vec<_>> = load.expressions.iter().map(|e| (engine.prepare)(e)).collect();
     let Some(mut matchers) = prepared else { return Measured { answers: None, nanoseconds_per_byte: f64::NAN } };

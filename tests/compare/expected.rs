@@ -295,7 +295,12 @@ pub struct Automaton {
 }
 
 pub fn automaton(t: &Tree) -> Automaton {
-    let mut a = Automaton { empty: vec![vec![]; 2 * t.len()], characters: vec![None; t.len()], bits: vec![vec![]; 2 * t.len()], widths: vec![] };
+    let mut a = Automaton {
+        empty: vec![vec![]; 2 * t.len()],
+        characters: vec![None; t.len()],
+        bits: vec![vec![]; 2 * t.len()],
+        widths: vec![],
+    };
     for (i, n) in t.iter().enumerate() {
         let (start, accepting) = (2 * i, 2 * i + 1);
         let (l, r) = (2 * n.left, 2 * n.right);

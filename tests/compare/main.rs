@@ -274,8 +274,11 @@ fn long_texts(_: &mut Random) -> usize {
     lengths.len()
 }
 
+/// Compares inputs of one kind, and says how many.
+type Compare = fn(&mut Random) -> usize;
+
 fn main() {
-    let kinds: [(&str, fn(&mut Random) -> usize); 14] = [
+    let kinds: [(&str, Compare); 14] = [
         ("edges through the Rust wrapper", |_| wrapper::compare()),
         ("short expressions", short_expressions),
         ("pairs of bytes", all_bytes),

@@ -50,7 +50,12 @@ fn compare_run(input: &[u8]) {
     let expected = expected_output(input);
     if output.stdout != expected.as_bytes() || !output.status.success() {
         println!("pick differs on \"{}\"", input.escape_ascii());
-        println!("  it printed: \"{}\", {}\n  expected:   \"{}\"", output.stdout.escape_ascii(), output.status, expected.escape_default());
+        println!(
+            "  it printed: \"{}\", {}\n  expected:   \"{}\"",
+            output.stdout.escape_ascii(),
+            output.status,
+            expected.escape_default()
+        );
         std::process::exit(1);
     }
 }

@@ -18,8 +18,16 @@ fn refused<T>(number: u8, place: usize) -> Result<T, Refusal> {
 
 pub fn compare() -> usize {
     let mut buffer = vec![0; MOST_RECORD_BYTES];
-    let faults: [(&[u8], u8, usize); 8] =
-        [(b"", 1, 0), (b"a|", 3, 2), (b"()", 3, 1), (b"((a)", 4, 0), (b"a)", 5, 1), (b")", 3, 0), (b"a\\b", 7, 1), (b"(a\\b", 7, 2)];
+    let faults: [(&[u8], u8, usize); 8] = [
+        (b"", 1, 0),
+        (b"a|", 3, 2),
+        (b"()", 3, 1),
+        (b"((a)", 4, 0),
+        (b"a)", 5, 1),
+        (b")", 3, 0),
+        (b"a\\b", 7, 1),
+        (b"(a\\b", 7, 2),
+    ];
     for (e, number, place) in faults {
         assert_eq!(read(e, &mut buffer), refused(number, place));
     }
