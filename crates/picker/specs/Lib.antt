@@ -6,3 +6,5 @@ pub mod Sample
 pub mod Room
 pub mod Edges
 pub mod Chain
+pub mod Printing
+pub mod Ends

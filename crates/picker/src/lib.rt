@@ -1,1 +1,4 @@
-// What `pick` prints, as a function of the bytes that it reads.
+// The whole output of `pick`, from the bytes that it reads.
+mod line;
+mod print;
+mod report;
