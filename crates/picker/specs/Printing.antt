@@ -16,6 +16,7 @@ printed buffer at bytes = take at buffer ++ bytes ++ drop (at + length bytes) bu
 
 -- the bytes stand in the buffer from the place up to the next place, all else is kept
 pub record Prints (before : List ℕ) (at : ℕ) (bytes after : List ℕ) (next : ℕ) : Type 0 where
+  pub within : at + length bytes ≤ length before
   pub next-place : next ≡ at + length bytes
   pub kept-length : length after ≡ length before
   pub written : after ≡ printed before at bytes
@@ -52,22 +53,24 @@ module _ (buffer : List ℕ) (at : ℕ) (xs : List ℕ) (room : at + length xs �
       ∙ ap (λ (n : ℕ). take at buffer ++ (xs ++ ys) ++ drop n buffer) (add-assoc at (length xs) (length ys) ∙ ap (λ (n : ℕ). at + n) (sym (length-append xs ys)))
 
 -- bytes printed one after the other are printed together
-pub prints-join : {before xs middle ys after : List ℕ} {at next end : ℕ} → at + length xs ≤ length before → Prints before at xs middle next → Prints middle next ys after end → Prints before at (xs ++ ys) after end
-prints-join {before} {xs} {middle} {ys} {after} {at} {next} {end} room p q = record {
-  next-place = rw length-append (omega (arith, p .next-place, q .next-place));
+pub prints-join : {before xs middle ys after : List ℕ} {at next end : ℕ} → Prints before at xs middle next → Prints middle next ys after end → Prints before at (xs ++ ys) after end
+prints-join {before} {xs} {middle} {ys} {after} {at} {next} {end} p q = record {
+  within = rw length-append (omega (arith, p, q));
+  next-place = rw length-append (omega (arith, p, q));
   kept-length = q .kept-length ∙ p .kept-length;
-  written = q .written ∙ rw (p .written, p .next-place) (printed-join before at xs room ys);
+  written = q .written ∙ rw (p .written, p .next-place) (printed-join before at xs (p .within) ys);
 }
 
 -- one byte stored
 pub prints-byte : (before : List ℕ) (at byte : ℕ) → at < length before → Prints before at (byte ∷ []) (set before at byte) (at + 1)
 unfolding printed
-prints-byte before at byte h = record { next-place = refl; kept-length = simp length-set; written = set-split before at byte h ∙ sym (append-snoc (take at before) byte (drop (suc at) before)) ∙ rw add-one }
+prints-byte before at byte h = record { within = omega arith; next-place = refl; kept-length = simp length-set; written = set-split before at byte h ∙ sym (append-snoc (take at before) byte (drop (suc at) before)) ∙ rw add-one }
 
 -- bytes copied one by one, up to the last
-pub prints-copied : (before : List ℕ) (at : ℕ) (bytes after : List ℕ) (i : ℕ) → i ≡ length bytes → length after ≡ length before → after ≡ paste before at bytes i → Prints before at bytes after (at + length bytes)
+pub prints-copied : (before : List ℕ) (at : ℕ) (bytes after : List ℕ) (i : ℕ) → at + length bytes ≤ length before → i ≡ length bytes → length after ≡ length before → after ≡ paste before at bytes i → Prints before at bytes after (at + length bytes)
 unfolding printed
-prints-copied before at bytes after i whole kept copied = record {
+prints-copied before at bytes after i within whole kept copied = record {
+  within = within;
   next-place = refl;
   kept-length = kept;
   written = copied ∙ rw (whole, take-length);
@@ -88,4 +91,4 @@ module _ (before : List ℕ) (at n : ℕ) (room : at + length (digits n) ≤ len
 
   -- another number is printed as the digits of its tenth, then its last
   pub prints-large : {middle after : List ℕ} {last next : ℕ} → 10 ≤ n → Prints before at (digits (n / 10)) middle last → Prints middle last (digit (n % 10) ∷ []) after next → Prints before at (digits n) after next
-  prints-large h p q = rw (digits-large n h) (prints-join (omega (arith, large-room h)) p q)
+  prints-large h p q = rw (digits-large n h) (prints-join p q)

@@ -60,7 +60,7 @@ same-length c = search needs
 
 -- src/print.rt:9:1
 returns : tie.Need-returns Inv-loop μ-loop
-returns c = prints-copied _ _ _ _ (c .before .loop .i) (search needs) (c .before .loop .inv .1) (c .before .loop .inv .2)
+returns c = prints-copied _ _ _ _ (c .before .loop .i) (search needs) (search needs) (c .before .loop .inv .1) (c .before .loop .inv .2)
 
 pub put-spec : {M : Type 1} → statement M
 put-spec =

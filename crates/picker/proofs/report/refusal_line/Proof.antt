@@ -1,10 +1,35 @@
+-- `picker::report::refusal_line` meets its contract: its parts are printed one after the other. Assumes nothing.
+use native.Mathlib.Omega.{arith}
 use borrow.Author.Needs.{needs}
+use lib.ListN.{length, length-append}
+use Prim.Native.Nat.{_+_, _≤_}
+use Rattle.picker.specs.Digits.{digits}
+use Rattle.picker.specs.Printing.{prints-join}
 use Rattle.picker.proofs.report.refusal_line.Statement.{statement}
 use Rattle.picker.proofs.report.refusal_line.Tie as tie
 use Rattle.picker.proofs.report.refusal_line.Reads as reads
 use Rattle.picker.proofs.report.refusal_line.Lts as lts
 use Rattle.picker.proofs.print.put.Reads as put-reads
 use Rattle.picker.proofs.print.put_number.Reads as put-number-reads
+
+abbrev at-start : tie.After-put → tie.Start
+at-start c = c .before .before .before .before
+
+abbrev first : tie.After-put-number → tie.After-put
+first c = c .before .before .before .before
+
+abbrev second : tie.After-put2 → tie.After-put-number
+second c = c .before .before .before .before .before
+
+abbrev third : tie.After-put-number2 → tie.After-put2
+third c = c .before .before .before .before
+
+abbrev fourth : tie.After-put3 → tie.After-put-number2
+fourth c = c .before .before .before .before .before
+
+-- there is room for the whole line
+room : (c : tie.Start) → c .args .at + (8 + length (digits (c .args .number)) + 4 + length (digits (c .args .place)) + 1) ≤ length (c .args .out .now)
+room c = simp length-append at (c .pre)
 
 -- src/report.rt:27:38
 slice-aggregate-put : tie.Need-slice-aggregate-put
@@ -16,7 +41,7 @@ put-requires c κs = search needs
 
 -- src/report.rt:28:9
 put-number-requires : tie.Need-put-number-requires
-put-number-requires c κs = ?
+put-number-requires c κs = omega (arith, room (c .before .before .before .before .before .before .before))
 
 -- src/report.rt:29:43
 slice-aggregate-put-2 : tie.Need-slice-aggregate-put-2
@@ -24,11 +49,11 @@ slice-aggregate-put-2 c = search needs
 
 -- src/report.rt:29:9
 put-requires-2 : tie.Need-put-requires-2
-put-requires-2 c κs = ?
+put-requires-2 c κs = omega (arith, room (at-start (first (c .before .before .before .before))))
 
 -- src/report.rt:30:9
 put-number-requires-2 : tie.Need-put-number-requires-2
-put-number-requires-2 c κs = ?
+put-number-requires-2 c κs = omega (arith, room (at-start (first (second (c .before .before .before)))))
 
 -- src/report.rt:31:27
 slice-aggregate-put-3 : tie.Need-slice-aggregate-put-3
@@ -36,7 +61,7 @@ slice-aggregate-put-3 c = search needs
 
 -- src/report.rt:31:5
 put-requires-3 : tie.Need-put-requires-3
-put-requires-3 c κs = ?
+put-requires-3 c κs = omega (arith, room (at-start (first (second (third (c .before .before .before .before))))))
 
 -- src/report.rt:23:1
 same-length : tie.Need-same-length
@@ -44,7 +69,9 @@ same-length c = search needs
 
 -- src/report.rt:23:1
 returns : tie.Need-returns
-returns c = ?
+returns c =
+    let last = c .before .before in
+    prints-join (prints-join (prints-join (prints-join (first (second (third (fourth last))) .put .ensures) (second (third (fourth last)) .put-number .ensures)) (third (fourth last) .put2 .ensures)) (fourth last .put-number2 .ensures)) (last .put3 .ensures)
 
 pub refusal-line-spec : {M : Type 1} → statement M
 refusal-line-spec =

@@ -1,14 +1,46 @@
+-- `picker::report::text_line` meets its contract: its parts are printed one after the other. Assumes nothing.
+use Prim.Native.Nat.{ℕ, _+_, _≤_}
+use mathlib.Core.Path.{_≡_}
+use mathlib.Core.Bool.{Bool, true, false}
+use native.Mathlib.Omega.{arith}
+use lib.ListN.{length, length-append}
+use Rattle.picker.specs.Digits.{digits}
+use Rattle.picker.specs.Print.{text-line}
+use Rattle.picker.specs.Printing.{prints-join}
 use borrow.Author.Needs.{needs}
 use Rattle.picker.proofs.report.text_line.Statement.{statement}
 use Rattle.picker.proofs.report.text_line.Tie as tie
 use Rattle.picker.proofs.report.text_line.Reads as reads
 use Rattle.picker.proofs.report.text_line.Lts as lts
 use Rattle.picker.proofs.print.put.Reads as put-reads
-use Rattle.picker.proofs.print.put_number.Reads as put-number-reads
+
+abbrev at-start : tie.After-put-number → tie.Start
+at-start c = c .before .before .before
+
+abbrev number-put : tie.After-put → tie.After-put-number
+number-put c = c .before .before .before .before .before .before
+
+abbrev yes-put : tie.After-put-number2 → tie.After-put
+yes-put c = c .before .before .before .before
+
+abbrev rank-put : tie.After-put2 → tie.After-put-number2
+rank-put c = c .before .before .before .before .before
+
+-- the line begins with the number
+number-first : (yes : Bool) (number rank : ℕ) → length (digits number) ≤ length (text-line yes number rank)
+number-first true number rank = simp length-append (omega arith)
+number-first false number rank = simp length-append (omega arith)
+
+-- there is room for the whole line
+room-yes : (c : tie.Start) → c .args .yes ≡ true → c .args .at + (length (digits (c .args .number)) + 5 + length (digits (c .args .rank)) + 1) ≤ length (c .args .out .now)
+room-yes c e = simp length-append at (rw e at (c .pre))
+
+room-no : (c : tie.Start) → c .args .yes ≡ false → c .args .at + (length (digits (c .args .number)) + 6) ≤ length (c .args .out .now)
+room-no c e = simp length-append at (rw e at (c .pre))
 
 -- src/report.rt:13:9
 put-number-requires : tie.Need-put-number-requires
-put-number-requires c κs = ?
+put-number-requires c κs = omega (arith, number-first (c .before .before .args .yes) (c .before .before .args .number) (c .before .before .args .rank))
 
 -- src/report.rt:15:48
 slice-aggregate-put : tie.Need-slice-aggregate-put
@@ -16,11 +48,11 @@ slice-aggregate-put c = search needs
 
 -- src/report.rt:15:13
 put-requires : tie.Need-put-requires
-put-requires c κs = ?
+put-requires c κs = omega (arith, room-yes (at-start (c .before .before .before .before .before)) (c .before .before .if1 .taken))
 
 -- src/report.rt:16:13
 put-number-requires-2 : tie.Need-put-number-requires-2
-put-number-requires-2 c κs = ?
+put-number-requires-2 c κs = omega (arith, room-yes (at-start (number-put (c .before .before .before))) (c .before .before .before .before .before .before .if1 .taken))
 
 -- src/report.rt:17:37
 slice-aggregate-put-2 : tie.Need-slice-aggregate-put-2
@@ -28,7 +60,7 @@ slice-aggregate-put-2 c = search needs
 
 -- src/report.rt:17:9
 put-requires-2 : tie.Need-put-requires-2
-put-requires-2 c κs = ?
+put-requires-2 c κs = omega (arith, room-yes (at-start (number-put (yes-put (c .before .before .before .before)))) (yes-put (c .before .before .before .before) .before .before .before .if1 .taken))
 
 -- src/report.rt:17:9
 same-length : tie.Need-same-length
@@ -36,7 +68,12 @@ same-length c = search needs
 
 -- src/report.rt:17:9
 returns : tie.Need-returns
-returns c = ?
+returns c =
+    let ended = c .before .before in
+    let ranked = rank-put ended in
+    let said = yes-put ranked in
+    rw (said .before .before .before .if1 .taken)
+    (prints-join (prints-join (prints-join (number-put said .put-number .ensures) (said .put .ensures)) (ranked .put-number2 .ensures)) (ended .put2 .ensures))
 
 -- src/report.rt:19:28
 slice-aggregate-put-3 : tie.Need-slice-aggregate-put-3
@@ -44,7 +81,7 @@ slice-aggregate-put-3 c = search needs
 
 -- src/report.rt:19:5
 put-requires-3 : tie.Need-put-requires-3
-put-requires-3 c κs = ?
+put-requires-3 c κs = omega (arith, room-no (at-start (c .before .before .before .before .before)) (c .before .before .if1 .left))
 
 -- src/report.rt:9:1
 same-length-2 : tie.Need-same-length-2
@@ -52,7 +89,9 @@ same-length-2 c = search needs
 
 -- src/report.rt:9:1
 returns-2 : tie.Need-returns-2
-returns-2 c = ?
+returns-2 c =
+    let ended = c .before .before in
+    rw (ended .before .before .before .if1 .left) (prints-join (ended .before .before .before .before .before .before .put-number .ensures) (ended .put3 .ensures))
 
 pub text-line-spec : {M : Type 1} → statement M
 text-line-spec =
