@@ -1,12 +1,12 @@
 -- Where a line ends, and what is left after it.
 -- Assumes nothing.
-use Prim.Native.Nat.{ℕ, _+_, _≤_, _<_, min}
+use Prim.Native.Nat.{ℕ, _+_, _-_, _≤_, _<_, min}
 use mathlib.Core.Path.{_≡_, sym, ap, _∙_}
 use mathlib.Core.List.{List, [], _∷_}
 use native.Mathlib.Decide.{decLt}
 use native.Mathlib.Omega.{arith}
-use lib.ListN.{length, getD, drop, drop-of-length-le}
-use lib.Seq.{take-nil}
+use lib.ListN.{length, getD, take, drop, drop-of-length-le}
+use lib.Seq.{take-nil, take-add, drop-at, length-take-le}
 use Rattle.finder.specs.Found.{part}
 use Rattle.picker.specs.Lines.{lines, expression, texts, lines-from, lines-to-end}
 
@@ -22,7 +22,7 @@ abbrev pub after : (input : List ℕ) (end : ℕ) → ℕ
 after input end = min (end + 1) (length input)
 
 -- no line is left at the end of the input
-lines-none : (input : List ℕ) (place : ℕ) → length input ≤ place → lines (drop place input) ≡ []
+pub lines-none : (input : List ℕ) (place : ℕ) → length input ≤ place → lines (drop place input) ≡ []
 unfolding lines
 lines-none input place h = ap lines (drop-of-length-le input h)
 
@@ -50,3 +50,9 @@ first-line [] end e = record { is-expression = sym (take-nil end); are-texts = s
 first-line (b ∷ rest) end e =
     let here = line-at (b ∷ rest) 0 end e (omega arith) in
     record { is-expression = ap expression here; are-texts = ap texts here }
+
+-- a part that is lent: what follows its start, as long as it is
+pub lent-part : (start end : ℕ) (text : List ℕ) → start ≤ end → start ≤ length text → take (end - start) (drop start text) ≡ part start end text
+lent-part start end text h k =
+    let split : end ≡ start + (end - start) = omega arith in
+    sym (ap (λ (n : ℕ). drop start (take n text)) split ∙ ap (drop start) (take-add start (end - start) text) ∙ drop-at (take start text) _ start (length-take-le start text k))

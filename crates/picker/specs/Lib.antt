@@ -8,3 +8,4 @@ pub mod Edges
 pub mod Chain
 pub mod Printing
 pub mod Ends
+pub mod Loop

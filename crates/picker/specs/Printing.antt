@@ -7,7 +7,7 @@ use native.Mathlib.Nat.{add-assoc}
 use native.Mathlib.Numerals.{add-one}
 use native.Mathlib.Omega.{arith}
 use lib.ListN.{length, set, take, drop, length-append, length-drop, length-set}
-use lib.Seq.{take-at, drop-at, drop-drop, set-split, append-snoc, length-take-le, take-length, paste}
+use lib.Seq.{take-at, drop-at, drop-drop, set-split, append-snoc, length-take-le, take-length, paste, paste-zero}
 use Rattle.picker.specs.Digits.{digit, digits, digits-small, digits-large}
 
 -- the buffer with the bytes at the place
@@ -60,6 +60,11 @@ prints-join {before} {xs} {middle} {ys} {after} {at} {next} {end} p q = record {
   kept-length = q .kept-length ∙ p .kept-length;
   written = q .written ∙ rw (p .written, p .next-place) (printed-join before at xs (p .within) ys);
 }
+
+-- no bytes printed
+pub prints-none : (before : List ℕ) (at : ℕ) → at ≤ length before → Prints before at [] before at
+unfolding printed
+prints-none before at h = record { within = omega arith; next-place = omega arith; kept-length = refl; written = paste-zero before at [] }
 
 -- one byte stored
 pub prints-byte : (before : List ℕ) (at byte : ℕ) → at < length before → Prints before at (byte ∷ []) (set before at byte) (at + 1)
