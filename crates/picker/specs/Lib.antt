@@ -9,3 +9,5 @@ pub mod Chain
 pub mod Printing
 pub mod Ends
 pub mod Loop
+pub mod Report
+pub mod Promise

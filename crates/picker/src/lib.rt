@@ -4,3 +4,61 @@ mod mock;
 mod print;
 mod report;
 mod texts;
+
+use line::line_end;
+use line::next_line;
+use print::put;
+use reader::Answer;
+use report::refusal_line;
+use texts::list_texts;
+ghost use Prim.Native.Nat.{_≤_};
+ghost use lib.ListN.{length};
+ghost use Rattle.finder.specs.Decide.{matches};
+ghost use Rattle.picker.specs.Lines.{lines, expression, texts};
+ghost use Rattle.picker.specs.Print.{answered, reported, picked};
+ghost use Rattle.picker.specs.Printing.{Prints};
+ghost use Rattle.picker.specs.Promise.{Picks};
+
+// The most bytes that the output can have.
+pub const MOST_OUTPUT: usize = 1048575;
+
+// What picking answers.
+pub enum Picked {
+    // The output stands in the buffer: how many bytes it has.
+    Written { length: usize },
+    // The buffer is shorter than the longest output.
+    NoRoom,
+}
+
+// Prints what is reported for an input: the expression is read once, and its tables are made once for all texts.
+fn report_lines(input: &[u8], out: &mut [u8]) -> usize
+    requires short { ⌜ length (now input) ≤ 65536 ⌝ }
+    requires room { ⌜ 1048575 ≤ length (now out) ⌝ }
+    ensures { λ r. ⌜ Prints (now (out .entry)) 0 (reported matches (answered (expression (lines (now (input .entry))))) (texts (lines (now (input .entry))))) (now (out .exit)) r ⌝ }
+{
+    let end = line_end(input, 0);
+    let mut list = [0u8; 15360];
+    let answer = mock::read(&input[..end], &mut list);
+    match answer {
+        Answer::Refused { number, place } => refusal_line(out, 0, number, place),
+        Answer::Read { records, pieces } => {
+            let start = next_line(input, end);
+            list_texts(&list[..8 * records], pieces, input, start, out)
+        }
+    }
+}
+
+// Writes the whole output of `pick` for an input into a buffer.
+pub fn pick(input: &[u8], output: &mut [u8]) -> Picked
+    ensures { λ r. ⌜ Picks (now (input .entry)) (now (output .entry)) (now (output .exit)) r ⌝ }
+{
+    if output.len() < MOST_OUTPUT {
+        return Picked::NoRoom;
+    }
+    if input.len() > 65536 {
+        let length = put(output, 0, b"input too long\n");
+        return Picked::Written { length };
+    }
+    let length = report_lines(input, output);
+    Picked::Written { length }
+}

@@ -1,3 +1,6 @@
+use reader::Answer;
+ghost use lib.ListN.{length};
+ghost use Rattle.reader.specs.Answer.{numbers, answered, stored};
 ghost use Prim.Native.Nat.{ℕ, _≤_};
 ghost use mathlib.Core.Path.{_≡_};
 ghost use mathlib.Core.Bool.{true};
@@ -33,4 +36,14 @@ extern "C" {
     ) -> bool
         requires { ⌜ Ready (now reach) (now labels) (now runs) (now stands) (now tops) count ⌝ }
         ensures { λ r. ⌜ ((t : Tree ℕ) → Prepared t (now (reach .entry)) (now (labels .entry)) (now (runs .entry)) (now (stands .entry)) (now (tops .entry)) count → (r ≡ true) ↔ Matches t (now (text .entry))) ⌝ };
+}
+
+pub fn read(expr: &[u8], records: &mut [u8]) -> Answer
+    ensures answer { λ r. ⌜ numbers r ≡ answered (now (expr .entry)) (length (now (records .entry))) ⌝ }
+    ensures buffer { λ r. ⌜ now (records .exit) ≡ stored (now (expr .entry)) (now (records .entry)) ⌝ }
+{
+    Answer::Refused {
+        number: 1,
+        place: 0,
+    }
 }

@@ -7,6 +7,8 @@ use crate::report::total_line;
 ghost use Prim.Native.Nat.{ℕ, _+_, _*_, _≤_, _<_};
 ghost use lib.ListN.{length, drop};
 ghost use Rattle.language.specs.Tree.{Tree};
+ghost use mathlib.Core.Path.{_≡_};
+ghost use Rattle.tree.specs.Records.{Good, piece-count};
 ghost use Rattle.marks.specs.Tables.{Prepared, Ready};
 ghost use Rattle.finder.specs.Decide.{matches};
 ghost use Rattle.picker.specs.Lines.{lines};
@@ -53,4 +55,37 @@ pub fn texts(
         place = next_line(input, end);
     }
     total_line(out, at, count, yes)
+}
+
+// Makes the tables of an expression's list, and prints a line for each text and the last line.
+pub fn list_texts(list: &[u8], pieces: usize, input: &[u8], start: usize, out: &mut [u8]) -> usize
+    requires list { ⌜ ((t : Tree ℕ) × Good (now list) t × (pieces ≡ piece-count t)) ⌝ }
+    requires space { ⌜ Space (now input) start 0 0 0 (now out) ⌝ }
+    ensures { λ r. ⌜ ((t : Tree ℕ) → Good (now (list .entry)) t → Prints (now (out .entry)) 0 (text-lines matches t 0 0 (lines (drop start (now (input .entry))))) (now (out .exit)) r) ⌝ }
+{
+    let mut reach = [0u64; 8192];
+    let mut labels = [0u16; 8192];
+    let mut runs = [0u8; 128];
+    let mut stands = [0u8; 128];
+    let mut tops = [0u8; 128];
+    mock::prepare(
+        list,
+        pieces,
+        &mut reach,
+        &mut labels,
+        &mut runs,
+        &mut stands,
+        &mut tops,
+    );
+    texts(
+        &reach,
+        &labels,
+        &runs,
+        &stands,
+        &tops,
+        pieces,
+        input,
+        start,
+        out,
+    )
 }
