@@ -1,11 +1,13 @@
 -- What `pick` promises of a lent buffer: every byte of it.
 -- Assumes nothing.
 use Prim.Native.Nat.{ℕ, _≤_, _<_}
-use mathlib.Core.Path.{_≡_, refl, sym, ap, _∙_}
+use mathlib.Core.Path.{_≡_, refl, sym, ap, _∙_, subst}
 use mathlib.Core.List.{List, _++_}
 use native.Mathlib.Omega.{arith}
 use lib.ListN.{length, drop}
+use Rattle.finder.specs.Decide.{matches}
 use Rattle.picker.specs.Print.{picked}
+use Rattle.picker.specs.Room.{output-length}
 use Rattle.picker.specs.Printing.{Prints, printed}
 use Rattle.picker.specs.declared.Picked.{Picked}
 use Rattle.picker.specs.declared.Picked.the-variants.{Written, NoRoom}
@@ -41,3 +43,9 @@ picks-unique input before after after′ (Written size) (Written size′) p q =
 picks-unique input before after after′ NoRoom NoRoom p q = (refl, p .kept ∙ sym (q .kept))
 picks-unique input before after after′ (Written size) NoRoom p q = absurd (omega (arith, p .room, q .short))
 picks-unique input before after after′ NoRoom (Written size) p q = absurd (omega (arith, q .room, p .short))
+
+-- where the output was written, it lies within the buffer
+pub written-within : (input before after : List ℕ) (r : Picked) (size : ℕ) → Picks input before after r → r ≡ Written size → size ≤ length before
+written-within input before after r size p e =
+    let w : Wrote input before after size = subst (Picks input before after) e p in
+    omega (arith, w, output-length matches input)

@@ -1,0 +1,59 @@
+// Reads standard input, and writes which of its later lines match its first one.
+use libc::{STDIN_FILENO, STDOUT_FILENO};
+use picker::{MOST_OUTPUT, Picked};
+ghost use Rattle.pick.specs.Within.{Within};
+
+// What reading the input comes to.
+enum Input {
+    // So many bytes were read: up to the input's end, or as many as there is space for.
+    Read { count: usize },
+    // A read failed.
+    Failed,
+}
+
+// Reads standard input, which may come in many parts, into a buffer.
+fn read_input(input: &mut [u8]) -> Input
+    ensures { λ r. ⌜ Within (now (input .exit)) r ⌝ }
+{
+    let mut count = 0;
+    while count < input.len() {
+        let got = libc::read(STDIN_FILENO, &mut input[count..]);
+        if got < 0 {
+            return Input::Failed;
+        }
+        let more = io::count(got, &input[count..]);
+        if more == 0 {
+            break;
+        }
+        count += more;
+    }
+    Input::Read { count }
+}
+
+// Writes the output for an input, by way of a buffer that is long enough for every output.
+fn write_output(input: &[u8], output: &mut [u8]) {
+    let picked = picker::pick(input, output);
+    let Picked::Written { length } = picked else {
+        return;
+    };
+    if !io::write_all(STDOUT_FILENO, &output[..length]) {
+        os::fail(b"standard output");
+    }
+}
+
+// Reads the input, and writes the output for it; a read or a write that fails is told on standard error.
+fn run(input: &mut [u8], output: &mut [u8; MOST_OUTPUT]) {
+    let read = read_input(input);
+    let Input::Read { count } = read else {
+        os::fail(b"standard input");
+        return;
+    };
+    write_output(&input[..count], output);
+}
+
+// The input buffer has a byte more than an input may have, so that a longer one is seen.
+fn main() {
+    let mut input = [0u8; 65537];
+    let mut output = [0u8; MOST_OUTPUT];
+    run(&mut input, &mut output);
+}
