@@ -8,3 +8,6 @@ pub mod Promise
 pub mod Computed
 pub mod Held
 pub mod Unique
+pub mod Taken
+pub mod Parts
+pub mod Answering

@@ -1,4 +1,14 @@
 // Whole-text match and search over good lists.
+mod good;
+mod part;
+mod text;
+
+pub use part::Part;
+pub use part::first_part;
+pub use text::text_matches;
+ghost use Rattle.finder.specs.Promise.{Match-answers, Search-answers};
+use tree::good::Decided;
+use tree::good::decide;
 
 // What a match answers.
 pub enum Matched {
@@ -21,4 +31,48 @@ pub enum Searched {
     NotGood,
     // The text is over 65,536 bytes.
     TooLong,
+}
+
+// Whether the whole text is in the language of the list's tree.
+pub fn is_match(list: &[u8], text: &[u8]) -> Matched
+    ensures { λ r. ⌜ Match-answers (now (list .entry)) (now (text .entry)) r ⌝ }
+{
+    let decided = decide(list);
+    let Decided::Good {
+        records: _,
+        pieces: _,
+    } = decided
+    else {
+        return Matched::NotGood;
+    };
+    if 65536 < text.len() {
+        return Matched::TooLong;
+    }
+    if good::matches_good(list, text) {
+        Matched::Yes
+    } else {
+        Matched::No
+    }
+}
+
+// The part of the text that starts earliest and then ends furthest, of those in the language of the list's tree.
+pub fn search(list: &[u8], text: &[u8]) -> Searched
+    ensures { λ r. ⌜ Search-answers (now (list .entry)) (now (text .entry)) r ⌝ }
+{
+    let decided = decide(list);
+    let Decided::Good {
+        records: _,
+        pieces: _,
+    } = decided
+    else {
+        return Searched::NotGood;
+    };
+    if 65536 < text.len() {
+        return Searched::TooLong;
+    }
+    let part = good::search_good(list, text);
+    match part {
+        Part::At { start, end } => Searched::Found { start, end },
+        Part::Nothing => Searched::Nothing,
+    }
 }

@@ -22,7 +22,7 @@ use Rattle.tree.specs.Records.{Good, piece-count}
 use Rattle.tree.specs.Least.{wanted-fits}
 use Rattle.tree.specs.Nesting.{Small, Every-below, small-pieces, whole-nest}
 use Rattle.marks.specs.Words.{Bit, width, run, Holds, Clean, Agreeing, Set-of}
-use Rattle.marks.specs.Plan.{Planned, Each, Reaches}
+use Rattle.marks.specs.Plan.{Pieces, Planned, Each, Reaches}
 use Rattle.marks.specs.Bits.{Told}
 use Rattle.marks.specs.Tables.{cut-up, Prepared, Roomy, Ready, Holding, Answered}
 use Rattle.marks.specs.Promise.{Hold, Marks-of}
@@ -30,7 +30,8 @@ use Rattle.marks.specs.Swept.{Narrow-below, Laid, Sized}
 use Rattle.marks.specs.Given
 use Rattle.marks.specs.Given.{width-own}
 use Rattle.marks.specs.Table.{Closed-all}
-use Rattle.marks.specs.Low.{low-tops}
+use Rattle.marks.specs.Low.{low-tops, checkable}
+use Rattle.marks.specs.Checked.{Checkable}
 use Rattle.marks.specs.Moved.{Moved-all}
 use Rattle.marks.specs.Twice.{Run-of, Closable, Closed-twice, front-holds, front-clean}
 use Rattle.marks.specs.Simulated.{laid-whole, Start-marked, start-holds, start-clean, closed-start, closed-step, accepting-bit}
@@ -88,6 +89,13 @@ pub record Running (reach labels runs stands tops : List ℕ) (count : ℕ) (wor
   pub enough : count ≤ length words
   pub clean : Clean (cut-up (ready .of-tree .0)) words
 
+-- 128 words that are clean for every tree that the tables are of can be stepped
+pub running : {reach labels runs stands tops words : List ℕ} {count : ℕ} → Ready reach labels runs stands tops count → length words ≡ 128
+    → ((t : Tree ℕ) → Prepared t reach labels runs stands tops count → Clean (cut-up t) words) → Running reach labels runs stands tops count words
+running ready long clean =
+    let prepared = ready .of-tree .1 in
+    record { ready = ready; enough = omega (arith, prepared .counted, prepared .few); clean = clean (ready .of-tree .0) prepared }
+
 module _ {t : Tree ℕ} {reach labels runs stands tops : List ℕ} {count : ℕ} (prepared : Prepared t reach labels runs stands tops count) where
   -- the tables speak of every piece
   pub prepared-laid : Laid reach runs stands tops (cut-up t) 0
@@ -128,6 +136,17 @@ module _ {t : Tree ℕ} {reach labels runs stands tops : List ℕ} {count : ℕ}
       same-bit : {i j : ℕ} → i ≡ j → Bit (getD words 0 0) i ↔ Bit (getD words 0 0) j
       same-bit e = (subst (λ (i : ℕ). Bit (getD words 0 0) i) e, subst (λ (i : ℕ). Bit (getD words 0 0) i) (sym e))
 
+  -- whether words are marks can be tested
+  pub prepared-checkable : {words : List ℕ} → Roomy reach labels runs stands tops → count ≤ length words → Checkable runs stands tops words count
+  prepared-checkable {words} roomy enough =
+      checkable (record { labels = labels; runs = runs; stands = stands; tops = tops }) (cut-up t) count (prepared .planned) (sym prepared-count) (narrow t) (all-narrow t) words
+      (omega (arith, prepared .counted, prepared .few, roomy .runs-room)) (omega (arith, prepared .counted, prepared .few, roomy .stands-room)) (omega (arith, prepared .counted, prepared .few, roomy .tops-room)) enough
+
+  -- and what the test tells
+  pub prepared-told : (words : List ℕ) {answer : Bool} → ((tables : Pieces) (x : Nested ℕ) → tables .runs ≡ runs → tables .stands ≡ stands → tables .tops ≡ tops → Planned tables x → 1 + run x ≡ count → Told (Clean x words × Agreeing x words) answer)
+      → Told (Clean (cut-up t) words × Agreeing (cut-up t) words) answer
+  prepared-told words tells = tells (record { labels = labels; runs = runs; stands = stands; tops = tops }) (cut-up t) refl refl refl (prepared .planned) (sym prepared-count)
+
   -- from words with the root's start alone marked, closed twice, and the first of them put into the lent words
   pub begun : (marked closed lent after : List ℕ) (yes' : Bool) → Start-marked (cut-up t) marked → Closed-twice reach runs stands tops count marked closed
       → count ≤ length closed → count ≤ length lent → after ≡ take count closed ++ drop count lent → Told (Bit (getD after 0 0) (getD tops 0 0)) yes' → Begun t lent after yes'
@@ -138,8 +157,8 @@ module _ {t : Tree ℕ} {reach labels runs stands tops : List ℕ} {count : ℕ}
       let same : take count after ≡ take count closed = ap (take count) put ∙ take-at (take count closed) (drop count lent) count front in
       let agree : Agree x (Holds x after) (Holds x closed) = same-front x count after closed prepared-count same in
       let models : Models x (Holds x after) (Started t) =
-          subst (λ (s : Tree ℕ). Models x (Holds x after) (Started s)) (whole-nest t (wanted t))
-          (models-same x (Started (whole x)) agree (closed-start reach runs stands tops count x marked closed twice on (start-holds x marked starts)))
+      subst (λ (s : Tree ℕ). Models x (Holds x after) (Started s)) (whole-nest t (wanted t))
+      (models-same x (Started (whole x)) agree (closed-start reach runs stands tops count x marked closed twice on (start-holds x marked starts)))
       in
       record {
         hold = record {
@@ -159,8 +178,8 @@ module _ {t : Tree ℕ} {reach labels runs stands tops : List ℕ} {count : ℕ}
       let went = moves .marks (record { labels = labels; runs = runs; stands = stands; tops = tops }) x refl (prepared .planned) (omega (arith, prepared-count)) (narrow t) (all-narrow t) (marks .clean) in
       let on = prepared-run (went .clean) in
       let models : Models x (Holds x after) (Stepped Is t byte (Set-of x before)) =
-          subst (λ (s : Tree ℕ). Models x (Holds x after) (Stepped Is s byte (Set-of x before))) (whole-nest t (wanted t))
-          (closed-step reach runs stands tops count x moved after twice on byte (Holds x before) (Set-of x before) (alike-models x (Holds x before) (marks .agreeing)) (went .holds))
+      subst (λ (s : Tree ℕ). Models x (Holds x after) (Stepped Is s byte (Set-of x before))) (whole-nest t (wanted t))
+      (closed-step reach runs stands tops count x moved after twice on byte (Holds x before) (Set-of x before) (alike-models x (Holds x before) (marks .agreeing)) (went .holds))
       in
       record {
         hold = record {

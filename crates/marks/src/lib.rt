@@ -11,6 +11,15 @@ pub mod plan;
 pub mod reach;
 pub mod sweep;
 
+use crate::agree::agreeing;
+use crate::inner::advance;
+use crate::inner::begin;
+use crate::inner::prepare;
+use tree::good::Decided;
+use tree::good::decide;
+ghost use Rattle.marks.specs.Given.{Good-list};
+ghost use Rattle.marks.specs.Promise.{Starts, Steps};
+
 // What a start or a step answers.
 pub enum Answer {
     // The marks are made; whether the root's accepting state is now marked.
@@ -21,4 +30,87 @@ pub enum Answer {
     TooFewWords,
     // A bit past the last state is set, or the two bits of a shared state differ.
     NotMarks,
+}
+
+// Starts on a list that is known to be good.
+fn start_good(list: &[u8], words: &mut [u64]) -> Answer
+    requires { ⌜ Good-list (now list) ⌝ }
+    ensures { λ r. ⌜ Starts (now (list .entry)) (now (words .entry)) (now (words .exit)) r ⌝ }
+{
+    let mut reach = [0u64; 8192];
+    let mut labels = [0u16; 8192];
+    let mut runs = [0u8; 128];
+    let mut stands = [0u8; 128];
+    let mut tops = [0u8; 128];
+    let count = prepare(
+        list,
+        &mut reach,
+        &mut labels,
+        &mut runs,
+        &mut stands,
+        &mut tops,
+    );
+    if words.len() < count {
+        return Answer::TooFewWords;
+    }
+    let accepting = begin(&reach, &labels, &runs, &stands, &tops, count, words);
+    Answer::Marked { accepting }
+}
+
+// Steps on a list that is known to be good.
+fn step_good(list: &[u8], words: &mut [u64], byte: u8) -> Answer
+    requires { ⌜ Good-list (now list) ⌝ }
+    ensures { λ r. ⌜ Steps (now (list .entry)) byte (now (words .entry)) (now (words .exit)) r ⌝ }
+{
+    let mut reach = [0u64; 8192];
+    let mut labels = [0u16; 8192];
+    let mut runs = [0u8; 128];
+    let mut stands = [0u8; 128];
+    let mut tops = [0u8; 128];
+    let count = prepare(
+        list,
+        &mut reach,
+        &mut labels,
+        &mut runs,
+        &mut stands,
+        &mut tops,
+    );
+    if words.len() < count {
+        return Answer::TooFewWords;
+    }
+    if !agreeing(&runs, &stands, &tops, words, count) {
+        return Answer::NotMarks;
+    }
+    let accepting = advance(&reach, &labels, &runs, &stands, &tops, count, words, byte);
+    Answer::Marked { accepting }
+}
+
+// Marks the root's start in the lent words and closes.
+pub fn start(list: &[u8], words: &mut [u64]) -> Answer
+    ensures { λ r. ⌜ Starts (now (list .entry)) (now (words .entry)) (now (words .exit)) r ⌝ }
+{
+    let decided = decide(list);
+    let Decided::Good {
+        records: _,
+        pieces: _,
+    } = decided
+    else {
+        return Answer::NotGood;
+    };
+    start_good(list, words)
+}
+
+// Moves the marks in the lent words along the byte and closes.
+pub fn step(list: &[u8], words: &mut [u64], byte: u8) -> Answer
+    ensures { λ r. ⌜ Steps (now (list .entry)) byte (now (words .entry)) (now (words .exit)) r ⌝ }
+{
+    let decided = decide(list);
+    let Decided::Good {
+        records: _,
+        pieces: _,
+    } = decided
+    else {
+        return Answer::NotGood;
+    };
+    step_good(list, words, byte)
 }

@@ -1,6 +1,8 @@
 // Reads standard input, and writes which of its later lines match its first one.
-use libc::{STDIN_FILENO, STDOUT_FILENO};
-use picker::{MOST_OUTPUT, Picked};
+use libc::STDIN_FILENO;
+use libc::STDOUT_FILENO;
+use picker::MOST_OUTPUT;
+use picker::Picked;
 ghost use Rattle.pick.specs.Within.{Within};
 
 // What reading the input comes to.

@@ -20,10 +20,11 @@ close-all-requires c κs =
     let known = c .before .before .before .before .before .before .before .before .before .before .before .before .before .before .before .before .before .before .before .before .before .before .before .before .pre .0 in
     let roomy = c .before .before .before .before .before .before .before .before .before .before .before .before .before .before .before .before .before .before .before .before .before .before .before .before .pre .1 in
     let kept = c .before .before .before .before .before .before .before .before .before .before .before .before .plan .kept in
-    let made = c .before .before .before .before .before .before .before .before .before .before .before .before .plan .ensures (known .some) (known .good) in
-    (omega (arith, made .counted, known .good .few, roomy .reach-room, kept .1 .0),
-    omega (arith, made .counted, known .good .few, roomy .tops-room, kept .1 .1 .1 .1 .1 .0),
-    tops-low (known .some) made)
+    let made = c .before .before .before .before .before .before .before .before .before .before .before .before .plan .ensures (known .some) (known .good) in (
+      omega (arith, made .counted, known .good .few, roomy .reach-room, kept .1 .0),
+      omega (arith, made .counted, known .good .few, roomy .tops-room, kept .1 .1 .1 .1 .1 .0),
+      tops-low (known .some) made,
+    )
 
 -- src/inner.rt:21:1
 same-length : tie.Need-same-length
@@ -50,15 +51,16 @@ returns : tie.Need-returns
 returns c =
     let roomy = c .before .before .before .before .before .before .before .before .before .before .before .before .before .before .before .before .before .before .before .before .before .before .before .before .before .before .before .pre .1 in
     let kept = c .before .before .before .before .before .before .before .before .before .before .before .before .before .before .before .plan .kept in
-    let closed = c .before .before .close-all .ensures in
-    (record {
-      reach-room = closed .same-length ∙ kept .1 .0 ∙ roomy .reach-room;
-      labels-room = kept .1 .1 .0 ∙ roomy .labels-room;
-      runs-room = kept .1 .1 .1 .0 ∙ roomy .runs-room;
-      stands-room = kept .1 .1 .1 .1 .0 ∙ roomy .stands-room;
-      tops-room = kept .1 .1 .1 .1 .1 .0 ∙ roomy .tops-room;
-    },
-    λ t good. prepared-of t good (c .before .before .before .before .before .before .before .before .before .before .before .before .before .before .before .plan .ensures t good) closed)
+    let closed = c .before .before .close-all .ensures in (
+      record {
+        reach-room = closed .same-length ∙ kept .1 .0 ∙ roomy .reach-room;
+        labels-room = kept .1 .1 .0 ∙ roomy .labels-room;
+        runs-room = kept .1 .1 .1 .0 ∙ roomy .runs-room;
+        stands-room = kept .1 .1 .1 .1 .0 ∙ roomy .stands-room;
+        tops-room = kept .1 .1 .1 .1 .1 .0 ∙ roomy .tops-room;
+      },
+      λ t good. prepared-of t good (c .before .before .before .before .before .before .before .before .before .before .before .before .before .before .before .plan .ensures t good) closed,
+    )
 
 pub prepare-spec : {M : Type 1} → statement M
 prepare-spec =

@@ -1,0 +1,91 @@
+-- `finder::part::first_part` meets its contract: no part starts before the place at hand. The measure is what is left of the text.
+-- Assumes nothing.
+use Prim.Native.Nat.{ℕ, _≤_, _-_, _+_}
+use mathlib.Core.Path.{_≡_, refl}
+use mathlib.Core.Option.{none}
+use native.Mathlib.Omega.{arith}
+use denote.Enum.Declared.{tagOf}
+use borrow.Author.Needs.{needs}
+use lib.ListN.{length}
+use Rattle.language.specs.Tree.{Tree}
+use Rattle.language.specs.Language.{Matches}
+use Rattle.marks.specs.Tables.{Prepared, Ready}
+use Rattle.finder.specs.Found.{None-before}
+use Rattle.finder.specs.Parts.{end-of}
+use Rattle.finder.specs.declared.part.End.{End}
+use Rattle.finder.specs.declared.part.End.the-variants.{At, Nowhere}
+use Rattle.finder.proofs.part.End.{the-type}
+use Rattle.finder.specs.Progress.{none-before-first, settled-found, settled-next}
+use Rattle.finder.proofs.part.first_part.Statement.{statement}
+use Rattle.finder.proofs.part.first_part.Tie as tie
+use Rattle.finder.proofs.part.first_part.Reads as reads
+use Rattle.finder.proofs.part.first_part.Lts as lts
+use Rattle.finder.proofs.part.furthest_end.Reads as furthest-end-reads
+
+-- where the answer was not `At` there is no end
+nowhere : (end : End) → tagOf the-type end ≡ 1 → end-of end ≡ none
+nowhere (At e) other = absurd (omega arith)
+nowhere Nowhere other = refl
+
+abbrev Inv-loop : tie.InvT-loop
+Inv-loop reach labels runs stands tops count text start₀ start = (start ≤ length text + 1) × Ready reach labels runs stands tops count × ((t : Tree ℕ) → Prepared t reach labels runs stands tops count → None-before (Matches t) text start)
+
+abbrev μ-loop : tie.MeasureT-loop
+μ-loop reach labels runs stands tops count text start₀ start = length text + 1 - start
+
+-- src/search.rt:59:5
+loop-holds : tie.Need-loop-holds Inv-loop μ-loop
+loop-holds c = search needs
+
+-- src/search.rt:60:13
+furthest-end-requires : tie.Need-furthest-end-requires Inv-loop μ-loop
+furthest-end-requires c κs = search needs
+
+-- src/search.rt:61:24
+enum-known-found : tie.Need-enum-known-found Inv-loop μ-loop
+enum-known-found c = search needs
+
+-- src/search.rt:62:13
+returns : tie.Need-returns Inv-loop μ-loop
+returns c = λ t prepared.
+    settled-found (Matches t) _ _ _ (c .before .before .before .before .before .loop .inv .2 t prepared) (rw (c .before .found .given .1) at (c .before .before .before .furthest-end .ensures t prepared))
+
+enum-told : tie.Need-enum-told Inv-loop μ-loop
+enum-told c = search needs
+
+-- src/search.rt:64:9
+add-start : tie.Need-add-start Inv-loop μ-loop
+add-start c = search needs
+
+-- src/search.rt:59:5
+loop-less : tie.Need-loop-less Inv-loop μ-loop
+loop-less c = search needs
+
+-- src/search.rt:59:5
+loop-again : tie.Need-loop-again Inv-loop μ-loop
+loop-again c = (
+  search needs,
+  search needs,
+  λ t prepared.
+      settled-next (Matches t) _ _ (c .before .before .before .before .loop .inv .2 t prepared) (rw (nowhere _ (c .before .match .keys2)) at (c .before .before .furthest-end .ensures t prepared)),
+)
+
+-- src/search.rt:54:1
+returns-2 : tie.Need-returns-2 Inv-loop μ-loop
+returns-2 c = λ t prepared i j found. c .before .loop .inv .2 t prepared i j (omega (arith, found .ordered, found .inside)) found
+
+pub first-part-spec : {M : Type 1} → statement M
+first-part-spec =
+    tie.close
+    (tie.spec
+    Inv-loop
+    μ-loop
+    loop-holds
+    furthest-end-requires
+    enum-known-found
+    returns
+    enum-told
+    add-start
+    loop-less
+    loop-again
+    returns-2)

@@ -1,0 +1,17 @@
+-- `finder::part::with_end` meets its contract, by its two cases. Assumes nothing.
+use borrow.Author.Needs.{needs}
+use Rattle.finder.proofs.part.with_end.Statement.{statement}
+use Rattle.finder.proofs.part.with_end.Tie as tie
+use Rattle.finder.proofs.part.with_end.Reads as reads
+use Rattle.finder.proofs.part.with_end.Lts as lts
+
+-- src/search.rt:27:1
+returns : tie.Need-returns
+returns c = rw (c .if1 .taken)
+
+-- src/search.rt:27:1
+returns-2 : tie.Need-returns-2
+returns-2 c = search needs
+
+pub with-end-spec : {M : Type 1} → statement M
+with-end-spec = tie.close (tie.spec returns returns-2)

@@ -1,0 +1,95 @@
+-- `finder::text::text_matches` meets its contract: before byte i the words hold the marks after the first i bytes, and `yes` says whether
+-- these are in the language. The measure is what is left of the text. Assumes nothing.
+use Prim.Native.Nat.{ℕ, _≤_, _-_, _+_}
+use mathlib.Core.Path.{_≡_, subst}
+use mathlib.Core.List.{List, [], _∷_, _++_}
+use native.Mathlib.Omega.{arith}
+use native.Mathlib.Numerals.{add-one}
+use borrow.Author.Needs.{needs}
+use lib.ListN.{length, take, getD}
+use lib.Seq.{take-all}
+use Rattle.finder.specs.Taken.{take-next}
+use Rattle.language.specs.Tree.{Tree}
+use Rattle.marks.specs.Tables.{Prepared, Ready, Answered}
+use Rattle.marks.specs.Inner.{running, holding-marks, answered-first, answered-next}
+use Rattle.finder.proofs.text.text_matches.Statement.{statement}
+use Rattle.finder.proofs.text.text_matches.Tie as tie
+use Rattle.finder.proofs.text.text_matches.Reads as reads
+use Rattle.finder.proofs.text.text_matches.Lts as lts
+use Rattle.marks.proofs.inner.advance.Reads as advance-reads
+use Rattle.marks.proofs.inner.begin.Reads as begin-reads
+
+abbrev Inv-loop : tie.InvT-loop
+Inv-loop reach labels runs stands tops count text words₀ yes₀ i₀ words yes' i = (i ≤ length text) × (length words ≡ 128) × Ready reach labels runs stands tops count × ((t : Tree ℕ) → Prepared t reach labels runs stands tops count → Answered t (take i text) words yes')
+
+abbrev μ-loop : tie.MeasureT-loop
+μ-loop reach labels runs stands tops count text words₀ yes₀ i₀ words yes' i = length text - i
+
+-- src/text.rt:18:73
+slice-aggregate-begin : tie.Need-slice-aggregate-begin Inv-loop μ-loop
+slice-aggregate-begin c = search needs
+
+-- src/text.rt:18:9
+begin-requires : tie.Need-begin-requires Inv-loop μ-loop
+begin-requires c κs = search needs
+
+-- src/text.rt:20:5
+loop-holds : tie.Need-loop-holds Inv-loop μ-loop
+loop-holds c = (search needs, search needs, search needs, λ t prepared. answered-first (c .before .begin .ensures t prepared))
+
+-- src/text.rt:21:71
+slice-aggregate-advance : tie.Need-slice-aggregate-advance Inv-loop μ-loop
+slice-aggregate-advance c = search needs
+
+-- src/text.rt:21:83
+shared-slice-read-advance : tie.Need-shared-slice-read-advance Inv-loop μ-loop
+shared-slice-read-advance c = search needs
+
+-- src/text.rt:21:9
+advance-requires : tie.Need-advance-requires Inv-loop μ-loop
+advance-requires c κs =
+    let at = c .before .before .before .loop .inv in
+    running (at .2) (at .1) (λ t prepared. at .3 t prepared .holding .clean)
+
+-- src/text.rt:22:9
+add-i : tie.Need-add-i Inv-loop μ-loop
+add-i c = search needs
+
+-- src/text.rt:20:5
+loop-less : tie.Need-loop-less Inv-loop μ-loop
+loop-less c = search needs
+
+-- src/text.rt:20:5
+loop-again : tie.Need-loop-again Inv-loop μ-loop
+loop-again c = (
+  search needs,
+  search needs,
+  search needs,
+  λ t prepared.
+      rw (← take-next (c .before .before .before .before .before .before .before .before .before .before .before .before .before .before .before .args .text .now) (c .before .before .before .before .before .loop .i) (omega arith))
+      (let holding = c .before .before .before .before .before .loop .inv .3 t prepared .holding in
+      answered-next holding (c .before .advance .ensures t prepared (holding-marks holding))),
+)
+
+-- src/text.rt:13:1
+returns : tie.Need-returns Inv-loop μ-loop
+returns c = λ t prepared.
+    rw (← take-all (c .before .loop .i) (c .before .before .before .before .before .before .before .before .before .before .before .args .text .now) (omega arith))
+    (c .before .loop .inv .3 t prepared .answer)
+
+pub text-matches-spec : {M : Type 1} → statement M
+text-matches-spec =
+    tie.close
+    (tie.spec
+    Inv-loop
+    μ-loop
+    slice-aggregate-begin
+    begin-requires
+    loop-holds
+    slice-aggregate-advance
+    shared-slice-read-advance
+    advance-requires
+    add-i
+    loop-less
+    loop-again
+    returns)

@@ -1,0 +1,19 @@
+-- What the answers of search say.
+-- Assumes nothing.
+use Prim.Native.Nat.{ℕ}
+use mathlib.Core.Option.{Option, none, some}
+use Rattle.finder.specs.Found.{Answer, at, nothing}
+use Rattle.finder.specs.declared.part.Part.{Part}
+use Rattle.finder.specs.declared.part.Part.the-variants.{At, Nothing}
+use Rattle.finder.specs.declared.part.End.{End}
+use Rattle.finder.specs.declared.part.End.the-variants.{At as End-at, Nowhere}
+
+-- the furthest end, if any
+abbrev pub end-of : End → Option ℕ
+end-of (End-at e) = some e
+end-of Nowhere = none
+
+-- the part found, or nothing
+abbrev pub answer-of : Part → Answer
+answer-of (At s e) = at s e
+answer-of Nothing = nothing

@@ -1,0 +1,95 @@
+// Search over the tables of a list: the earliest start, then the furthest end.
+use marks::inner::advance;
+use marks::inner::begin;
+use marks::inner::nothing_left;
+ghost use Prim.Native.Nat.{ℕ, _≤_};
+ghost use mathlib.Core.Path.{_≡_};
+ghost use mathlib.Core.Logic.{_↔_};
+ghost use lib.ListN.{length};
+ghost use Rattle.language.specs.Tree.{Tree};
+ghost use Rattle.language.specs.Language.{Matches};
+ghost use Rattle.marks.specs.Tables.{Prepared, Ready};
+ghost use Rattle.finder.specs.Progress.{Settled, better};
+ghost use Rattle.finder.specs.Found.{Answers};
+ghost use Rattle.finder.specs.Parts.{end-of, answer-of};
+
+// A part of a text, or nothing.
+pub enum Part {
+    At { start: usize, end: usize },
+    Nothing,
+}
+
+// The furthest end of a part in the language that starts at `start`.
+pub enum End {
+    At(usize),
+    Nowhere,
+}
+
+// The best end so far, after one more answer.
+fn with_end(yes: bool, end: usize, best: End) -> End
+    ensures { λ r. ⌜ end-of r ≡ better yes end (end-of best) ⌝ }
+{
+    if yes { End::At(end) } else { best }
+}
+
+fn furthest_end(
+    reach: &[u64],
+    labels: &[u16],
+    runs: &[u8],
+    stands: &[u8],
+    tops: &[u8],
+    count: usize,
+    text: &[u8],
+    start: usize,
+) -> End
+    requires { ⌜ Ready (now reach) (now labels) (now runs) (now stands) (now tops) count ⌝ }
+    requires { ⌜ start ≤ length (now text) ⌝ }
+    ensures { λ r. ⌜ ((t : Tree ℕ) → Prepared t (now (reach .entry)) (now (labels .entry)) (now (runs .entry)) (now (stands .entry)) (now (tops .entry)) count → Settled (Matches t) (now (text .entry)) start (end-of r)) ⌝ }
+{
+    let mut words = [0u64; 128];
+    let yes = begin(reach, labels, runs, stands, tops, count, &mut words);
+    let mut best = with_end(yes, start, End::Nowhere);
+    let mut end = start;
+    while end < text.len() {
+        if nothing_left(&words, count) {
+            return best;
+        }
+        let yes = advance(
+            reach,
+            labels,
+            runs,
+            stands,
+            tops,
+            count,
+            &mut words,
+            text[end],
+        );
+        end += 1;
+        best = with_end(yes, end, best);
+    }
+    best
+}
+
+// The part that starts earliest and then ends furthest, among the parts in the language of the tree that the tables are of.
+pub fn first_part(
+    reach: &[u64],
+    labels: &[u16],
+    runs: &[u8],
+    stands: &[u8],
+    tops: &[u8],
+    count: usize,
+    text: &[u8],
+) -> Part
+    requires { ⌜ Ready (now reach) (now labels) (now runs) (now stands) (now tops) count ⌝ }
+    ensures { λ r. ⌜ ((t : Tree ℕ) → Prepared t (now (reach .entry)) (now (labels .entry)) (now (runs .entry)) (now (stands .entry)) (now (tops .entry)) count → Answers (Matches t) (now (text .entry)) (answer-of r)) ⌝ }
+{
+    let mut start = 0;
+    while start <= text.len() {
+        let found = furthest_end(reach, labels, runs, stands, tops, count, text, start);
+        match found {
+            End::At(end) => return Part::At { start, end },
+            End::Nowhere => start += 1,
+        }
+    }
+    Part::Nothing
+}

@@ -1,0 +1,42 @@
+// Whole-text match over the tables of a list.
+use marks::inner::advance;
+use marks::inner::begin;
+ghost use Prim.Native.Nat.{ℕ};
+ghost use mathlib.Core.Path.{_≡_};
+ghost use mathlib.Core.Bool.{true};
+ghost use mathlib.Core.Logic.{_↔_};
+ghost use Rattle.language.specs.Tree.{Tree};
+ghost use Rattle.language.specs.Language.{Matches};
+ghost use Rattle.marks.specs.Tables.{Prepared, Ready};
+
+// Whether the text is in the language of the tree that the tables are of.
+pub fn text_matches(
+    reach: &[u64],
+    labels: &[u16],
+    runs: &[u8],
+    stands: &[u8],
+    tops: &[u8],
+    count: usize,
+    text: &[u8],
+) -> bool
+    requires { ⌜ Ready (now reach) (now labels) (now runs) (now stands) (now tops) count ⌝ }
+    ensures { λ r. ⌜ ((t : Tree ℕ) → Prepared t (now (reach .entry)) (now (labels .entry)) (now (runs .entry)) (now (stands .entry)) (now (tops .entry)) count → (r ≡ true) ↔ Matches t (now (text .entry))) ⌝ }
+{
+    let mut words = [0u64; 128];
+    let mut yes = begin(reach, labels, runs, stands, tops, count, &mut words);
+    let mut i = 0;
+    while i < text.len() {
+        yes = advance(
+            reach,
+            labels,
+            runs,
+            stands,
+            tops,
+            count,
+            &mut words,
+            text[i],
+        );
+        i += 1;
+    }
+    yes
+}
