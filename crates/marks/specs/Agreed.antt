@@ -30,12 +30,14 @@ Alike (right p) accepting = ⊥
 Alike (right p) (left q) = ⊥
 Alike (right p) (right q) = p ≡ q
 
+-- each state may equal itself
 alike-self : (p : State) → Alike p p
 alike-self start = tt
 alike-self accepting = tt
 alike-self (left p) = refl
 alike-self (right p) = refl
 
+-- equal states begin alike
 alike : {p q : State} → p ≡ q → Alike p q
 alike {p} {q} e = subst (λ (s : State). Alike p s) e (alike-self p)
 
@@ -56,6 +58,7 @@ marked-start (union x y) w i ws = (λ b. b, λ b. b)
 marked-start (star x) w i ws = (λ b. b, λ b. b)
 marked-start (below x) w i ws = (λ b. b, λ b. b)
 
+-- the accepting state of x by its own bit
 marked-accepting : (x : Nested ℕ) (w i : ℕ) (ws : List ℕ) → Marked x w i ws accepting ↔ Bit w (i + number x accepting)
 marked-accepting (leaf a) w i ws = (λ b. b, λ b. b)
 marked-accepting (catenation x y) w i ws = (λ b. b, λ b. b)
@@ -67,6 +70,7 @@ marked-accepting (below x) w i ws = (λ b. b, λ b. b)
 child-start : (x : Nested ℕ) (ws : List ℕ) → Marked x (getD ws 0 0) 0 (drop 1 ws) start ↔ Bit (getD ws 0 0) 0
 child-start x ws = marked-start x (getD ws 0 0) 0 (drop 1 ws)
 
+-- a child piece's accepting state by its own word
 child-accepting : (x : Nested ℕ) (ws : List ℕ) → Marked x (getD ws 0 0) 0 (drop 1 ws) accepting ↔ Bit (getD ws 0 0) (number x accepting)
 child-accepting x ws = iff-trans (marked-accepting x (getD ws 0 0) 0 (drop 1 ws)) (bit-at (getD ws 0 0) (zero-add (number x accepting)))
 

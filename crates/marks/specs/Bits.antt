@@ -33,6 +33,7 @@ bit-half w i = ap (λ (n : ℕ). w / 2 ^ n) (omega arith) ∙ sym (shr-shr w 1 i
 pub bit-zero : (i : ℕ) → Bit 0 i → ⊥
 bit-zero i h = omega (arith, ap (λ (n : ℕ). n % 2) (zero-div (2 ^ i)), h)
 
+-- the parity of two words joined
 parity-or : (a b : ℕ) → bitOr a b % 2 ≡ max (a % 2) (b % 2)
 parity-or a b = ap (λ (n : ℕ). n % 2) (or-step a b) ∙ digits-mod (bitOr (a / 2) (b / 2)) (omega arith)
 
@@ -70,6 +71,7 @@ bit-below h b = something-left h (λ e. omega (arith, ap (λ (m : ℕ). m % 2) e
 pub bit-suc : (w i : ℕ) → Bit w (suc i) ↔ Bit (w / 2) i
 bit-suc w i = (λ b. ap (λ (n : ℕ). n % 2) (sym (bit-half w i)) ∙ b, λ b. ap (λ (n : ℕ). n % 2) (bit-half w i) ∙ b)
 
+-- half of a power of two
 double-half : (j : ℕ) → 2 ^ suc j / 2 ≡ 2 ^ j
 double-half j = omega (arith, pow-suc 2 j)
 
@@ -83,6 +85,7 @@ bit-power (suc j) (suc i) = (
   λ e. bit-suc (2 ^ suc j) i .1 (subst (λ (n : ℕ). Bit n i) (sym (double-half j)) (bit-power j i .1 (omega arith))),
 )
 
+-- a word of no bits is 0
 no-bits : (w : ℕ) → ((i : ℕ) → Bit w i → ⊥) → w ≡ 0
 no-bits =
     bin-ind (λ (w : ℕ). ((i : ℕ) → Bit w i → ⊥) → w ≡ 0) (λ _. refl)

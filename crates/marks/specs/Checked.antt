@@ -61,19 +61,24 @@ pub record Checkable (runs stands tops words : List ℕ) (n : ℕ) : Type 0 wher
 abbrev Fit : Nested ℕ → (w i : ℕ) → List ℕ → Type 0
 Fit x w i ws = Clean-below x ws × Pairs x w i ws
 
+-- with equal words
 fit-at : (x : Nested ℕ) (i : ℕ) {w v : ℕ} {us ws : List ℕ} → w ≡ v → us ≡ ws → Fit x w i us → Fit x v i ws
 fit-at x i e f h = subst₂ (λ (w : ℕ) (ws : List ℕ). Fit x w i ws) e f h
 
+-- the word at the beginning of what is left of the words
 first-left : (l : List ℕ) (k : ℕ) → getD (drop k l) 0 0 ≡ getD l k 0
 first-left l k = getD-drop k l 0 0 ∙ ap (λ (i : ℕ). getD l i 0) (add-zero k)
 
 module _ (tables : Pieces) (words : List ℕ) where
+  -- a child piece agrees with the piece above it
   abbrev At : ℕ → ℕ → Type 0
   At = Agrees-at (tables .stands) (tables .tops) words
 
+  -- a piece's width, by the number of its last state
   topped : (x : Nested ℕ) (k : ℕ) → Piece-at tables x k → getD (tables .tops) k 0 + 1 ≡ width x
   topped x k at = omega (arith, width-two x, at .topped)
 
+  -- the number of its last state is that of its accepting state
   last : (x : Nested ℕ) (k : ℕ) → Piece-at tables x k → getD (tables .tops) k 0 ≡ number x accepting
   last x k at = omega (arith, topped x k at, number-accepting x)
 
@@ -94,11 +99,13 @@ module _ (tables : Pieces) (words : List ℕ) where
     own-word : getD (drop new words) 0 0 ≡ getD words new 0
     own-word = first-left words new
 
+    -- a child piece's own word is right, by the tree
     abbrev Child-fit : Type 0
     Child-fit = (getD (drop new words) 0 0 < 2 ^ width x)
         × (Bit (getD words k 0) i ↔ Bit (getD (drop new words) 0 0) 0)
         × (Bit (getD words k 0) (i + 1) ↔ Bit (getD (drop new words) 0 0) (number x accepting))
 
+    -- by the tables it is right exactly when it is by the tree
     child-fit : At k new ↔ Child-fit
     child-fit = (
       λ h. (
@@ -113,6 +120,7 @@ module _ (tables : Pieces) (words : List ℕ) where
       },
     )
 
+    -- and so with the pieces below it
     below-fit : Every-child At x new (new + 1) ↔ Fit x (getD words new 0) 0 (drop (new + 1) words)
         → (At k new × Every-child At x new (new + 1)) ↔ Fit (below x) (getD words k 0) i (drop new words)
     below-fit f = (
@@ -122,6 +130,7 @@ module _ (tables : Pieces) (words : List ℕ) where
       λ h. (child-fit .1 (h .0 .0, h .1 .0, h .1 .1), f .1 (fit-at x 0 own-word (drop-drop 1 new words) (h .0 .1, h .1 .2))),
     )
 
+  -- every child piece below x is right by the tables exactly when it is by the tree
   every-fit : (x : Nested ℕ) (i k new : ℕ) → Children-at tables x i new → Every-child At x k new ↔ Fit x (getD words k 0) i (drop new words)
   every-fit (leaf a) i k new at = (λ h. (tt, tt), λ h. tt)
   every-fit (catenation x y) i k new at =

@@ -24,9 +24,11 @@ module _ (x y : Nested ℕ) where
   left-label : (p : State) → Own x p → getD (takes (catenation x y)) (1 + number x p) 0 ≡ getD (takes x) (number x p) 0
   left-label p o = two-left 0 0 (takes x) (takes y) (length-takes x) (length-takes y) 0 (number x p) (number-below x p o)
 
+  -- the label of a state of the second part
   right-label : (p : State) → Own y p → getD (takes (catenation x y)) (1 + width x + number y p) 0 ≡ getD (takes y) (number y p) 0
   right-label p o = two-right 0 0 (takes x) (takes y) (length-takes x) (length-takes y) 0 (number y p) (number-below y p o)
 
+  -- the accepting state's label
   end-label : getD (takes (catenation x y)) (1 + width x + width y) 0 ≡ 0
   end-label = two-end 0 0 (takes x) (takes y) (length-takes x) (length-takes y) 0
 
@@ -35,6 +37,7 @@ module _ (x : Nested ℕ) where
   inside-label : (p : State) → Own x p → getD (takes (star x)) (1 + number x p) 0 ≡ getD (takes x) (number x p) 0
   inside-label p o = one-inside 0 0 (takes x) (length-takes x) 0 (number x p) (number-below x p o)
 
+  -- the accepting state's label
   last-label : getD (takes (star x)) (1 + width x) 0 ≡ 0
   last-label = one-end 0 0 (takes x) (length-takes x) 0
 
@@ -46,6 +49,7 @@ module _ (b : ℕ) where
     pub next : number x q ≡ number x p + 1
     pub label : getD (takes x) (number x p) 0 ≡ b + 1
 
+  -- so each transition that reads b does
   pub reads-on : (x : Nested ℕ) {p q : State} → Reads Is-own b (own x) p q → Reads-on x p q
   reads-on (leaf a) (Reads.at-leaf e) = record { from-own = tt; to-own = tt; next = refl; label = ap (λ (n : ℕ). n + 1) e }
   reads-on (catenation x y) (Reads.catenation-left {p = p} r) = let s = reads-on x r in

@@ -31,70 +31,89 @@ neither : {A B : Type 0} → (A → ⊥) → (B → ⊥) → A ↔ B
 neither f g = (λ a. absurd (f a), λ b. absurd (g b))
 
 module _ (b : ℕ) where
-  -- where a transition that reads comes from, by where it leads
+  -- where a transition that reads comes from, by where it leads: into the first part of a catenation
   module _ {s t : Tree (Leaf ℕ)} where
     reads-catenation-left : (p : State) {q : State} → Reads Is-own b (Tree.catenation s t) p (left q) → (r : State) × (p ≡ left r) × Reads Is-own b s r q
     reads-catenation-left p (Reads.catenation-left {p = r} e) = (r, refl, e)
 
+    -- into the second part of a catenation
     reads-catenation-right : (p : State) {q : State} → Reads Is-own b (Tree.catenation s t) p (right q) → (r : State) × (p ≡ right r) × Reads Is-own b t r q
     reads-catenation-right p (Reads.catenation-right {p = r} e) = (r, refl, e)
 
+    -- into the first part of a union
     reads-union-left : (p : State) {q : State} → Reads Is-own b (Tree.union s t) p (left q) → (r : State) × (p ≡ left r) × Reads Is-own b s r q
     reads-union-left p (Reads.union-left {p = r} e) = (r, refl, e)
 
+    -- into the second part of a union
     reads-union-right : (p : State) {q : State} → Reads Is-own b (Tree.union s t) p (right q) → (r : State) × (p ≡ right r) × Reads Is-own b t r q
     reads-union-right p (Reads.union-right {p = r} e) = (r, refl, e)
 
+  -- into a star's operand
   reads-star : {s : Tree (Leaf ℕ)} (p : State) {q : State} → Reads Is-own b (Tree.star s) p (left q) → (r : State) × (p ≡ left r) × Reads Is-own b s r q
   reads-star p (Reads.star-inside {p = r} e) = (r, refl, e)
 
   module _ {x y : Nested ℕ} where
+    -- the same in all pieces: into the first part of a catenation
     in-catenation-left : (p : State) {q : State} → Reading Is b (catenation x y) p (left q) → (r : State) × (p ≡ left r) × Reading Is b x r q
     in-catenation-left p (Reading.catenation-left {p = r} e) = (r, refl, e)
 
+    -- into the second part of a catenation
     in-catenation-right : (p : State) {q : State} → Reading Is b (catenation x y) p (right q) → (r : State) × (p ≡ right r) × Reading Is b y r q
     in-catenation-right p (Reading.catenation-right {p = r} e) = (r, refl, e)
 
+    -- into the first part of a union
     in-union-left : (p : State) {q : State} → Reading Is b (union x y) p (left q) → (r : State) × (p ≡ left r) × Reading Is b x r q
     in-union-left p (Reading.union-left {p = r} e) = (r, refl, e)
 
+    -- into the second part of a union
     in-union-right : (p : State) {q : State} → Reading Is b (union x y) p (right q) → (r : State) × (p ≡ right r) × Reading Is b y r q
     in-union-right p (Reading.union-right {p = r} e) = (r, refl, e)
 
+  -- into a star's operand
   in-star : {x : Nested ℕ} (p : State) {q : State} → Reading Is b (star x) p (left q) → (r : State) × (p ≡ left r) × Reading Is b x r q
   in-star p (Reading.star-inside {p = r} e) = (r, refl, e)
 
+  -- into a child piece
   in-below : {x : Nested ℕ} (p : State) {q : State} → Reading Is b (below x) p (left q) → (r : State) × (p ≡ left r) × Reading Is b x r q
   in-below p (Reading.in-child {p = r} e) = (r, refl, e)
 
-  -- none leads to a start, and none to the accepting state of a node that is no leaf
+  -- none leads to a start
   no-start : {t : Tree (Leaf ℕ)} {p : State} → Reads Is-own b t p start → ⊥
   no-start = elim [ ]
 
+  -- none to the accepting state of a catenation
   no-catenation : {s t : Tree (Leaf ℕ)} {p : State} → Reads Is-own b (Tree.catenation s t) p accepting → ⊥
   no-catenation = elim [ ]
 
+  -- none to that of a union
   no-union : {s t : Tree (Leaf ℕ)} {p : State} → Reads Is-own b (Tree.union s t) p accepting → ⊥
   no-union = elim [ ]
 
+  -- none to that of a star
   no-star : {s : Tree (Leaf ℕ)} {p : State} → Reads Is-own b (Tree.star s) p accepting → ⊥
   no-star = elim [ ]
 
+  -- a stand-in reads no byte
   no-stand-in : {p : State} → Reads Is-own b (Tree.leaf stand-in) p accepting → ⊥
   no-stand-in (Reads.at-leaf e) = e
 
+  -- the same in all pieces: none to a start
   in-no-start : {x : Nested ℕ} {p : State} → Reading Is b x p start → ⊥
   in-no-start = elim [ ]
 
+  -- none to the accepting state of a catenation
   in-no-catenation : {x y : Nested ℕ} {p : State} → Reading Is b (catenation x y) p accepting → ⊥
   in-no-catenation = elim [ ]
 
+  -- none to that of a union
   in-no-union : {x y : Nested ℕ} {p : State} → Reading Is b (union x y) p accepting → ⊥
   in-no-union = elim [ ]
 
+  -- none to that of a star
   in-no-star : {x : Nested ℕ} {p : State} → Reading Is b (star x) p accepting → ⊥
   in-no-star = elim [ ]
 
+  -- none to that of a stand-in
   in-no-below : {x : Nested ℕ} {p : State} → Reading Is b (below x) p accepting → ⊥
   in-no-below = elim [ ]
 
@@ -102,6 +121,7 @@ module _ (b : ℕ) where
   record Shifts (x : Nested ℕ) (i w w′ : ℕ) : Type 0 where
     exactly : (q : State) → Own x q → Bit w′ (i + number x q) ↔ ((p : State) × (Own x p × Bit w (i + number x p)) × Reads Is-own b (own x) p q)
 
+  -- a bit by an equal number
   at : (w : ℕ) {i j : ℕ} → i ≡ j → Bit w i → Bit w j
   at w e c = subst (λ (n : ℕ). Bit w n) e c
 
@@ -131,22 +151,27 @@ module _ (b : ℕ) where
       further : (q : State) → i + k + number x q ≡ i + number z (e q)
       further q = add-assoc i k (number x q) ∙ ap (λ (n : ℕ). i + n) (sym (numbered q))
 
+  -- the first part of a catenation
   catenation-left : {x y : Nested ℕ} {i w w′ : ℕ} → Shifts (catenation x y) i w w′ → Shifts x (i + 1) w w′
   catenation-left {x} {y} =
       part (catenation x y) x left 1 (λ q. refl) (λ q. (λ o. o, λ o. o)) (λ p q. Reads.catenation-left) (λ p q. reads-catenation-left p)
 
+  -- the second part of a catenation
   catenation-right : {x y : Nested ℕ} {i w w′ : ℕ} → Shifts (catenation x y) i w w′ → Shifts y (i + (1 + width x)) w w′
   catenation-right {x} {y} =
       part (catenation x y) y right (1 + width x) (λ q. refl) (λ q. (λ o. o, λ o. o)) (λ p q. Reads.catenation-right) (λ p q. reads-catenation-right p)
 
+  -- the first part of a union
   union-left : {x y : Nested ℕ} {i w w′ : ℕ} → Shifts (union x y) i w w′ → Shifts x (i + 1) w w′
   union-left {x} {y} =
       part (union x y) x left 1 (λ q. refl) (λ q. (λ o. o, λ o. o)) (λ p q. Reads.union-left) (λ p q. reads-union-left p)
 
+  -- the second part of a union
   union-right : {x y : Nested ℕ} {i w w′ : ℕ} → Shifts (union x y) i w w′ → Shifts y (i + (1 + width x)) w w′
   union-right {x} {y} =
       part (union x y) y right (1 + width x) (λ q. refl) (λ q. (λ o. o, λ o. o)) (λ p q. Reads.union-right) (λ p q. reads-union-right p)
 
+  -- a star's operand
   star-inside : {x : Nested ℕ} {i w w′ : ℕ} → Shifts (star x) i w w′ → Shifts x (i + 1) w w′
   star-inside {x} = part (star x) x left 1 (λ q. refl) (λ q. (λ o. o, λ o. o)) (λ p q. Reads.star-inside) (λ p q. reads-star p)
 
@@ -158,16 +183,19 @@ module _ (b : ℕ) where
   Below-moved (star x) ws ws′ = Below-moved x ws ws′
   Below-moved (below x) ws ws′ = Moves x b (getD ws 0 0) (getD ws′ 0 0) × Below-moved x (drop 1 ws) (drop 1 ws′)
 
-  -- no start is marked after a move, nor the accepting state of a node that is no leaf
+  -- no start is marked after a move
   unmarked-start : {x : Nested ℕ} {i w w′ : ℕ} → Shifts x i w w′ → Bit w′ i → ⊥
   unmarked-start {x} {i} {w} {w′} s c = no-start (s .exactly start tt .0 (at w′ (sym (add-zero i)) c) .2)
 
+  -- nor the accepting state of a node that is no leaf
   unmarked-end : {x : Nested ℕ} {i w w′ : ℕ} → ((p : State) → Reads Is-own b (own x) p accepting → ⊥) → Shifts x i w w′ → Bit w′ (i + number x accepting) → ⊥
   unmarked-end never s c = let m = s .exactly accepting tt .0 c in never (m .0) (m .2)
 
+  -- at a leaf it comes from the leaf's start
   reads-leaf : {a : ℕ} {p : State} → Reads Is-own b (Tree.leaf (given a)) p accepting → (p ≡ start) × (a ≡ b)
   reads-leaf (Reads.at-leaf e) = (refl, e)
 
+  -- the same in all pieces: at a leaf it comes from the leaf's start
   in-leaf : {a : ℕ} {p : State} → Reading Is b (leaf a) p accepting → (p ≡ start) × (a ≡ b)
   in-leaf (Reading.at-leaf e) = (refl, e)
 
@@ -252,12 +280,14 @@ first-left : (l : List ℕ) (k : ℕ) → getD (drop k l) 0 0 ≡ getD l k 0
 first-left l k = getD-drop k l 0 0 ∙ ap (λ (i : ℕ). getD l i 0) (add-zero k)
 
 module _ (tables : Pieces) (before after : List ℕ) (b n : ℕ) (rows : Rows (Word-moved (tables .labels) before b) before after 0 n) where
+  -- the word of piece k is moved
   word-moved : (x : Nested ℕ) (k : ℕ) → k < n → Piece-at tables x k → width x ≤ 62 → getD (drop k before) 0 0 < 2 ^ width x
       → Moves x b (getD (drop k before) 0 0) (getD (drop k after) 0 0)
   word-moved x k h at narrow small =
       subst₂ (λ (v w : ℕ). Moves x b v w) (sym (first-left before k)) (ap (λ (i : ℕ). getD after i 0) (zero-add k) ∙ sym (first-left after k))
       (rows .rows k h .moves x narrow (at .labelled) (subst (λ (v : ℕ). v < 2 ^ width x) (first-left before k) small))
 
+  -- the words of the child pieces below x are
   below-moved : (x : Nested ℕ) (i new : ℕ) → Children-at tables x i new → new + run x ≤ n → Narrow-below x → Clean-below x (drop new before)
       → Below-moved b x (drop new before) (drop new after)
   below-moved (leaf a) i new at h narrow clean = tt
@@ -278,6 +308,7 @@ module _ (tables : Pieces) (before after : List ℕ) (b n : ℕ) (rows : Rows (W
         (below-moved x 0 (new + 1) (at .2) (omega arith) (narrow .1) (subst (Clean-below x) (drop-drop 1 new before) (clean .1))),
   )
 
+  -- so the marks are
   marks-moved : (x : Nested ℕ) → Planned tables x → 1 + run x ≤ n → width x ≤ 62 → Narrow-below x → Clean x before → Marks-moved x b before after
   marks-moved x at h narrow-top narrow clean =
       let top = word-moved x 0 (omega arith) (at .0) narrow-top (clean .0) in

@@ -23,6 +23,7 @@ use Rattle.marks.specs.Labels.{reads-on, reads-from}
 pub record Picked (labels : List ℕ) (base label w n r : ℕ) : Type 0 where
   pub exactly : (j : ℕ) → Bit r j ↔ ((j < n) × Bit w j × (getD labels (base + j) 0 ≡ label))
 
+-- at first none are picked
 pub picked-none : (labels : List ℕ) (base label w : ℕ) → Picked labels base label w 0 0
 picked-none labels base label w = record { exactly = λ j. (λ b. absurd (bit-zero j b), λ m. absurd (omega (arith, m .0))) }
 
@@ -62,6 +63,7 @@ bit-up w j =
     half : w * 2 / 2 ≡ w
     half = omega arith
 
+-- the low bit is then clear
 no-bit-up : (w : ℕ) → Bit (w * 2) 0 → ⊥
 no-bit-up w b = omega (arith, bit-low (w * 2), b)
 
@@ -74,9 +76,11 @@ record Comes (x : Nested ℕ) (b w j : ℕ) : Type 0 where
   numbered : number x to ≡ j
   reads : Reads Is-own b (own x) from to
 
+-- that state is one of the piece
 comes-below : {x : Nested ℕ} {b w j : ℕ} → Comes x b w j → j < width x
 comes-below {x} {b} m = omega (arith, number-below x (m .to) (reads-on b x (m .reads) .to-own), m .numbered)
 
+-- so one leads to the state of that number
 comes-to : {x : Nested ℕ} {b w : ℕ} (q : State) → Own x q → Comes x b w (number x q)
     → (p : State) × Own x p × Bit w (number x p) × Reads Is-own b (own x) p q
 comes-to {x} {b} q o m = (

@@ -10,6 +10,7 @@ use Rattle.language.specs.Nested.{Nested, leaf, catenation, union, star, below}
 use Rattle.marks.specs.Words.{width, Own, number}
 use Rattle.marks.specs.Parts.{one-length, one-inside, one-end, two-length, two-left, two-right, two-end, at-start, in-left, in-right, at-end, place}
 
+-- within a list the default does not matter
 any-default : {A : Type 0} (l : List A) (i : ℕ) (d d′ : A) → i < length l → getD l i d ≡ getD l i d′
 any-default [] i d d′ h = absurd (omega arith)
 any-default (a ∷ l) zero d d′ h = refl
@@ -87,6 +88,7 @@ module _ {A : Type 0} where
   length-states (star x) = one-length start accepting (map left (states x)) (length-map (states x) left ∙ length-states x)
   length-states (below x) = refl
 
+  -- seen from the node above, they are as many
   mapped-length : (e : State → State) (x : Nested A) → length (map e (states x)) ≡ width x
   mapped-length e x = length-map (states x) e ∙ length-states x
 
@@ -94,6 +96,7 @@ module _ {A : Type 0} where
   Stands : Nested A → State → Type 0
   Stands x q = getD (states x) (number x q) start ≡ q
 
+  -- seen from the node above, a state stands at the same number
   mapped : (e : State → State) (x : Nested A) (q : State) → Own x q → Stands x q → getD (map e (states x)) (number x q) start ≡ e q
   unfolding Stands
   mapped e x q o h =
@@ -101,21 +104,25 @@ module _ {A : Type 0} where
       ∙ List·getD-map e (states x) (number x q) start ∙ ap e h
 
   module _ (x y : Nested A) where
+    -- the states of a node of two parts
     two-states : List State
     two-states = start ∷ (map left (states x) ++ map right (states y) ++ (accepting ∷ []))
 
+    -- a state of the first part stands at its number
     left-stands : (q : State) → Own x q → Stands x q → getD two-states (1 + number x q) start ≡ left q
     unfolding two-states
     left-stands q o h =
         two-left start accepting (map left (states x)) (map right (states y)) (mapped-length left x) (mapped-length right y) start (number x q) (number-below x q o)
         ∙ mapped left x q o h
 
+    -- a state of the second part does
     right-stands : (q : State) → Own y q → Stands y q → getD two-states (1 + width x + number y q) start ≡ right q
     unfolding two-states
     right-stands q o h =
         two-right start accepting (map left (states x)) (map right (states y)) (mapped-length left x) (mapped-length right y) start (number y q) (number-below y q o)
         ∙ mapped right y q o h
 
+    -- the accepting state does
     end-stands : getD two-states (1 + width x + width y) start ≡ accepting
     unfolding two-states
     end-stands = two-end start accepting (map left (states x)) (map right (states y)) (mapped-length left x) (mapped-length right y) start

@@ -21,6 +21,7 @@ pub not-the-first : (runs : List ℕ) (c at : ℕ) → c < getD runs 0 0 → at 
 not-the-first runs c zero h l = absurd (omega arith)
 not-the-first runs c (suc at) h l = omega arith
 
+-- one piece more is passed
 pub passed : (runs : List ℕ) (c at : ℕ) → at + getD runs at 0 ≤ c → ((m : ℕ) → at < m → m < c → m + getD runs m 0 ≤ c)
     → (m : ℕ) → at - 1 < m → m < c → m + getD runs m 0 ≤ c
 passed runs c at h later m l k = elim (ℕ-discrete m at) [
@@ -74,6 +75,7 @@ module _ (tables : Pieces) where
   hanging-first : {k new : ℕ} (n m : ℕ) → Hanging k new (n + m) → Hanging k new n
   hanging-first n m h = record { after = h .after; inside = omega (arith, h .inside); before = h .before }
 
+  -- those below the rest
   hanging-rest : {k new : ℕ} (x : Nested ℕ) (i m : ℕ) → Children-at tables x i new → Hanging k new (run x + m) → Hanging k (new + run x) m
   hanging-rest {k} {new} x i m at h = record {
     after = omega (arith, h .after);
@@ -84,6 +86,7 @@ module _ (tables : Pieces) where
     ];
   }
 
+  -- those below a child piece
   pub hanging-child : {new : ℕ} (x : Nested ℕ) → Piece-at tables x new → Hanging new (new + 1) (run x)
   hanging-child x at = record { after = omega arith; inside = omega (arith, at .ran); before = λ m l s. absurd (omega arith) }
 

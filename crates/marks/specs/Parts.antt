@@ -15,12 +15,15 @@ module _ {A : Type 0} (s e : A) (a : List A) {m : ℕ} (hm : length a ≡ m) whe
   one-length = simp (length-append, hm) (omega arith)
 
   module _ (d : A) where
+    -- past the start, the list is one place on
     shifted : (i k : ℕ) → 1 + i ≡ suc k → getD (s ∷ (a ++ (e ∷ []))) (1 + i) d ≡ getD (a ++ (e ∷ [])) k d
     shifted i k h = ap (λ (j : ℕ). getD (s ∷ (a ++ (e ∷ []))) j d) h
 
+    -- an entry of the part
     pub one-inside : (i : ℕ) → i < m → getD (s ∷ (a ++ (e ∷ []))) (1 + i) d ≡ getD a i d
     one-inside i h = shifted i i (omega arith) ∙ List·getD-append a (e ∷ []) d i (omega arith)
 
+    -- the accepting state's entry
     pub one-end : getD (s ∷ (a ++ (e ∷ []))) (1 + m) d ≡ e
     one-end = shifted m (length a) (omega arith) ∙ getD-append-seam a e [] d
 
@@ -29,21 +32,26 @@ module _ {A : Type 0} (s e : A) (a b : List A) {m n : ℕ} (hm : length a ≡ m)
   both : length (a ++ b) ≡ m + n
   both = simp (length-append, hm, hn)
 
+  -- as many as both parts have, and two
   pub two-length : length (s ∷ (a ++ b ++ (e ∷ []))) ≡ 1 + m + n + 1
   two-length = one-length s e (a ++ b) both ∙ omega arith
 
   module _ (d : A) where
+    -- an entry of the first part
     pub two-left : (i : ℕ) → i < m → getD (s ∷ (a ++ b ++ (e ∷ []))) (1 + i) d ≡ getD a i d
     two-left i h = one-inside s e (a ++ b) both d i (omega arith) ∙ List·getD-append a b d i (omega arith)
 
+    -- at an equal place stands the same
     moved : (j k : ℕ) → j ≡ k → getD (s ∷ (a ++ b ++ (e ∷ []))) j d ≡ getD (s ∷ (a ++ b ++ (e ∷ []))) k d
     moved j k = ap (λ (i : ℕ). getD (s ∷ (a ++ b ++ (e ∷ []))) i d)
 
+    -- an entry of the second part
     pub two-right : (i : ℕ) → i < n → getD (s ∷ (a ++ b ++ (e ∷ []))) (1 + m + i) d ≡ getD b i d
     two-right i h =
         moved (1 + m + i) (1 + (length a + i)) (omega arith)
         ∙ one-inside s e (a ++ b) both d (length a + i) (omega arith) ∙ getD-append-add a b i d
 
+    -- the accepting state's entry
     pub two-end : getD (s ∷ (a ++ b ++ (e ∷ []))) (1 + m + n) d ≡ e
     two-end = moved (1 + m + n) (1 + (m + n)) (omega arith) ∙ one-end s e (a ++ b) both d
 
@@ -54,6 +62,7 @@ pub data Place (m n i : ℕ) : Type 0 where
   in-right : (j : ℕ) → j < n → 1 + m + j ≡ i → Place m n i
   at-end : 1 + m + n ≡ i → Place m n i
 
+-- each number falls in one of them
 pub place : (m n i : ℕ) → i < 1 + m + n + 1 → Place m n i
 place m n zero h = at-start refl
 place m n (suc i) h = elim (decLt i m) [

@@ -41,6 +41,7 @@ module _ (x : Nested ℕ) where
   pub Reached : ℕ → ℕ → Type 0
   Reached i j = (p : State) × (q : State) × Own x p × Own x q × (number x p ≡ i) × (number x q ≡ j) × Path-of (Empty (own x)) p q
 
+  -- what is reached from what is reached is reached
   reached-on : (i j k : ℕ) → Reached i j → Reached j k → Reached i k
   unfolding Reached
   reached-on i j k a b = (
@@ -118,6 +119,7 @@ pub record Closed-rows (before after : List ℕ) (piece n : ℕ) : Type 0 where
   pub others : (e : ℕ) → (e < 64 * piece) ⊎ (64 * piece + n ≤ e) → getD after e 0 ≡ getD before e 0
 
 module _ {before after : List ℕ} {piece n : ℕ} where
+  -- with the own bits set, no state is let in yet
   pub closing-begun : Rows (With-own before (64 * piece)) before after (64 * piece) n → Closing-rows before after piece n 0
   closing-begun rows = record {
     same-length = rows .same-length;
@@ -127,6 +129,7 @@ module _ {before after : List ℕ} {piece n : ℕ} where
     others = rows .others;
   }
 
+  -- one state more is let in
   pub closing-on : {k : ℕ} {next : List ℕ} → k < n → Closing-rows before after piece n k
       → Rows (Let-in after (64 * piece) k) after next (64 * piece) n → Closing-rows before next piece n (k + 1)
   closing-on h so-far rows = record {
@@ -135,6 +138,7 @@ module _ {before after : List ℕ} {piece n : ℕ} where
     others = λ e l. rows .others e l ∙ so-far .others e l;
   }
 
+  -- with all states let in, what is reached is held
   pub closing-ended : {k : ℕ} → k ≡ n → Closing-rows before after piece n k → Closed-rows before after piece n
   closing-ended {k} e done = record {
     same-length = done .same-length;

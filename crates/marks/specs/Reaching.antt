@@ -28,6 +28,7 @@ via-kept {before} {after} {base} {via} {n} so-far = elim (decLt via n) [
 ]
 
 module _ {before after : List ℕ} {base via n : ℕ} (so-far : Rows (Let-in before base via) before after base n) where
+  -- the next row is as before
   as-before : getD after (base + n) 0 ≡ getD before (base + n) 0
   as-before = so-far .others (base + n) (inr (omega arith))
 
@@ -68,9 +69,11 @@ let-in-bits {before} {base} {via} {i} {w} l j = elim (dec-bit (getD before (base
 -- letting `via` in between, seen as a relation: what is closed under the states below it is then closed under it too
 module _ (R : ℕ → ℕ → Type 0) (n via : ℕ) (h : via < n)
     (closed : (i m j : ℕ) → i < n → m < via → R i m → R m j → R i j) where
+  -- what holds after it is let in
   abbrev More : ℕ → ℕ → Type 0
   More i j = R i j ⊎ (R i via × R via j)
 
+  -- it is closed under one state more
   more : (i m j : ℕ) → i < n → m < via + 1 → More i m → More m j → More i j
   more i m j l k a b = elim (decLt m via) [
     | yes s ↦ ⊎-elim

@@ -20,6 +20,7 @@ pub record Closing-pieces (tops before after : List ℕ) (n : ℕ) : Type 0 wher
   pub reached : (k : ℕ) → k < n → (x : Nested ℕ) → width x ≡ getD tops k 0 + 1 → Nexts x (row before k (width x)) → Reaches x (row after k (width x))
   pub others : (e : ℕ) → 64 * n ≤ e → getD after e 0 ≡ getD before e 0
 
+-- at first no piece is closed
 pub closing-none : (tops before : List ℕ) → Closing-pieces tops before before 0
 closing-none tops before = record { same-length = refl; reached = λ k h. absurd (omega arith); others = λ e _. refl }
 
@@ -50,9 +51,11 @@ pub record Closed-all (tops before after : List ℕ) (n : ℕ) : Type 0 where
   pub others : (e : ℕ) → 64 * n ≤ e → getD after e 0 ≡ getD before e 0
 
 module _ (tables : Pieces) {before after : List ℕ} {n : ℕ} (done : Closing-pieces (tables .tops) before after n) where
+  -- a piece's width, by the number of its last state
   topped-width : (x : Nested ℕ) (k : ℕ) → Piece-at tables x k → width x ≡ getD (tables .tops) k 0 + 1
   topped-width x k at = omega (arith, width-two x, at .topped)
 
+  -- every child piece is closed
   each-below : (x : Nested ℕ) (i new : ℕ) → Children-at tables x i new → new + run x ≤ n → Each-below Nexts before x new → Each-below Reaches after x new
   each-below (leaf a) i new at h given = tt
   each-below (catenation x y) i new at h given =
@@ -63,9 +66,11 @@ module _ (tables : Pieces) {before after : List ℕ} {n : ℕ} (done : Closing-p
   each-below (below x) i new at h given =
       (done .reached new (omega arith) x (topped-width x new (at .1)) (given .0), each-below x 0 (new + 1) (at .2) (omega arith) (given .1))
 
+  -- every piece is closed
   each : (x : Nested ℕ) → Planned tables x → 1 + run x ≤ n → Each Nexts before x → Each Reaches after x
   each x at h given = (done .reached 0 (omega arith) x (topped-width x 0 (at .0)) (given .0), each-below x 0 1 (at .1) h (given .1))
 
+-- with all pieces closed, the table holds what is reached
 pub closing-all : {tops before after : List ℕ} {n m : ℕ} → m ≡ n → Closing-pieces tops before after m → Closed-all tops before after n
 closing-all {tops} {before} {after} {n} e done = record {
   same-length = done .same-length;

@@ -40,9 +40,11 @@ module _ (s e : ℕ) (x y : Nested ℕ) (i j m n : ℕ) where
   left-word : (p : State) → Own x p → getD (s ∷ (nexts x i m ++ nexts y j n ++ (e ∷ []))) (1 + number x p) 0 ≡ getD (nexts x i m) (number x p) 0
   left-word p o = two-left s e (nexts x i m) (nexts y j n) (length-nexts x i m) (length-nexts y j n) 0 (number x p) (number-below x p o)
 
+  -- the word of a state of the second part
   right-word : (p : State) → Own y p → getD (s ∷ (nexts x i m ++ nexts y j n ++ (e ∷ []))) (1 + width x + number y p) 0 ≡ getD (nexts y j n) (number y p) 0
   right-word p o = two-right s e (nexts x i m) (nexts y j n) (length-nexts x i m) (length-nexts y j n) 0 (number y p) (number-below y p o)
 
+  -- the accepting state's word
   end-word : getD (s ∷ (nexts x i m ++ nexts y j n ++ (e ∷ []))) (1 + width x + width y) 0 ≡ e
   end-word = two-end s e (nexts x i m) (nexts y j n) (length-nexts x i m) (length-nexts y j n) 0
 
@@ -51,6 +53,7 @@ module _ (s e : ℕ) (x : Nested ℕ) (i m : ℕ) where
   inside-word : (p : State) → Own x p → getD (s ∷ (nexts x i m ++ (e ∷ []))) (1 + number x p) 0 ≡ getD (nexts x i m) (number x p) 0
   inside-word p o = one-inside s e (nexts x i m) (length-nexts x i m) 0 (number x p) (number-below x p o)
 
+  -- the accepting state's word
   last-word : getD (s ∷ (nexts x i m ++ (e ∷ []))) (1 + width x) 0 ≡ e
   last-word = one-end s e (nexts x i m) (length-nexts x i m) 0
 
@@ -58,6 +61,7 @@ module _ (s e : ℕ) (x : Nested ℕ) (i m : ℕ) where
 abbrev Out : Nested ℕ → ℕ → ℕ → State → ℕ → Type 0
 Out x i exit p j = ((q : State) × Own x q × (i + number x q ≡ j) × Empty (own x) p q) ⊎ ((p ≡ accepting) × Bit exit j)
 
+-- equal words have the same bits
 same-bit : {v w : ℕ} (j : ℕ) → v ≡ w → Bit v j → Bit w j
 same-bit j e b = subst (λ (v : ℕ). Bit v j) e b
 
