@@ -10,8 +10,8 @@ use lib.Dec.{eqb}
 use lib.ListN.{length, getD, set}
 use lib.Seq.{getD-set-same, getD-set-other}
 use Rattle.language.specs.Nested.{Nested, leaf, catenation, union, star, below}
-use Rattle.marks.specs.Words.{width, run}
-use Rattle.marks.specs.Standing.{size, size-positive, Spot, spot, tree, first, Plain, Fine, child-fine, catenation-left, catenation-right, union-left, union-right, operand, under, leaf-shows, catenation-shows, union-shows, star-shows, piece-shows, within, in-fine, Node-at, node-at}
+use Rattle.marks.specs.Words.{run}
+use Rattle.marks.specs.Standing.{size, size-positive, Spot, spot, tree, first, Plain, Fine, child-fine, catenation-left, catenation-right, union-left, union-right, operand, under, leaf-shows, catenation-shows, union-shows, star-shows, piece-shows, within, in-fine, node-at}
 use Rattle.marks.specs.Filling.{cond-equal, cond-different}
 use Rattle.marks.specs.Walking.{own-piece, kind-of, left-of, right-of}
 
@@ -35,11 +35,13 @@ abbrev pub adds : List ℕ → List ℕ → (child p : ℕ) → ℕ
 adds list counts child p = getD counts child 0 + cond (eqb (own-piece list child) p) 0 1
 
 module _ {list counts : List ℕ} {j : ℕ} (counted : Counted list counts j) where
+  -- a child in its parent's piece adds the pieces below it
   plain-adds : {f p n i : ℕ} (x : Nested ℕ) → Plain x → Fine list (spot x f p n i) → (child : ℕ) → child + 1 ≡ f + size x → child < j → adds list counts child p ≡ run x
   plain-adds {p = p} x plain h child e before =
       let same = cond-equal (own-piece list child) p 0 1 (piece-shows x plain h child e) in
       omega (arith, counted .each child before _ h plain e)
 
+  -- a child piece adds itself too
   child-adds : {f p n i : ℕ} (x : Nested ℕ) → Fine list (spot x f p n i) → (child : ℕ) → child + 1 ≡ f + size x → child < j → adds list counts child p ≡ run x
   child-adds (leaf a) h child e before = plain-adds (leaf a) tt h child e before
   child-adds (catenation x y) h child e before = plain-adds (catenation x y) tt h child e before
@@ -56,6 +58,7 @@ module _ {list counts : List ℕ} {j : ℕ} (counted : Counted list counts j) wh
   kid-adds x h child e before = child-adds x h child (omega (arith, size-positive x)) (omega (arith, size-positive x))
 
 module _ {list counts : List ℕ} {node : ℕ} (counted : Counted list counts node) where
+  -- there are none below a leaf
   pub runs-leaf : kind-of list node ≡ 1 → Runs list node 0
   runs-leaf kind (spot (leaf a) f p n i) h plain e = refl
   runs-leaf kind (spot (catenation x y) f p n i) h plain e = absurd (omega (arith, catenation-shows h node e .kind-byte))
@@ -66,6 +69,7 @@ module _ {list counts : List ℕ} {node : ℕ} (counted : Counted list counts no
   adds-at : (child p q k : ℕ) → p ≡ q → adds list counts child q ≡ k → adds list counts child p ≡ k
   adds-at child p q k same e = ap (λ (m : ℕ). adds list counts child m) same ∙ e
 
+  -- below a star there are those that its operand adds
   pub runs-star : kind-of list node ≡ 4 → Runs list node (adds list counts (left-of list node) (own-piece list node))
   runs-star kind (spot (leaf a) f p n i) h plain e = absurd (omega (arith, leaf-shows h node e .kind-byte))
   runs-star kind (spot (catenation x y) f p n i) h plain e = absurd (omega (arith, catenation-shows h node e .kind-byte))
@@ -75,6 +79,7 @@ module _ {list counts : List ℕ} {node : ℕ} (counted : Counted list counts no
       adds-at _ _ p _ (shown .piece-word) (kid-adds counted x (child-fine operand h) _ (shown .left-word) (omega arith))
   runs-star kind (spot (below x) f p n i) h plain e = absurd plain
 
+  -- below a node with two children, those that both add
   pub runs-two : (kind-of list node ≡ 1 → ⊥) → (kind-of list node ≡ 4 → ⊥)
       → Runs list node (adds list counts (left-of list node) (own-piece list node) + adds list counts (right-of list node) (own-piece list node))
   runs-two kind other (spot (leaf a) f p n i) h plain e = absurd (kind (leaf-shows h node e .kind-byte))
@@ -100,12 +105,14 @@ pub record Kids-listed (list : List ℕ) (node child : ℕ) : Type 0 where
   pub earlier : child < node
   pub inside : 8 * child + 8 ≤ length list
 
+-- a node's record is in the list
 pub node-listed : {list : List ℕ} {node : ℕ} → Node list node → (8 * node + 8 ≤ length list) × (node < 1920)
 node-listed h = omega (arith, within (h .fine), h .is-root, h .fine .short)
 
 kid-listed : {list : List ℕ} {node : ℕ} → Node list node → (child : ℕ) → child < node → Kids-listed list node child
 kid-listed h child low = record { earlier = low; inside = omega (arith, node-listed h) }
 
+-- the left or only child's record is in the list, before its parent's
 pub left-listed : {list : List ℕ} {node : ℕ} → Node list node → (kind-of list node ≡ 1 → ⊥) → Kids-listed list node (left-of list node)
 left-listed {list} {node} h kind = kid-listed h _ (low (h .at) (h .fine) (h .plain) (h .is-root))
   where
@@ -116,6 +123,7 @@ left-listed {list} {node} h kind = kid-listed h _ (low (h .at) (h .fine) (h .pla
     low (spot (star x) f p n i) g plain e = omega (arith, star-shows g node e .left-word, size-positive x)
     low (spot (below x) f p n i) g plain e = absurd plain
 
+-- and so is the right child's
 pub right-listed : {list : List ℕ} {node : ℕ} → Node list node → (kind-of list node ≡ 1 → ⊥) → (kind-of list node ≡ 4 → ⊥) → Kids-listed list node (right-of list node)
 right-listed {list} {node} h kind other = kid-listed h _ (low (h .at) (h .fine) (h .plain) (h .is-root))
   where
@@ -137,6 +145,7 @@ counted-more {list} {counts} {j} {r} counted more fits = record {
       ];
 }
 
+-- what a child adds, by whether its piece is its parent's
 pub adds-same : (list counts : List ℕ) (child p own : ℕ) → own ≡ own-piece list child → own ≡ p → adds list counts child p ≡ getD counts child 0
 adds-same list counts child p own shown same = omega (arith, cond-equal (own-piece list child) p 0 1 (sym shown ∙ same))
 
@@ -174,11 +183,14 @@ node-of h node low =
     let found = node-at x 0 0 1 0 node (omega arith) (omega (arith, top .all)) in
     record { at = found .at; fine = in-fine (found .inside) (top .fine); plain = found .plain; is-root = found .is-root }
 
+-- there are fewer than 128 pieces below a node
 pub few-runs : {list : List ℕ} {node r : ℕ} → Node list node → Runs list node r → r < 128
 few-runs h runs = omega (arith, runs (h .at) (h .fine) (h .plain) (h .is-root), h .fine .few, h .fine .later)
 
+-- a list has at most 1,920 records
 pub few-records : {list : List ℕ} → Listed list → length list / 8 ≤ 1920
 few-records h = omega (arith, h .top .all, h .top .fine .short)
 
+-- nothing has been counted yet
 pub counted-none : (list counts : List ℕ) → Counted list counts 0
 counted-none list counts = record { each = λ k low. absurd (omega arith) }

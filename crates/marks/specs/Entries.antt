@@ -1,6 +1,6 @@
 -- Parts of a table, entry by entry, and the rows that a piece's nodes have there.
 -- Assumes nothing.
-use Prim.Native.Nat.{ℕ, zero, suc, _+_, _*_, _-_, _^_, _≤_, _<_}
+use Prim.Native.Nat.{ℕ, suc, _+_, _^_, _≤_, _<_}
 use mathlib.Core.Path.{_≡_, refl, sym, ap, subst, _∙_}
 use mathlib.Core.List.{List, [], _∷_, _++_}
 use native.Mathlib.Omega.{arith}
@@ -16,9 +16,11 @@ pub data Lies (table : List ℕ) : ℕ → List ℕ → Type 0 where
   ends : {at : ℕ} → Lies table at []
   entry : {at v : ℕ} {l : List ℕ} → getD table at 0 ≡ v → Lies table (at + 1) l → Lies table at (v ∷ l)
 
+-- told with another form of the place
 pub lies-at : {table : List ℕ} {at to : ℕ} {l : List ℕ} → Lies table at l → at ≡ to → Lies table to l
 lies-at {table} {l = l} h e = subst (λ (k : ℕ). Lies table k l) e h
 
+-- told with another form of the list
 pub lies-is : {table : List ℕ} {at : ℕ} {l m : List ℕ} → Lies table at l → l ≡ m → Lies table at m
 lies-is {table} {at} h e = subst (λ (k : List ℕ). Lies table at k) e h
 
@@ -49,6 +51,7 @@ fronts (union x y) i = (2 ^ (i + 1) + 2 ^ (i + (1 + width x))) ∷ (nexts x (i +
 fronts (star x) i = (2 ^ (i + 1) + 2 ^ (i + (1 + width x))) ∷ nexts x (i + 1) (2 ^ (i + 1) + 2 ^ (i + (1 + width x)))
 fronts (below x) i = 0 ∷ []
 
+-- the word of the accepting state comes last
 pub nexts-fronts : (x : Nested ℕ) (i exit : ℕ) → nexts x i exit ≡ fronts x i ++ (exit ∷ [])
 nexts-fronts (leaf a) i exit = refl
 nexts-fronts (catenation x y) i exit = refl
@@ -64,6 +67,7 @@ length-nexts (union x y) i exit = let e = length-nexts x in let g = length-nexts
 length-nexts (star x) i exit = let e = length-nexts x in simp (length-append, e) (omega arith)
 length-nexts (below x) i exit = refl
 
+-- one word for each state but the accepting one
 pub length-fronts : (x : Nested ℕ) (i : ℕ) → length (fronts x i) + 1 ≡ width x
 length-fronts x i = sym (length-append (fronts x i) (0 ∷ [])) ∙ ap length (sym (nexts-fronts x i 0)) ∙ length-nexts x i 0
 
@@ -88,17 +92,18 @@ abbrev pub thrice : List ℕ → (a b c u v w : ℕ) → List ℕ
 thrice table a b c u v w = set (set (set table a u) b v) c w
 
 module _ (table : List ℕ) (a b c u v w : ℕ) where
-  pub thrice-length : length (thrice table a b c u v w) ≡ length table
-  thrice-length = simp length-set
-
+  -- an entry that was not set
   pub thrice-other : (j : ℕ) → (j ≡ a → ⊥) → (j ≡ b → ⊥) → (j ≡ c → ⊥) → getD (thrice table a b c u v w) j 0 ≡ getD table j 0
   thrice-other j not-a not-b not-c = getD-set-other (set (set table a u) b v) c j w 0 not-c ∙ getD-set-other (set table a u) b j v 0 not-b ∙ getD-set-other table a j u 0 not-a
 
+  -- the entry set first, where it was not set again
   pub thrice-first : a < length table → (a ≡ b → ⊥) → (a ≡ c → ⊥) → getD (thrice table a b c u v w) a 0 ≡ u
   thrice-first fits not-b not-c = getD-set-other (set (set table a u) b v) c a w 0 not-c ∙ getD-set-other (set table a u) b a v 0 not-b ∙ getD-set-same table a u 0 fits
 
+  -- the entry set second
   pub thrice-second : b < length table → (b ≡ c → ⊥) → getD (thrice table a b c u v w) b 0 ≡ v
   thrice-second fits not-c = getD-set-other (set (set table a u) b v) c b w 0 not-c ∙ getD-set-same (set table a u) b v 0 (simp length-set fits)
 
+  -- the entry set last
   pub thrice-third : c < length table → getD (thrice table a b c u v w) c 0 ≡ w
   thrice-third fits = getD-set-same (set (set table a u) b v) c w 0 (simp length-set fits)

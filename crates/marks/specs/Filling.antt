@@ -1,6 +1,6 @@
 -- What filling a node's part of its piece's row makes of the tables, from the parts of its children.
 -- Assumes nothing.
-use Prim.Native.Nat.{ℕ, zero, suc, _+_, _*_, _-_, _^_, _≤_, _<_}
+use Prim.Native.Nat.{ℕ, _+_, _*_, _-_, _^_, _<_}
 use mathlib.Core.Path.{_≡_, refl, sym, ap, subst, _∙_}
 use mathlib.Core.Bool.{cond}
 use mathlib.Core.Logic.{_⊎_, inl, inr, ⊎-elim}
@@ -15,7 +15,7 @@ use Rattle.marks.specs.Words.{width, run}
 use Rattle.marks.specs.Plan
 use Rattle.marks.specs.Plan.{takes}
 use Rattle.marks.specs.Entries.{Lies, ends, entry, lies-at, lies-is, lies-append, lies-same, fronts, nexts-fronts, length-nexts, length-fronts, length-takes, wide, thrice, thrice-other, thrice-first, thrice-second, thrice-third}
-use Rattle.marks.specs.Standing.{size, Spot, spot, tree, first, piece, new, number, Child, catenation-left, catenation-right, union-left, union-right, operand, under, In, here, step, Plain, Fine, child-fine, piece-grows, Reaches-piece, in-reaches, Stand-in, stand-in, stand-in-reaches}
+use Rattle.marks.specs.Standing.{size, Spot, spot, tree, first, piece, number, Child, catenation-left, catenation-right, union-left, union-right, operand, under, In, here, step, Plain, Fine, child-fine, piece-grows, Reaches-piece, in-reaches, Stand-in, stand-in, stand-in-reaches}
 
 -- the tables while they are filled: `roots` has the root's record number of each child piece met so far
 pub record Tables : Type 0 where
@@ -24,9 +24,11 @@ pub record Tables : Type 0 where
   pub stands : List ℕ
   pub roots : List ℕ
 
+-- the tables of these lists
 abbrev pub tables : (nexts labels stands roots : List ℕ) → Tables
 tables a b c d = record { nexts = a; labels = b; stands = c; roots = d }
 
+-- tables with the same words and labels
 pub tables-same : {a b : List ℕ} {c d : List ℕ} (stands roots : List ℕ) → a ≡ b → c ≡ d → tables a c stands roots ≡ tables b d stands roots
 tables-same stands roots p q = λ i. tables (p i) (q i) stands roots
 
@@ -68,6 +70,7 @@ pub record Filled (s : Spot) (t after : Tables) (end : ℕ) : Type 0 where
 abbrev pub two-entries : Tables → (at label : ℕ) → Tables
 two-entries t at label = tables (set (t .nexts) at 0) (set (set (t .labels) at label) (at + 1) 0) (t .stands) (t .roots)
 
+-- the two labels of a leaf, and that what comes before them is as it was
 labels-lie : (table : List ℕ) (at label : ℕ) → at + 1 < length table → Lies (set (set table at label) (at + 1) 0) at (label ∷ 0 ∷ [])
 labels-lie table at label fits =
     entry (getD-set-other (set table at label) (at + 1) at 0 0 (λ e. omega arith) ∙ getD-set-same table at label 0 (omega arith))
@@ -80,6 +83,7 @@ labels-before table at label j low = getD-set-other (set table at label) (at + 1
 plain-no-stand-in : {u : Spot} {k : ℕ} → Plain (tree u) → Stand-in u k → ⊥
 plain-no-stand-in plain stand-in = plain
 
+-- no stand-in is at or below a leaf
 no-stand-in-at-leaf : {a f p n i : ℕ} {u : Spot} {k : ℕ} → In (spot (leaf a) f p n i) u → Stand-in u k → ⊥
 no-stand-in-at-leaf here m = plain-no-stand-in tt m
 
@@ -102,6 +106,7 @@ fill-leaf {a = a} {p = p} {i = i} h t room =
 abbrev pub stand-entries : Tables → (at k i node : ℕ) → Tables
 stand-entries t at k i node = tables (set (t .nexts) at 0) (set (set (t .labels) at 0) (at + 1) 0) (set (t .stands) k i) (set (t .roots) k node)
 
+-- a stand-in's own child piece is told of
 stand-placed : {list : List ℕ} {x : Nested ℕ} {f p n i : ℕ} → Fine list (spot (below x) f p n i) → (t : Tables) → Room t → (node : ℕ) → node + 1 ≡ f + size x
     → {u : Spot} {k : ℕ} → In (spot (below x) f p n i) u → Stand-in u k → piece u ≡ p → Placed (stand-entries t (64 * p + i) n i node) u k
 stand-placed {x = x} {n = n} {i = i} h t room node at here stand-in e =
@@ -131,6 +136,7 @@ fill-stand {x = x} {f = f} {p = p} {n = n} {i = i} h t room node at =
           record { stand = getD-set-other (t .stands) n k i 0 other; root = getD-set-other (t .roots) n k node 0 other };
     }
 
+-- a choice by whether two numbers are the same
 pub cond-equal : (a b x y : ℕ) → a ≡ b → cond (eqb a b) x y ≡ x
 cond-equal a b x y e = ap (λ c. cond c x y) (eq-eqb a b e)
 
@@ -173,6 +179,7 @@ pub record Joint (kind : ℕ) (s l r : Spot) : Type 0 where
   pub either : (u : Spot) (k : ℕ) → In s u → Stand-in u k → In l u ⊎ In r u
   pub apart : (k : ℕ) → Reaches-piece l k → Reaches-piece r k → ⊥
 
+-- a stand-in below a node with two children is below one of them
 either-catenation : {x y : Nested ℕ} {f p n i : ℕ} {u : Spot} {k : ℕ} → In (spot (catenation x y) f p n i) u → Stand-in u k
     → In (spot x f p n (i + 1)) u ⊎ In (spot y (f + size x) p (n + run x) (i + (1 + width x))) u
 either-catenation here s = absurd (plain-no-stand-in tt s)
@@ -186,6 +193,7 @@ either-union (step union-left m) s = inl m
 either-union (step union-right m) s = inr m
 
 module _ {x y : Nested ℕ} {f p n i : ℕ} where
+  -- catenations and unions are such nodes
   pub catenation-joint : Joint 2 (spot (catenation x y) f p n i) (spot x f p n (i + 1)) (spot y (f + size x) p (n + run x) (i + (1 + width x)))
   catenation-joint = record {
     left = catenation-left;
@@ -230,9 +238,11 @@ labels-last table a b fits = getD-set-same (set table a 0) b 0 0 (simp length-se
 up : {s l u : Spot} {k : ℕ} → Child s l → piece l ≡ piece s → Own-stand-in l u k → Own-stand-in s u k
 up c e m = record { inside = step c (m .inside); stands-for = m .stands-for; same-piece = m .same-piece ∙ e }
 
+-- and one that is below the child is one of the child
 down : {s l u : Spot} {k : ℕ} → piece l ≡ piece s → In l u → Own-stand-in s u k → Own-stand-in l u k
 down e inside m = record { inside = inside; stands-for = m .stands-for; same-piece = m .same-piece ∙ sym e }
 
+-- what is told of a child piece stands while nothing of it changes
 pub still-placed : {t after : Tables} {u : Spot} {k : ℕ} → Placed t u k → Same-place t after k → Placed after u k
 still-placed p e = record { stand = e .stand ∙ p .stand; root = ap (λ (n : ℕ). n + 1) (e .root) ∙ p .root }
 
@@ -240,6 +250,7 @@ both-same : {t mid after : Tables} {k : ℕ} → Same-place t mid k → Same-pla
 both-same a b = record { stand = b .stand ∙ a .stand; root = b .root ∙ a .root }
 
 module _ {list : List ℕ} {kind : ℕ} {s l r : Spot} (j : Joint kind s l r) (h : Fine list s) (t mid after : Tables) (room : Room after) (middle last : ℕ) (a : Filled l t mid middle) (b : Filled r mid after last) where
+  -- what the children's parts tell of child pieces stands
   two-placed : (u : Spot) (k : ℕ) → Own-stand-in s u k → Placed after u k
   two-placed u k m =
       ⊎-elim
@@ -251,15 +262,18 @@ module _ {list : List ℕ} {kind : ℕ} {s l r : Spot} (j : Joint kind s l r) (h
   two-others : (k : ℕ) → ((u : Spot) → Own-stand-in s u k → ⊥) → Same-place t after k
   two-others k none = both-same (a .others k (λ u w. none u (up (j .left) (j .piece-left) w))) (b .others k (λ u w. none u (up (j .right) (j .piece-right) w)))
 
+  -- the numbers at which the children's parts end
   middle-is : middle ≡ number r
   middle-is = omega (arith, a .ended, j .number-left, j .number-right)
 
   last-is : last ≡ number s + (1 + width (tree l) + width (tree r))
   last-is = omega (arith, b .ended, j .number-right)
 
+  -- where the piece's row begins
   abbrev two-base : ℕ
   two-base = 64 * piece s
 
+  -- the words, from those of the children's parts
   two-words : Lies (joined after two-base kind (number s) middle last .nexts) (two-base + number s) (fronts (tree s) (number s))
   two-words =
       let e = middle-is in
@@ -300,6 +314,7 @@ module _ {list : List ℕ} {kind : ℕ} {s l r : Spot} (j : Joint kind s l r) (h
       ∙ ap (λ (n : ℕ). start-word kind (number s) (number r) ∷ (Plan.nexts (tree l) (number l) (left-exit kind (number s) (number r) n) ++ Plan.nexts (tree r) (number r) (right-exit kind (number s) (number r) n))) g
       ∙ sym (j .words-as))
 
+  -- the labels, from those of the children's parts
   two-leaves : Lies (joined after two-base kind (number s) middle last .labels) (two-base + number s) (takes (tree s))
   two-leaves =
       let e = middle-is in
@@ -354,11 +369,13 @@ module _ {list : List ℕ} {kind : ℕ} {s l r : Spot} (j : Joint kind s l r) (h
         others = λ k none. both-same (two-others k none) (record { stand = refl; root = refl });
       }
 
+-- a stand-in below a star is below its operand
 operand-only : {x : Nested ℕ} {f p n i : ℕ} {u : Spot} {k : ℕ} → In (spot (star x) f p n i) u → Stand-in u k → In (spot x f p n (i + 1)) u
 operand-only here s = absurd (plain-no-stand-in tt s)
 operand-only (step operand m) s = m
 
 module _ {list : List ℕ} {x : Nested ℕ} {f p n i : ℕ} (h : Fine list (spot (star x) f p n i)) (t after : Tables) (room : Room after) (last : ℕ) (a : Filled (spot x f p n (i + 1)) t after last) where
+  -- a star's words, from those of its operand's part
   star-words : Lies (joined after (64 * p) 4 i last last .nexts) (64 * p + i) (fronts (star x) i)
   star-words =
       let few = h .few in
@@ -378,6 +395,7 @@ module _ {list : List ℕ} {x : Nested ℕ} {f p n i : ℕ} (h : Fine list (spot
       lies-is (entry (thrice-first (after .nexts) (64 * p + i) z z w w w (omega arith) (λ same. omega arith) (λ same. omega arith)) part)
       (ap (λ (m : ℕ). (2 ^ (i + 1) + 2 ^ m) ∷ Plan.nexts x (i + 1) (2 ^ (i + 1) + 2 ^ m)) (omega arith))
 
+  -- and its labels
   star-leaves : Lies (joined after (64 * p) 4 i last last .labels) (64 * p + i) (takes (star x))
   star-leaves =
       let few = h .few in

@@ -13,13 +13,13 @@ use Rattle.tree.specs.Records.{Good, piece-count}
 use Rattle.tree.specs.Least.{wanted-fits}
 use Rattle.tree.specs.Bounds.{good-small}
 use Rattle.tree.specs.Nesting.{Small, Every-below, small-pieces}
-use Rattle.marks.specs.Words.{width, run}
+use Rattle.marks.specs.Words.{width}
 use Rattle.marks.specs.Plan.{Planned, Each, Nexts}
 use Rattle.marks.specs.Tables.{cut-up, Roomy}
-use Rattle.marks.specs.Standing.{size, size-positive, size-nest, run-nest, records-listed, listed, length-listed, Plain, Sound, Fine}
-use Rattle.marks.specs.Filling.{Tables, tables}
+use Rattle.marks.specs.Standing.{size, size-positive, size-nest, run-nest, records-listed, listed, length-listed, Plain, Sound}
+use Rattle.marks.specs.Filling.{tables}
 use Rattle.marks.specs.Counting.{Top, Listed, Counted}
-use Rattle.marks.specs.Making.{whole-spot, Made, made-none, made-planned, made-nexts, Making, making-at, Total}
+use Rattle.marks.specs.Making.{whole-spot, made-none, made-planned, made-nexts, Making, making-at, Total}
 
 -- two states for each node of a piece's own tree
 pub width-own : (x : Nested ℕ) → width x ≡ 2 * nodes (own x)
@@ -29,19 +29,23 @@ width-own (union x y) = omega (arith, width-own x, width-own y)
 width-own (star x) = omega (arith, width-own x)
 width-own (below x) = refl
 
+-- a small piece has at most 62 states
 pub small-narrow : (x : Nested ℕ) → Small x → width x ≤ 62
 small-narrow x small = omega (arith, width-own x, small .few-own-nodes)
 
+-- the root of a tree that is cut is a node
 plain-nest : (t : Tree ℕ) (c : Cut t) → Plain (nest t c)
 plain-nest (tree-leaf a) c = tt
 plain-nest (tree-catenation s t) c = tt
 plain-nest (tree-union s t) c = tt
 plain-nest (tree-star s) c = tt
 
+-- below a cut edge stands a small piece
 sound-edge : (b : Bool) (x : Nested ℕ) → Plain x → (Every-below Small x → Sound x) → Every-below Small (edge b x) → Sound (edge b x)
 sound-edge true x plain sound h = (plain, small-narrow x (h .0), sound (h .1))
 sound-edge false x plain sound h = sound h
 
+-- and so below each
 sound-nest : (t : Tree ℕ) (c : Cut t) → Every-below Small (nest t c) → Sound (nest t c)
 sound-nest (tree-leaf a) c h = tt
 sound-nest (tree-catenation s t) c h =
@@ -80,6 +84,7 @@ pub record Laid (t : Tree ℕ) (nexts labels runs stands tops : List ℕ) (count
   pub words : Each Nexts nexts (cut-up t)
   pub counted : count ≡ piece-count t
 
+-- a good list is that of a tree within bounds
 pub good-listed : {list : List ℕ} → Good-list list → Listed list
 good-listed h = record { some = cut-up (h .some); top = good-top (h .good) }
 
@@ -87,6 +92,7 @@ good-listed h = record { some = cut-up (h .some); top = good-top (h .good) }
 last-root : {list : List ℕ} {x : Nested ℕ} → Top list x → length list / 8 - 1 + 1 ≡ size x
 last-root {x = x} top = omega (arith, top .all, size-positive x)
 
+-- it has a record at least
 pub has-records : {list : List ℕ} → Listed list → (1 ≤ length list / 8) × (length list / 8 ≤ 1920)
 has-records h = omega (arith, h .top .all, size-positive (h .some), h .top .fine .short)
 
@@ -96,14 +102,6 @@ total-of counted e f = record {
   counts-all = λ x top.
       omega (arith, last-root top, size-positive x, counted .each _ (omega (arith, last-root top, size-positive x)) (whole-spot x) (top .fine) (top .plain) (last-root top ∙ omega arith));
 }
-
-pub root-runs : {list counts : List ℕ} → Listed list → Counted list counts (length list / 8) → getD counts (length list / 8 - 1) 0 < 128
-root-runs h counted = omega (
-  arith,
-  last-root (h .top),
-  h .top .fine .few,
-  counted .each _ (omega (arith, last-root (h .top), size-positive (h .some))) (whole-spot (h .some)) (h .top .fine) (h .top .plain) (last-root (h .top) ∙ omega arith),
-)
 
 -- before the first piece
 pub making-none : {list counts nexts labels runs stands tops roots : List ℕ} → Listed list → Counted list counts (length list / 8) → length counts ≡ 1920 → Roomy nexts labels runs stands tops → length roots ≡ 128

@@ -2,21 +2,22 @@
 -- Assumes nothing.
 use Prim.Native.Nat.{ℕ, _+_, _*_, _-_, _/_, _≤_, _<_}
 use mathlib.Core.Path.{_≡_, refl, sym, ap, subst, _∙_}
-use mathlib.Core.List.{List, [], _∷_, _++_}
+use mathlib.Core.List.{List}
 use native.Mathlib.Omega.{arith}
 use native.Mathlib.Decide.{decLt}
-use lib.ListN.{length, getD, set, take, drop, length-set}
+use lib.ListN.{length, getD, set, take, drop}
 use lib.Seq.{getD-set-same, getD-set-other}
 use Rattle.language.specs.Nested.{Nested, leaf, catenation, union, star, below}
 use Rattle.marks.specs.Words.{width, run}
 use Rattle.marks.specs.Plan
 use Rattle.marks.specs.Plan.{takes}
 use Rattle.marks.specs.Entries.{Lies, ends, entry, lies-at, lies-is, lies-append, lies-same, lies-row, fronts, nexts-fronts, length-nexts, length-fronts, length-takes, wide}
-use Rattle.marks.specs.Standing.{size, size-positive, Spot, spot, tree, first, piece, new, number, Child, catenation-left, catenation-right, union-left, union-right, operand, under, In, here, step, in-child, Plain, Fine, in-fine, Stand-in, stand-in, stand-in-reaches, Reaches-piece, in-reaches, one-stand-in, Piece-below, piece-below}
-use Rattle.marks.specs.Filling.{Tables, tables, Room, Placed, Same-place, Own-stand-in, Filled, still-placed}
+use Rattle.marks.specs.Standing.{size, Spot, spot, tree, first, piece, number, Child, catenation-left, catenation-right, union-left, union-right, operand, under, In, here, step, in-child, Plain, in-fine, Stand-in, stand-in, stand-in-reaches, in-reaches, one-stand-in, piece-below}
+use Rattle.marks.specs.Filling.{Tables, tables, Room, Placed, Same-place, Filled, still-placed}
 use Rattle.marks.specs.Walking.{Sits, sits, Visited, Ready, filled-ends, room-kept}
 use Rattle.marks.specs.Counting.{Top, Listed, Counted, Node, Runs, node-listed, few-runs}
 
+-- what lies below what lies below a spot
 in-in : {s t u : Spot} → In s t → In t u → In s u
 in-in here m = m
 in-in (step c l) m = step c (in-in l m)
@@ -34,10 +35,12 @@ pub data Head (x : Nested ℕ) : (y : Nested ℕ) (f n : ℕ) → Type 0 where
 abbrev pub head-spot : Nested ℕ → (f n : ℕ) → Spot
 head-spot y f n = spot y f n (n + 1) 0
 
+-- a piece's top lies in the whole tree
 pub head-in : {x y : Nested ℕ} {f n : ℕ} → Head x y f n → In (whole-spot x) (head-spot y f n)
 head-in root = here
 head-in (child m) = in-child m under
 
+-- the piece k of x
 pub record Piece-of (x : Nested ℕ) (k : ℕ) : Type 0 where
   pub top : Nested ℕ
   pub begin : ℕ
@@ -58,6 +61,7 @@ pub record Owner (x : Nested ℕ) (u : Spot) : Type 0 where
   pub head : Head x top begin (piece u)
   pub inside : In (head-spot top begin (piece u)) u
 
+-- a child is in its parent's piece, or is the top of its own
 child-owner : {x : Nested ℕ} {s t : Spot} → Child s t → Owner x s → Owner x t
 child-owner catenation-left o = record { top = o .top; begin = o .begin; head = o .head; inside = in-child (o .inside) catenation-left }
 child-owner catenation-right o = record { top = o .top; begin = o .begin; head = o .head; inside = in-child (o .inside) catenation-right }
@@ -70,6 +74,7 @@ in-owner : {x : Nested ℕ} {s t : Spot} → In s t → Owner x s → Owner x t
 in-owner here o = o
 in-owner (step c m) o = in-owner m (child-owner c o)
 
+-- each spot is in a piece
 pub owner : {x : Nested ℕ} {u : Spot} → In (whole-spot x) u → Owner x u
 owner {x} m = in-owner m (record { top = x; begin = 0; head = root; inside = here })
 
@@ -95,6 +100,7 @@ head-root top made (child m) = made .placed _ _ m stand-in (in-fine m (top .fine
 pub head-sits : {list : List ℕ} {x y : Nested ℕ} {f n : ℕ} {t : Tables} {runs tops : List ℕ} → Top list x → Made x n t runs tops → Head x y f n → Sits list (getD (t .roots) n 0) n 0 (head-spot y f n)
 head-sits top made head = sits (in-fine (head-in head) (top .fine)) (head-root top made head)
 
+-- a piece's top is a node
 head-plain : {list : List ℕ} {x y : Nested ℕ} {f n : ℕ} → Top list x → Head x y f n → Plain y
 head-plain top root = top .plain
 head-plain top (child m) = in-fine m (top .fine) .sound .0
@@ -110,9 +116,11 @@ closed-row t k last = tables (set (t .nexts) (64 * k + last - 1) 0) (t .labels) 
 module _ {list : List ℕ} {x : Nested ℕ} (top : Top list x) (k : ℕ) (inside : k < 1 + run x) {t after : Tables} (full : Room after)
     {runs tops : List ℕ} (runs-room : length runs ≡ 128) (tops-room : length tops ≡ 128) (made : Made x k t runs tops)
     {last r : ℕ} (done : Visited list (getD (t .roots) k 0) k 0 t after last) (counted : Runs list (getD (t .roots) k 0) r) where
+  -- the walk has filled the row of the piece k
   filled : {y : Nested ℕ} {f : ℕ} → Head x y f k → Filled (head-spot y f k) t after last
   filled head = done _ (head-sits top made head)
 
+  -- there is a piece k
   this : Piece-of x k
   this = piece-of x k inside
 
@@ -129,6 +137,7 @@ module _ {list : List ℕ} {x : Nested ℕ} (top : Top list x) (k : ℕ) (inside
       let same : u ≡ v = one-stand-in m (in-in (head-in (this .head)) (own .inside)) s (own .stands-for) in
       omega (arith, ap piece same, own .same-piece))
 
+  -- the stand-ins in the piece k have their places now
   placed-more : (u : Spot) (n : ℕ) → In (whole-spot x) u → Stand-in u n → piece u < k + 1 → Placed after u n
   placed-more u n m s low =
       elim (decLt (piece u) k) [
@@ -141,11 +150,13 @@ module _ {list : List ℕ} {x : Nested ℕ} (top : Top list x) (k : ℕ) (inside
             filled at .placed u n (record { inside = inside-u; stands-for = s; same-piece = same })
       ]
 
+  -- the root's record stays
   rooted-more : getD (after .roots) 0 0 + 1 ≡ size x
   rooted-more =
       let same = this-filled .others 0 (λ v own. omega (arith, in-reaches (in-in (head-in (this .head)) (own .inside)) (stand-in-reaches (own .stands-for)))) in
       ap (λ (n : ℕ). n + 1) (same .root) ∙ made .rooted
 
+  -- the row of the piece k is made
   row-this : {y : Nested ℕ} {f : ℕ} → Head x y f k → Row-made y k (closed-row after k last) (set runs k (r + 1)) (set tops k (last - 1))
   row-this {y} {f} head =
       let part = filled head in
@@ -164,6 +175,7 @@ module _ {list : List ℕ} {x : Nested ℕ} (top : Top list x) (k : ℕ) (inside
         topped = getD-set-same tops k (last - 1) 0 (omega arith) ∙ omega arith;
       }
 
+  -- the rows before it stay
   row-before : {y : Nested ℕ} {f n : ℕ} → Head x y f n → n < k → Row-made y n (closed-row after k last) (set runs k (r + 1)) (set tops k (last - 1))
   row-before {y} {f} {n} head low =
       let part = this-filled in
@@ -195,15 +207,18 @@ module _ {list : List ℕ} {x : Nested ℕ} (top : Top list x) (k : ℕ) (inside
 
 -- when all pieces have been made, the tables are those that are wanted
 module _ {list : List ℕ} {x : Nested ℕ} (top : Top list x) {t : Tables} (room : Room t) {runs tops : List ℕ} (made : Made x (1 + run x) t runs tops) where
+  -- the tables without the words
   abbrev told : Plan.Pieces
   told = record { labels = t .labels; runs = runs; stands = t .stands; tops = tops }
 
+  -- a piece's number is below their count
   head-low : {y : Nested ℕ} {f n : ℕ} → Head x y f n → n < 1 + run x
   head-low root = omega arith
   head-low (child {y = y} {f = f} {p = p} {n = n} {i = i} m) =
       let itself : Stand-in (spot (below y) f p n i) n = stand-in in
       omega (arith, in-reaches m (stand-in-reaches itself))
 
+  -- the tables tell of each piece
   piece-told : {y : Nested ℕ} {f n : ℕ} → Head x y f n → Plan.Piece-at told y n
   piece-told {y} {f} {n} head =
       let row = made .rows head (head-low head) in
@@ -215,6 +230,7 @@ module _ {list : List ℕ} {x : Nested ℕ} (top : Top list x) {t : Tables} (roo
         topped = row .topped;
       }
 
+  -- each piece's row has its words
   words-told : {y : Nested ℕ} {f n : ℕ} → Head x y f n → Plan.Nexts y (Plan.row (t .nexts) n (width y))
   words-told {y} {f} {n} head =
       let row = made .rows head (head-low head) in
@@ -222,6 +238,7 @@ module _ {list : List ℕ} {x : Nested ℕ} (top : Top list x) {t : Tables} (roo
       let small = in-fine (head-in head) (top .fine) in
       subst (λ (k : ℕ). take k (drop (64 * n) (t .nexts)) ≡ Plan.nexts y 0 0) long (lies-row (row .words) (omega (arith, room .of-nexts, small .narrow, small .later, small .few)))
 
+  -- so they do of the child pieces below each spot
   children-told : (y : Nested ℕ) {f p n i : ℕ} → In (whole-spot x) (spot y f p n i) → Plan.Children-at told y i n
   children-told (leaf a) m = tt
   children-told (catenation y z) m = (children-told y (in-child m catenation-left), children-told z (in-child m catenation-right))
@@ -259,6 +276,7 @@ pub record Inside (list : List ℕ) (k : ℕ) : Type 0 where
 
 -- what walking the piece k needs, and what it makes
 module _ {list counts : List ℕ} {k : ℕ} {t : Tables} {runs tops : List ℕ} (making : Making list counts k t runs tops) (inside : Inside list k) where
+  -- the piece k of the tree that the list has
   the-top : Top list (making .listed .some)
   the-top = making .listed .top
 
@@ -268,6 +286,7 @@ module _ {list counts : List ℕ} {k : ℕ} {t : Tables} {runs tops : List ℕ} 
   the-sits : Sits list (getD (t .roots) k 0) k 0 (head-spot (the-piece .top) (the-piece .begin) k)
   the-sits = head-sits the-top (making .so-far _ the-top) (the-piece .head)
 
+  -- what its walk needs
   pub piece-few : k < 128
   piece-few = omega (arith, inside .below-count _ the-top, the-top .fine .few)
 
@@ -282,13 +301,16 @@ module _ {list counts : List ℕ} {k : ℕ} {t : Tables} {runs tops : List ℕ} 
     is-root = head-root the-top (making .so-far _ the-top) (the-piece .head);
   }
 
+  -- the number of the pieces below it has been counted
   pub piece-runs : Runs list (getD (t .roots) k 0) (getD counts (getD (t .roots) k 0) 0)
   piece-runs = making .counted .each _ (omega (arith, node-listed piece-node))
 
   module _ {after : Tables} {last : ℕ} (done : Visited list (getD (t .roots) k 0) k 0 t after last) where
+    -- the walk ends within the row
     pub piece-ends : (2 ≤ last) × (last ≤ 62)
     piece-ends = omega (arith, filled-ends the-sits (done _ the-sits))
 
+    -- and the pieces up to k + 1 have been made
     pub piece-made : Room after → (x : Nested ℕ) → Top list x → Made x (k + 1) (closed-row after k last) (set runs k (getD counts (getD (t .roots) k 0) 0 + 1)) (set tops k (last - 1))
     piece-made full x top = made-more top k (inside .below-count x top) full (making .runs-room) (making .tops-room) (making .so-far x top) done piece-runs
 
@@ -311,12 +333,15 @@ piece-storable making inside done =
 pub record Total (list : List ℕ) (total : ℕ) : Type 0 where
   pub counts-all : (x : Nested ℕ) → Top list x → total ≡ 1 + run x
 
+-- each number below the count is that of a piece
 pub total-inside : {list : List ℕ} {k total : ℕ} → Total list total → k < total → Inside list k
 total-inside all low = record { below-count = λ x top. omega (arith, all .counts-all x top) }
 
+-- there are at most 128 pieces
 pub total-few : {list : List ℕ} {total : ℕ} → Listed list → Total list total → total ≤ 128
 total-few listed all = omega (arith, all .counts-all _ (listed .top), listed .top .fine .few)
 
+-- from one piece to the next
 pub making-more : {list counts : List ℕ} {k : ℕ} {t : Tables} {runs tops : List ℕ} → Making list counts k t runs tops
     → (nexts labels runs-after stands tops-after roots : List ℕ) → length nexts ≡ length (t .nexts) → length labels ≡ length (t .labels) → length runs-after ≡ length runs
     → length stands ≡ length (t .stands) → length tops-after ≡ length tops → length roots ≡ length (t .roots)

@@ -1,9 +1,9 @@
 -- Where each node of a cut tree stands: its records in the list, its piece, and the number of its start in the piece.
 -- Assumes nothing.
-use Prim.Native.Nat.{ℕ, _+_, _*_, _-_, _/_, _%_, _≤_, _<_}
+use Prim.Native.Nat.{ℕ, _+_, _*_, _-_, _≤_, _<_}
 use mathlib.Core.Path.{_≡_, refl, sym, ap, subst, _∙_}
 use mathlib.Core.Bool.{Bool, true, false}
-use mathlib.Core.List.{List, [], _∷_, _++_, append-assoc}
+use mathlib.Core.List.{List, [], _++_, append-assoc}
 use native.Mathlib.Omega.{arith}
 use native.Mathlib.Decide.{decLt}
 use lib.ListN.{length, getD, length-append}
@@ -11,6 +11,7 @@ use lib.Seq.{getD-append-add}
 use Rattle.language.specs.Tree.{Tree, nodes, leaf as tree-leaf, catenation as tree-catenation, union as tree-union, star as tree-star}
 use Rattle.language.specs.Nested.{Nested, leaf, catenation, union, star, below, whole}
 use Rattle.tree.specs.Cut.{Cut, cuts, one, edge, nest}
+use Rattle.tree.specs.Nesting.{whole-edge, whole-nest}
 use Rattle.tree.specs.Records.{record-of, child-piece, records}
 use Rattle.marks.specs.Words.{width, run}
 
@@ -34,20 +35,20 @@ listed (union x y) f p n = listed x f p n ++ listed y (f + size x) p (n + run x)
 listed (star x) f p n = listed x f p n ++ root-record (star x) f p n
 listed (below x) f p n = listed x f n (n + 1)
 
+-- cutting an edge leaves all nodes
 size-edge : (b : Bool) (x : Nested ℕ) → size (edge b x) ≡ size x
-size-edge true x = refl
-size-edge false x = refl
+size-edge b x = ap nodes (whole-edge b x)
 
+-- a tree that is cut has its nodes
 pub size-nest : (t : Tree ℕ) (c : Cut t) → size (nest t c) ≡ nodes t
-size-nest (tree-leaf a) c = refl
-size-nest (tree-catenation s t) c = omega (arith, size-edge (c .0) (nest s (c .1)), size-edge (c .2) (nest t (c .3)), size-nest s (c .1), size-nest t (c .3))
-size-nest (tree-union s t) c = omega (arith, size-edge (c .0) (nest s (c .1)), size-edge (c .2) (nest t (c .3)), size-nest s (c .1), size-nest t (c .3))
-size-nest (tree-star s) c = omega (arith, size-edge (c .0) (nest s (c .1)), size-nest s (c .1))
+size-nest t c = ap nodes (whole-nest t c)
 
+-- a cut edge has one piece more below it
 run-edge : (b : Bool) (x : Nested ℕ) → run (edge b x) ≡ one b + run x
 run-edge true x = refl
 run-edge false x = omega arith
 
+-- there is one piece below each cut edge
 pub run-nest : (t : Tree ℕ) (c : Cut t) → run (nest t c) ≡ cuts t c
 run-nest (tree-leaf a) c = refl
 run-nest (tree-catenation s t) c = omega (arith, run-edge (c .0) (nest s (c .1)), run-edge (c .2) (nest t (c .3)), run-nest s (c .1), run-nest t (c .3))
@@ -87,6 +88,7 @@ records-listed (tree-star s) c f p n =
     let size-s : size (edge (c .0) (nest s (c .1))) ≡ nodes s = size-edge (c .0) (nest s (c .1)) ∙ size-nest s (c .1) in
     rw (size-s, child-same (c .0) s (c .1) (records-listed s (c .1)) f p n n refl)
 
+-- there is a node at least: the root
 pub size-positive : (x : Nested ℕ) → 1 ≤ size x
 size-positive (leaf a) = omega arith
 size-positive (catenation x y) = omega arith
@@ -118,6 +120,7 @@ length-listed (union x y) f p n = let e = length-listed x in let g = length-list
 length-listed (star x) f p n = let e = length-listed x in simp (length-append, e) (omega arith)
 length-listed (below x) f p n = length-listed x f n (n + 1)
 
+-- 8 bytes for each node but the root
 length-inner : (x : Nested ℕ) (f p n : ℕ) → length (inner x f p n) + 8 ≡ 8 * size x
 length-inner (leaf a) f p n = refl
 length-inner (catenation x y) f p n = let e = length-listed x in let g = length-listed y in simp (length-append, e, g) (omega arith)
@@ -137,6 +140,7 @@ pub record Shows (list : List ℕ) (r kind character left right piece : ℕ) : T
   pub right-word : word list (8 * r + 4) ≡ right
   pub piece-word : word list (8 * r + 6) ≡ piece
 
+-- a byte behind m others
 byte-past : (before rest : List ℕ) (m k : ℕ) → length before ≡ m → getD (before ++ rest) (m + k) 0 ≡ getD rest k 0
 byte-past before rest m k e = rw (← e) (getD-append-add before rest k 0)
 
@@ -159,18 +163,23 @@ shows before after r kind character left right piece e small-left small-right sm
 pub data Spot : Type 0 where
   spot : Nested ℕ → (first piece new number : ℕ) → Spot
 
+-- the spot's node, with all below it
 abbrev pub tree : Spot → Nested ℕ
 tree (spot x f p n i) = x
 
+-- the number of the spot's first record
 abbrev pub first : Spot → ℕ
 first (spot x f p n i) = f
 
+-- the piece in which the spot is
 abbrev pub piece : Spot → ℕ
 piece (spot x f p n i) = p
 
+-- the number of the first child piece below the spot
 abbrev pub new : Spot → ℕ
 new (spot x f p n i) = n
 
+-- the number of the spot's start in its piece
 abbrev pub number : Spot → ℕ
 number (spot x f p n i) = i
 
@@ -188,6 +197,7 @@ pub data In : Spot → Spot → Type 0 where
   here : {s : Spot} → In s s
   step : {s t u : Spot} → Child s t → In t u → In s u
 
+-- a child of what lies below a spot lies below it
 pub in-child : {s t u : Spot} → In s t → Child t u → In s u
 in-child here c = step c here
 in-child (step d m) c = step d (in-child m c)
@@ -224,6 +234,7 @@ pub record Fine (list : List ℕ) (s : Spot) : Type 0 where
   pub short : first s + size (tree s) ≤ 1920
   pub sound : Sound (tree s)
 
+-- three parts, and what is before and after them
 regroup : (before xs ys zs after : List ℕ) → before ++ ((xs ++ ys ++ zs) ++ after) ≡ before ++ (xs ++ (ys ++ (zs ++ after)))
 regroup before xs ys zs after = simp append-assoc
 
@@ -234,6 +245,7 @@ written-left xs ys zs before after e = e ∙ regroup before xs ys zs after
 written-right : {list : List ℕ} (xs ys zs before after : List ℕ) → list ≡ before ++ ((xs ++ ys ++ zs) ++ after) → list ≡ (before ++ xs) ++ (ys ++ (zs ++ after))
 written-right xs ys zs before after e = e ∙ regroup before xs ys zs after ∙ sym (append-assoc before xs _)
 
+-- a child's records stand within its parent's
 child-written : {list : List ℕ} {s t : Spot} → Child s t → Written list s → Written list t
 child-written (catenation-left {x = x} {y = y} {f = f} {p = p} {n = n}) w =
     record { before = w .before; after = _; parts = written-left (listed x f p n) _ _ (w .before) (w .after) (w .parts); begins = w .begins }
@@ -272,6 +284,7 @@ child-fine (operand {x = x}) h =
 child-fine (under {x = x}) h =
     record { written = child-written under (h .written); later = omega arith; few = omega arith; narrow = omega (arith, h .sound .1); short = omega arith; sound = h .sound .2 }
 
+-- and so is all that lies below it
 pub in-fine : {list : List ℕ} {s t : Spot} → In s t → Fine list s → Fine list t
 in-fine here h = h
 in-fine (step c m) h = in-fine m (child-fine c h)
@@ -288,6 +301,7 @@ root-shows {list} {s = spot x f p n i} w r kind character left right own at e sm
     rw split (shows (w .before ++ inner x f p n) (w .after) r kind character left right own (simp length-append (omega arith)) small-left small-right small-piece)
 
 module _ {list : List ℕ} {f p n i : ℕ} where
+  -- what the record of a node shows, by the node's kind
   pub leaf-shows : {a : ℕ} → Fine list (spot (leaf a) f p n i) → (r : ℕ) → r + 1 ≡ f + 1 → Shows list r 1 a 65535 65535 p
   leaf-shows h r at = root-shows (h .written) r _ _ _ _ _ at refl (omega arith) (omega arith) (omega arith)
 
@@ -319,6 +333,7 @@ within {list} {s = spot x f p n i} h =
 abbrev pub Reaches-piece : Spot → ℕ → Type 0
 Reaches-piece s k = (new s ≤ k) × (k < new s + run (tree s))
 
+-- the child pieces below a child are below its parent
 child-reaches : {s t : Spot} {k : ℕ} → Child s t → Reaches-piece t k → Reaches-piece s k
 child-reaches catenation-left h = omega arith
 child-reaches catenation-right h = omega arith
@@ -327,6 +342,7 @@ child-reaches union-right h = omega arith
 child-reaches operand h = h
 child-reaches under h = omega arith
 
+-- and those below what lies below a spot
 pub in-reaches : {s t : Spot} {k : ℕ} → In s t → Reaches-piece t k → Reaches-piece s k
 in-reaches here h = h
 in-reaches (step c m) h = child-reaches c (in-reaches m h)
@@ -348,6 +364,7 @@ same-child under under h g = refl
 pub data Stand-in : Spot → ℕ → Type 0 where
   stand-in : {x : Nested ℕ} {f p n i : ℕ} → Stand-in (spot (below x) f p n i) n
 
+-- a stand-in has its child piece below it
 pub stand-in-reaches : {s : Spot} {k : ℕ} → Stand-in s k → Reaches-piece s k
 stand-in-reaches stand-in = omega arith
 
@@ -381,6 +398,7 @@ pub record Node-at (s : Spot) (r : ℕ) : Type 0 where
   pub plain : Plain (tree at)
   pub is-root : r + 1 ≡ first at + size (tree at)
 
+-- a node below a child is below its parent
 node-below : {s t : Spot} {r : ℕ} → Child s t → Node-at t r → Node-at s r
 node-below c h = record { at = h .at; inside = step c (h .inside); plain = h .plain; is-root = h .is-root }
 
@@ -418,6 +436,7 @@ pub record Piece-below (s : Spot) (k : ℕ) : Type 0 where
   pub place : ℕ
   pub inside : In s (spot (below top) begin parent k place)
 
+-- a child piece below a child is below its parent
 piece-under : {s t : Spot} {k : ℕ} → Child s t → Piece-below t k → Piece-below s k
 piece-under c h = record { top = h .top; begin = h .begin; parent = h .parent; place = h .place; inside = step c (h .inside) }
 

@@ -3,7 +3,7 @@ use crate::fields::field;
 use crate::fields::kind_of;
 use crate::fields::wide;
 ghost use mathlib.Core.Path.{_≡_};
-ghost use Prim.Native.Nat.{ℕ, _+_, _*_, _/_, _<_, _≤_};
+ghost use Prim.Native.Nat.{_+_, _*_, _/_, _<_, _≤_};
 ghost use lib.ListN.{length};
 ghost use Rattle.marks.specs.Counting.{Runs, Counted, Node, Listed, adds};
 

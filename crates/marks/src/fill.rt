@@ -2,10 +2,10 @@
 use crate::fields::field;
 use crate::fields::kind_of;
 ghost use mathlib.Core.Path.{_≡_};
-ghost use Prim.Native.Nat.{ℕ, _+_, _*_, _-_, _<_, _≤_, _^_};
+ghost use Prim.Native.Nat.{_+_, _*_, _-_, _<_, _≤_, _^_};
 ghost use lib.ListN.{getD, length, set};
 ghost use Rattle.marks.specs.Entries.{thrice};
-ghost use Rattle.marks.specs.Filling.{start-word, left-exit, right-exit, Tables, tables, Room, stand-entries};
+ghost use Rattle.marks.specs.Filling.{start-word, left-exit, right-exit, tables, Room, stand-entries};
 ghost use Rattle.marks.specs.Walking.{Within, Wide, Visited, Ready};
 
 // The word with bit i alone.

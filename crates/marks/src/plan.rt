@@ -2,13 +2,12 @@
 use crate::count::count;
 use crate::fields::wide;
 use crate::fill::fill;
-ghost use mathlib.Core.Path.{_≡_};
 ghost use Prim.Native.Nat.{ℕ, _+_, _<_};
 ghost use Rattle.language.specs.Tree.{Tree};
 ghost use Rattle.language.specs.Nested.{Nested};
 ghost use Rattle.tree.specs.Records.{Good};
 ghost use Rattle.marks.specs.Tables.{Roomy};
-ghost use Rattle.marks.specs.Filling.{Tables, tables};
+ghost use Rattle.marks.specs.Filling.{tables};
 ghost use Rattle.marks.specs.Counting.{Top};
 ghost use Rattle.marks.specs.Making.{Made, Making, Inside, Total};
 ghost use Rattle.marks.specs.Given.{Good-list, Laid};

@@ -1,9 +1,9 @@
 -- `marks::count::count` meets its contract. The invariant: the nodes of the records passed are counted. The measure is what is left of the records. Assumes nothing.
 use Prim.Native.Nat.{_≤_, _-_}
-use mathlib.Core.Path.{_≡_, subst, refl, _∙_}
+use mathlib.Core.Path.{_≡_, subst, refl}
 use native.Mathlib.Omega.{arith}
 use lib.ListN.{length, length-set}
-use Rattle.marks.specs.Counting.{Counted, Listed, node-of, few-runs, few-records, counted-none, counted-more}
+use Rattle.marks.specs.Counting.{Counted, node-of, few-runs, few-records, counted-none, counted-more}
 use Rattle.marks.proofs.count.count.Statement.{statement}
 use Rattle.marks.proofs.count.count.Tie as tie
 

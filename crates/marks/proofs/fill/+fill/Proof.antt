@@ -1,13 +1,13 @@
 -- The proof of the cycle of calls {fill}. The measure is the record's number: the records of the children come before their parent's.
 -- What was found at the record and filled by the calls is what a visit of the spot there makes. Assumes nothing.
-use Prim.Native.Nat.{ℕ, _+_, _<_}
+use Prim.Native.Nat.{ℕ, _<_}
 use mathlib.Core.Path.{subst}
 use native.Mathlib.Omega.{arith}
 use borrow.Author.Needs.{needs}
 use borrow.Fn.Kinds.{In}
 use borrow.Fn.PlainCycle.{Measures, is, falls, and}
 use Rattle.marks.specs.Filling.{Room, tables}
-use Rattle.marks.specs.Walking.{Sits, Within, bounds, stand-few, Ready, wide-enough, room-kept, Met, Visited, visited-stand, visited-leaf, left-ready, right-ready, star-bounds, two-bounds, visited-star, visited-two}
+use Rattle.marks.specs.Walking.{bounds, stand-few, wide-enough, room-kept, Met, visited-stand, visited-leaf, left-ready, right-ready, star-bounds, two-bounds, visited-star, visited-two}
 use Rattle.marks.proofs.fill.fill.Reads as fill
 use Rattle.marks.proofs.fill.fill.Kinds as fill-kinds
 use Rattle.marks.proofs.fill.+fill.Lts-fill as fill-lts

@@ -1,10 +1,10 @@
 -- `marks::plan::piece` meets its contract: it walks the piece, and stores what the walk and the count tell. Assumes nothing.
-use Prim.Native.Nat.{_+_}
+
 use native.Mathlib.Omega.{arith}
 use lib.ListN.{getD}
 use Rattle.marks.specs.Filling.{Room, tables}
 use Rattle.marks.specs.Walking.{room-kept}
-use Rattle.marks.specs.Making.{Making, Inside, Storable, piece-few, piece-ready, piece-made, piece-storable}
+use Rattle.marks.specs.Making.{Storable, piece-few, piece-ready, piece-made, piece-storable}
 use borrow.Author.Needs.{needs}
 use Rattle.marks.proofs.plan.piece.Statement.{statement}
 use Rattle.marks.proofs.plan.piece.Tie as tie

@@ -1,9 +1,8 @@
 -- `marks::plan::pieces` meets its contract. The invariant: the pieces up to k have been made. The measure is what is left of them. Assumes nothing.
 use Prim.Native.Nat.{_≤_, _-_}
-use mathlib.Core.Path.{subst}
 use native.Mathlib.Omega.{arith}
 use Rattle.marks.specs.Filling.{tables}
-use Rattle.marks.specs.Making.{Making, Total, total-inside, total-few, making-more, making-at}
+use Rattle.marks.specs.Making.{Making, total-inside, total-few, making-more, making-at}
 use Rattle.marks.proofs.plan.pieces.Statement.{statement}
 use Rattle.marks.proofs.plan.pieces.Tie as tie
 

@@ -1,7 +1,7 @@
 -- `marks::plan::plan` meets its contract: the pieces are counted, the root is the last record, and all pieces are made. Assumes nothing.
 use mathlib.Core.Path.{refl}
 use native.Mathlib.Omega.{arith}
-use Rattle.marks.specs.Given.{good-listed, has-records, total-of, root-runs, making-none, laid}
+use Rattle.marks.specs.Given.{good-listed, has-records, total-of, making-none, laid}
 use borrow.Author.Needs.{needs}
 use Rattle.marks.proofs.plan.plan.Statement.{statement}
 use Rattle.marks.proofs.plan.plan.Tie as tie
