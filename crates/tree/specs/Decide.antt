@@ -30,6 +30,7 @@ abbrev pub Fits-answer : List ℕ → Decided → Type 0
 Fits-answer bytes (good records pieces) = Good-with bytes records pieces
 Fits-answer bytes not-good = (t : Tree ℕ) → Good bytes t → ⊥
 
+-- the promise of deciding: the answer fits
 pub record Judged (bytes : List ℕ) (answer : Decided) : Type 0 where
   pub fits : Fits-answer bytes answer
 
@@ -47,7 +48,8 @@ pub taken-more : (bytes ls : List ℕ) (i v : ℕ) → i < length ls → 8 * len
     → v ≡ label-of (getD bytes (8 * i) 0) (getD bytes (8 * i + 1) 0) → take (i + 1) (set ls i v) ≡ labels-of-bytes (take (8 * (i + 1)) bytes)
 taken-more bytes ls i v h room e is-label =
     let next : 8 * (i + 1) ≡ 8 * i + 8 = omega arith in
-    rw (add-one, take-suc-set ls i v h) (rw (e, is-label) (sym (rw (← add-one i, next) (labels-of-more bytes i (omega arith)))))
+    let front : take (i + 1) (set ls i v) ≡ take i ls ++ (v ∷ []) = rw add-one (take-suc-set ls i v h) in
+    front ∙ rw (e, is-label, next) (sym (labels-of-more bytes i (omega arith)))
 
 -- b says whether two lists are the same
 pub record Same (xs ys : List ℕ) (b : Bool) : Type 0 where

@@ -1,8 +1,8 @@
 -- Whether labels are those of one tree, by counting: how deep the stack is of the machine that reads a tree from its labels.
 -- Assumes nothing.
-use Prim.Native.Nat.{ℕ, zero, suc, _+_, _-_, _/_, _%_, _≤_, _<_}
+use Prim.Native.Nat.{ℕ, _+_, _-_, _≤_, _<_}
 use mathlib.Core.Path.{_≡_, refl, ap, sym, _∙_}
-use mathlib.Core.Bool.{Bool, true, false, cond, _||_}
+use mathlib.Core.Bool.{Bool, true, false}
 use mathlib.Core.Option.{Option, none, some}
 use mathlib.Core.List.{List, [], _∷_, _++_}
 use native.Mathlib.Omega.{arith}
@@ -12,7 +12,6 @@ use borrow.Author.Tests.{eqb-true, eqb-false}
 use lib.ListN.{length, getD, take, drop, take-append-drop}
 use lib.Seq.{take-suc, take-length}
 use Rattle.language.specs.Tree.{Tree}
-use Rattle.tree.specs.Records.{labels}
 use Rattle.tree.specs.Postorder.{Asked, asked, a-leaf, a-catenation, a-union, a-star, nothing, pushed, onward, built, built-append, one-tree-exactly}
 use Rattle.tree.specs.Measured.{Postorder}
 
@@ -48,6 +47,7 @@ pub record Reads (ls : List ℕ) (i depth : ℕ) : Type 0 where
   pub so-far : built (take i ls) [] ≡ some stack
   pub deep : length stack ≡ depth
 
+-- nothing is read at first
 pub reads-none : (ls : List ℕ) → Reads ls 0 0
 reads-none ls = record { stack = []; so-far = refl; deep = refl }
 

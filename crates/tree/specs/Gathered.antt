@@ -7,7 +7,7 @@ use native.Mathlib.Omega.{arith}
 use native.Mathlib.Nat.{add-zero, le-refl}
 use lib.Dec.{ltb, leb·zero, leb·suc-zero}
 use Rattle.language.specs.Tree.{Tree, leaf, catenation, union, star, nodes}
-use Rattle.tree.specs.Cut.{kept, one, cut-left, cut-right, cut-only, open-size, wanted, cuts}
+use Rattle.tree.specs.Cut.{kept, one, cut-left, cut-right, cut-only, open-size}
 use Rattle.tree.specs.Seats.{cut-edges, of-left, of-right, left-cut, right-cut}
 
 -- the open size that a node has by those of its children
@@ -34,23 +34,26 @@ none-right n = rw (leb·suc-zero n) (and-false (ltb 15 (1 + n + 0)))
     and-false true = refl
     and-false false = refl
 
+-- the nodes of a tree
 pub nodes-gathered : (u : Tree ℕ) → nodes u ≡ of-left nodes u + of-right nodes u + 1
 nodes-gathered (leaf a) = refl
 nodes-gathered (catenation s t) = refl
 nodes-gathered (union s t) = refl
 nodes-gathered (star s) = ap (λ (n : ℕ). n + 1) (sym (add-zero (nodes s)))
 
+-- its open size
 pub open-gathered : (u : Tree ℕ) → open-size u ≡ open-sum (of-left open-size u) (of-right open-size u)
 open-gathered (leaf a) = refl
 open-gathered (catenation s t) = refl
 open-gathered (union s t) = refl
 open-gathered (star s) = rw (only-left, none-right, add-zero)
 
+-- its cut edges
 pub cuts-gathered : (u : Tree ℕ) → cut-edges u ≡ cut-sum (of-left open-size u) (of-right open-size u) (of-left cut-edges u) (of-right cut-edges u)
 cuts-gathered (leaf a) = refl
 cuts-gathered (catenation s t) = refl
 cuts-gathered (union s t) = refl
-cuts-gathered (star s) = rw (only-left, none-right, add-zero)
+cuts-gathered (star s) = rw (only-left, none-right) (sym (add-zero (one (cut-only (open-size s)) + cut-edges s)))
 
 -- a cut edge counts for at most 1
 pub one-le : (b : Bool) → one b ≤ 1

@@ -1,26 +1,25 @@
 -- How piece numbers come down from the root: which slots are filled when the records from some number on have handed theirs to their children.
 -- Assumes nothing.
-use Prim.Native.Nat.{ℕ, zero, suc, _+_, _*_, _-_, _%_, _≤_, _<_}
+use Prim.Native.Nat.{ℕ, _+_, _*_, _-_, _%_, _≤_, _<_}
 use mathlib.Core.Path.{_≡_, refl, ap, sym, subst, _∙_}
 use mathlib.Core.Logic.{_⊎_, inl, inr, ⊎-elim}
-use mathlib.Core.Bool.{Bool, true, false, cond}
-use mathlib.Core.List.{List, [], _∷_, _++_, map}
+use mathlib.Core.Bool.{Bool}
+use mathlib.Core.List.{List}
 use native.Mathlib.Omega.{arith}
 use native.Mathlib.Nat.{sub-zero}
-use native.Mathlib.Decide.{decLt, decLe, ℕ-discrete}
+use native.Mathlib.Decide.{decLt, ℕ-discrete}
 use native.Mathlib.Numerals.{add-one}
-use lib.Dec.{eqb}
 use lib.ListN.{length, getD, set, length-set}
 use lib.Seq.{getD-set-same, getD-set-other}
 use Rattle.language.specs.Tree.{Tree, leaf, catenation, union, star, nodes}
 use Rattle.tree.specs.Cut.{open-size, one, cut-left, cut-right}
-use Rattle.tree.specs.Records.{labels, child-piece, piece-count}
+use Rattle.tree.specs.Records.{labels, child-piece}
 use borrow.Author.Tests.{ne-eqb}
 use Rattle.tree.specs.Gathered.{cut-sum, cut-edges-lt}
 use Rattle.tree.specs.Written.{seat-small}
 use Rattle.tree.specs.Lengths.{length-labels}
 use Rattle.tree.specs.Measured.{node, in-tree, Measured, measured-less, Children, children, gathered, Postorder}
-use Rattle.tree.specs.Seats.{Seat, seat, seats, seat-at, label, root-label, cut-edges, of-left, of-right, left-cut, right-cut, left-piece, left-new, right-piece, right-new, past-left, left-slot, right-slot, held, held-seat, held-whole, length-seats, seats-seated, Around, around}
+use Rattle.tree.specs.Seats.{Seat, seat, seats, seat-at, root-label, cut-edges, of-left, of-right, left-piece, left-new, right-piece, right-new, left-slot, right-slot, held, held-seat, held-whole, length-seats, seats-seated, Around, around}
 
 -- the nodes of a seat's subtree
 abbrev pub size-of : Seat → ℕ
@@ -110,6 +109,7 @@ filled-before t i left right m h l r not-left not-right (inr w) =
     ⊎-elim (λ e. absurd (not-left (e ∙ sym l))) (⊎-elim (λ e. absurd (not-right (e ∙ sym r))) (λ v. inr v))
     (waits-step s i m (x .tree) (x .piece) (x .new) (around s i (seats-seated t 0 1) inside) size w)
 
+-- no filled slot is slot 0
 filled-positive : (t : Tree ℕ) (i m : ℕ) → Filled (seats t 0 1) i m → 1 ≤ m
 filled-positive t i m (inl l) = omega arith
 filled-positive t i m (inr w) = waits-positive w
@@ -151,10 +151,11 @@ of-right-there (catenation s t) i k h = refl
 of-right-there (union s t) i k h = refl
 of-right-there (star s) i k h = absurd (omega arith)
 
--- the piece of a seat, and the first new piece below it
+-- the piece of a seat
 abbrev pub piece-of : Seat → ℕ
 piece-of x = x .piece
 
+-- the first new piece below a seat
 abbrev pub new-of : Seat → ℕ
 new-of x = x .new
 
@@ -224,6 +225,7 @@ pub record Turn-small (left right slot : ℕ) (opens cuts news : List ℕ) : Typ
 -- a turn at record i, whose slot is i + 1
 module _ (ls : List ℕ) (i slot left right : ℕ) (sizes opens cuts pieces news : List ℕ) (next : slot ≡ i + 1) (in-list : i < length ls) (measured : Measured ls sizes opens cuts (length ls))
     (handed : Handed ls pieces news slot) (right-is : right ≡ right-slot (getD ls i 0) i) (left-is : left ≡ left-slot (getD ls i 0) i (getD sizes right 0)) where
+  -- what its children's slots hold
   turn-children : (t : Tree ℕ) → ls ≡ labels t → Children t i left right sizes opens cuts
   turn-children t e = children ls t i left right sizes opens cuts e in-list (measured-less ls sizes opens cuts i (length ls) (omega arith) measured) right-is left-is
 
@@ -268,7 +270,7 @@ module _ (ls : List ℕ) (i slot left right : ℕ) (sizes opens cuts pieces news
       turn-handed a b (y + getD news slot 0) (z + (x + getD cuts left 0 + getD news slot 0)) room-pieces room-news left-le right-le
       (is-a ∙ rw l) (is-b ∙ rw (is-x, l, r)) (rw (is-y, l)) (rw (is-z, is-x, l, r))
 
-  -- the children's open sizes are small, and so is the right child's first new piece
+  -- the children's open sizes are small, and so are all new pieces below the record
   pub turn-small : Postorder ls → length ls ≤ 2047 → Turn-small left right slot opens cuts news
   turn-small o h =
       let t = o .tree in
@@ -286,6 +288,7 @@ module _ (ls : List ℕ) (i slot left right : ℕ) (sizes opens cuts pieces news
 pub record Pieced (ls pieces : List ℕ) : Type 0 where
   pub at-record : (t : Tree ℕ) → ls ≡ labels t → (i : ℕ) → i < nodes t → getD pieces (i + 1) 0 ≡ seat-at (seats t 0 1) i .piece
 
+-- when the first record has handed on its numbers
 pub handed-all : (ls pieces news : List ℕ) → Handed ls pieces news 0 → Pieced ls pieces
 handed-all ls pieces news g =
     record {

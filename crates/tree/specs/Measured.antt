@@ -1,9 +1,9 @@
 -- What the slots hold when the records up to some number are measured: of each subtree its nodes, its open size and its cut edges.
 -- Assumes nothing.
-use Prim.Native.Nat.{ℕ, zero, suc, _+_, _-_, _%_, _≤_, _<_}
+use Prim.Native.Nat.{ℕ, _+_, _-_, _%_, _≤_, _<_}
 use mathlib.Core.Path.{_≡_, refl, ap, sym, _∙_}
 use mathlib.Core.Bool.{Bool, true, false, cond, _||_}
-use mathlib.Core.List.{List, [], _∷_, _++_, map}
+use mathlib.Core.List.{List}
 use native.Mathlib.Omega.{arith}
 use native.Mathlib.Nat.{le-refl, le-trans}
 use native.Mathlib.Decide.{decLe}
@@ -107,6 +107,7 @@ of-left-le f n h (catenation s t) = h s
 of-left-le f n h (union s t) = h s
 of-left-le f n h (star s) = h s
 
+-- and for a right child
 of-right-le : (f : Tree ℕ → ℕ) (n : ℕ) → ((t : Tree ℕ) → f t ≤ n) → (u : Tree ℕ) → of-right f u ≤ n
 of-right-le f n h (leaf a) = omega arith
 of-right-le f n h (catenation s t) = h t
@@ -185,6 +186,7 @@ pub record Gathered (t : Tree ℕ) (i size left-open right-open left-cuts right-
   pub open-is : open-sum left-open right-open ≡ open-size (node t i)
   pub cuts-is : cut-sum left-open right-open left-cuts right-cuts ≡ cut-edges (node t i)
 
+-- by the laws that gather a node's numbers from its children's
 pub gathered : (t : Tree ℕ) (i left right : ℕ) (sizes opens cuts : List ℕ) → Children t i left right sizes opens cuts
     → Gathered t i (getD sizes left 0 + getD sizes right 0 + 1) (getD opens left 0) (getD opens right 0) (getD cuts left 0) (getD cuts right 0)
 gathered t i left right sizes opens cuts c =
@@ -237,6 +239,10 @@ holds-root f ls t slots e w =
 -- r is the piece count of the tree with these labels
 pub record Counted (ls : List ℕ) (r : ℕ) : Type 0 where
   pub count : (t : Tree ℕ) → ls ≡ labels t → r ≡ piece-count t
+
+-- two counts that fit are the same
+pub counted-unique : (ls : List ℕ) (a b : ℕ) → Postorder ls → Counted ls a → Counted ls b → a ≡ b
+counted-unique ls a b o c d = c .count (o .tree) (o .same) ∙ sym (d .count (o .tree) (o .same))
 
 -- the root's cut edges give the piece count
 pub counted-all : (ls sizes opens cuts : List ℕ) → Measured ls sizes opens cuts (length ls) → Counted ls (1 + getD cuts (length ls) 0)

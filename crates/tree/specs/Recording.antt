@@ -2,22 +2,26 @@
 -- Assumes nothing.
 use Prim.Native.Nat.{ℕ, _+_, _*_, _≤_, _<_}
 use mathlib.Core.Path.{_≡_, refl, ap, sym, _∙_}
-use mathlib.Core.List.{List, [], _∷_, _++_, append-assoc, append-nil}
+use mathlib.Core.List.{List, _++_}
 use native.Mathlib.Omega.{arith}
 use native.Mathlib.Nat.{zero-add}
-use lib.ListN.{length, getD, take, drop, length-append, length-take, length-drop}
-use lib.Seq.{take-add, take-at, drop-at, take-all, take-append-le, drop-append-add, length-take-le, drop-drop}
+use lib.ListN.{length, getD, take, drop}
+use lib.Seq.{take-add, take-at, take-all, drop-append-add, length-take-le, drop-drop}
 use Rattle.language.specs.Tree.{Tree, nodes}
 use Rattle.tree.specs.Records.{labels, encode, two-bytes}
 use Rattle.tree.specs.Lengths.{length-labels, length-encode}
 use Rattle.tree.specs.Seats.{Seat, seat, seats, seat-at, root-label, left-slot, right-slot, of-right, length-seats}
 use Rattle.tree.specs.Written.{record-at, child-number, written, encode-written, drop-written, label-bytes}
-use Rattle.tree.specs.Measured.{node, in-tree, label-at, Slots}
+use Rattle.tree.specs.Measured.{Postorder, node, in-tree, label-at, Slots}
 use Rattle.tree.specs.Bytes.{four-numbers}
 
 -- the records of the tree with these labels, and what stood there before past them
 pub record Recorded (ls before after : List ℕ) : Type 0 where
   pub bytes : (t : Tree ℕ) → ls ≡ labels t → after ≡ encode t ++ drop (8 * nodes t) before
+
+-- two buffers that fit are the same
+pub recorded-unique : (ls before a b : List ℕ) → Postorder ls → Recorded ls before a → Recorded ls before b → a ≡ b
+recorded-unique ls before a b o p q = p .bytes (o .tree) (o .same) ∙ sym (q .bytes (o .tree) (o .same))
 
 -- the first i of them
 pub record Stored (ls before after : List ℕ) (i : ℕ) : Type 0 where

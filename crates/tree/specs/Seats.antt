@@ -3,17 +3,16 @@
 -- so a star is a pair without a right child, a character a pair without any, and one rule serves all four kinds.
 -- Assumes nothing.
 use Prim.Native.Nat.{ℕ, zero, suc, _+_, _*_, _-_, _%_, _≤_, _<_}
-use mathlib.Core.Path.{_≡_, refl, ap, sym, _∙_, subst}
-use mathlib.Core.Bool.{Bool, true, false, cond, _||_}
+use mathlib.Core.Path.{_≡_, refl, ap, sym, _∙_}
+use mathlib.Core.Bool.{Bool, false, cond, _||_}
 use mathlib.Core.List.{List, [], _∷_, _++_, map, map-append, append-assoc, append-nil}
 use native.Mathlib.Omega.{arith}
 use native.Mathlib.Nat.{not-suc-le-zero, le-of-suc-le-suc, sub-zero, zero-add}
 use native.Mathlib.Decide.{decLt}
-use native.Mathlib.Numerals.{add-one}
 use lib.Dec.{eqb}
 use borrow.Author.Tests.{ne-eqb}
-use lib.ListN.{length, getD, take, drop, length-append, length-map, take-append-drop, List·getD-append, List·getD-map}
-use lib.Seq.{take-append-le, take-append-add, getD-append-add, getD-at, getD-append-seam, take-length, length-take-le}
+use lib.ListN.{length, getD, length-append, List·getD-append}
+use lib.Seq.{getD-append-add, getD-at, getD-append-seam}
 use Rattle.language.specs.Tree.{Tree, leaf, catenation, union, star, nodes}
 use Rattle.tree.specs.Cut.{cuts, one, wanted, cut-left, cut-right, open-size}
 use Rattle.tree.specs.Records.{child-piece, label-of, labels}
@@ -71,6 +70,7 @@ right-piece u p n = child-piece (right-cut u) p (past-left u n)
 abbrev pub right-new : Tree ℕ → ℕ → ℕ
 right-new u n = one (right-cut u) + past-left u n
 
+-- a record's seat
 pub record Seat : Type 0 where
   pub tree : Tree ℕ
   pub piece : ℕ
@@ -136,6 +136,7 @@ stands-behind xs i e s =
 pub Seated : List Seat → Type 0
 Seated xs = (i : ℕ) → i < length xs → Stands xs i (seat-at xs i)
 
+-- two lists in which every seat stands so, one after the other
 seated-append : (xs ys : List Seat) → Seated xs → Seated ys → Seated (xs ++ ys)
 unfolding Seated
 seated-append xs ys p q i h = by-place (decLt i (length xs))
@@ -147,6 +148,7 @@ seated-append xs ys p q i h = by-place (decLt i (length xs))
         let e : seat-at (xs ++ ys) i ≡ seat-at ys (i - length xs) = rw j at (getD-append-add xs ys (i - length xs) no-seat) in
         rw e (stands-behind xs i (sym j) (q (i - length xs) (omega (arith, length-append xs ys))))
 
+-- one more seat, whose children are those before it
 seated-last : (xs : List Seat) (x : Seat) → Seated xs → xs ++ (x ∷ []) ≡ under x → Seated (xs ++ (x ∷ []))
 unfolding Seated
 seated-last xs x p e i h = by-place (decLt i (length xs))
@@ -163,10 +165,12 @@ seated-last xs x p e i h = by-place (decLt i (length xs))
           ends = omega (arith, length-seats (x .tree) (x .piece) (x .new), ap length e);
         })
 
+-- none at all
 none-seated : Seated []
 unfolding Seated
 none-seated i h = absurd (not-suc-le-zero h)
 
+-- in a tree's list every seat stands so: it was put behind all that is under it
 pub seats-seated : (t : Tree ℕ) (p n : ℕ) → Seated (seats t p n)
 seats-seated (leaf a) p n = seated-last [] _ none-seated refl
 seats-seated (catenation s t) p n = seated-last _ _ (seated-append _ _ (seats-seated s _ _) (seats-seated t _ _)) refl
@@ -191,12 +195,15 @@ label x = root-label (x .tree)
 record Labelled (xs : List Seat) (ls : List ℕ) : Type 0 where
   so : ls ≡ map label xs
 
+-- two lists, one after the other
 labelled-append : {xs ys : List Seat} {ls ms : List ℕ} → Labelled xs ls → Labelled ys ms → Labelled (xs ++ ys) (ls ++ ms)
 labelled-append e f = record { so = rw (map-append, e .so, f .so) }
 
+-- one seat
 labelled-root : (x : Seat) → Labelled (x ∷ []) (label x ∷ [])
 labelled-root x = record { so = refl }
 
+-- a tree's list, node by node
 labelled : (t : Tree ℕ) (p n : ℕ) → Labelled (seats t p n) (labels t)
 labelled (leaf a) p n = labelled-root (seat (leaf a) p n)
 labelled (catenation s t) p n = labelled-append (labelled-append (labelled s _ _) (labelled t _ _)) (labelled-root (seat (catenation s t) p n))
@@ -303,6 +310,7 @@ around-root xs i (star s) p n w =
       right = λ f. refl;
     }
 
+-- so it is at every record of a list in which every seat stands behind all that is under it
 pub around : (xs : List Seat) (i : ℕ) → Seated xs → i < length xs → Around xs i (seat-at xs i)
 unfolding Seated
 around xs i s h = around-root xs i _ _ _ (s i h)

@@ -3,12 +3,12 @@
 use Prim.Native.Nat.{ℕ, zero, suc, _+_, _*_, _-_, _%_, _/_, _≤_, _<_}
 use mathlib.Core.Path.{_≡_, refl, ap, sym, subst, _∙_}
 use mathlib.Core.Bool.{Bool, true, false, cond}
-use mathlib.Core.List.{List, [], _∷_, _++_, append-assoc, append-nil}
+use mathlib.Core.List.{List, [], _∷_, _++_}
 use native.Mathlib.Omega.{arith}
 use native.Mathlib.Nat.{not-suc-le-zero, le-of-suc-le-suc, le-refl, add-zero}
 use lib.Dec.{eqb}
 use Rattle.tree.specs.Lengths.{nodes-positive}
-use lib.ListN.{length, getD, take, drop, length-append, List·getD-append}
+use lib.ListN.{length, drop, length-append, List·getD-append}
 use lib.Seq.{drop-append-add, getD-append-add}
 use native.Mathlib.Decide.{decLt}
 use borrow.Author.Tests.{ne-eqb}
@@ -47,6 +47,7 @@ abbrev pub written : ℕ → List Seat → List ℕ
 written i [] = []
 written i (x ∷ xs) = record-at i x ++ written (suc i) xs
 
+-- two lists of seats, one after the other
 written-append : (i : ℕ) (xs ys : List Seat) → written i (xs ++ ys) ≡ written i xs ++ written (i + length xs) ys
 written-append i [] ys = rw add-zero
 written-append i (x ∷ xs) ys =
@@ -57,6 +58,7 @@ written-append i (x ∷ xs) ys =
 record Writes (xs : List Seat) (first : ℕ) (bytes : List ℕ) : Type 0 where
   so : bytes ≡ written first xs
 
+-- two lists of records, one after the other
 writes-append : {xs ys : List Seat} {first : ℕ} (next : ℕ) {bs cs : List ℕ} → next ≡ first + length xs → Writes xs first bs → Writes ys next cs → Writes (xs ++ ys) first (bs ++ cs)
 writes-append {xs} {ys} {first} next e v w =
     record { so = rw (v .so, w .so, e) (sym (written-append first xs ys)) }
@@ -140,9 +142,11 @@ pub record Small (limit : ℕ) (x : Seat) : Type 0 where
   pub older : x .piece < x .new
   pub bounded : x .new + cut-edges (x .tree) ≤ limit
 
+-- each seat's numbers do
 Each-small : ℕ → List Seat → Type 0
 Each-small limit xs = (i : ℕ) → i < length xs → Small limit (seat-at xs i)
 
+-- in two lists, one after the other
 small-append : (limit : ℕ) (xs ys : List Seat) → Each-small limit xs → Each-small limit ys → Each-small limit (xs ++ ys)
 unfolding Each-small
 small-append limit xs ys p q i h = by-place (decLt i (length xs))
@@ -154,6 +158,7 @@ small-append limit xs ys p q i h = by-place (decLt i (length xs))
         let e : seat-at (xs ++ ys) i ≡ seat-at ys (i - length xs) = rw j at (getD-append-add xs ys (i - length xs) no-seat) in
         rw e (q (i - length xs) (omega (arith, length-append xs ys)))
 
+-- in a list of one
 small-one : (limit : ℕ) (x : Seat) → Small limit x → Each-small limit (x ∷ [])
 unfolding Each-small
 small-one limit x s zero h = s
@@ -169,10 +174,12 @@ small-left : (limit : ℕ) (u s : Tree ℕ) (p n after : ℕ) → cut-edges u �
     → Small limit (seat s (left-piece u p n) (left-new u n))
 small-left limit u s p n after e w = record { older = child-older (left-cut u) p n n (w .older) (le-refl n); bounded = omega (arith, w .bounded) }
 
+-- and those of the right one
 small-right : (limit : ℕ) (u t : Tree ℕ) (p n : ℕ) → cut-edges u ≡ one (left-cut u) + of-left cut-edges u + (one (right-cut u) + cut-edges t) → Small limit (seat u p n)
     → Small limit (seat t (right-piece u p n) (right-new u n))
 small-right limit u t p n e w = record { older = child-older (right-cut u) p (past-left u n) n (w .older) (omega arith); bounded = omega (arith, w .bounded) }
 
+-- the numbers of a tree's seats stay below what bounds the root's
 seats-small : (limit : ℕ) (t : Tree ℕ) (p n : ℕ) → Small limit (seat t p n) → Each-small limit (seats t p n)
 seats-small limit (leaf a) p n w = small-one limit (seat (leaf a) p n) w
 seats-small limit (catenation s t) p n w =

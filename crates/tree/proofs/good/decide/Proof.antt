@@ -1,6 +1,5 @@
 -- `tree::good::decide` meets its contract: a list of another length is not good, and for the rest there is room.
 -- Assumes nothing.
-use native.Mathlib.Omega.{arith}
 use Rattle.tree.specs.Decide.{not-by-length, not-by-size}
 use borrow.Author.Needs.{needs}
 use Rattle.tree.proofs.good.decide.Statement.{statement}

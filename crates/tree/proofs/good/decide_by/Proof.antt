@@ -1,6 +1,5 @@
 -- `tree::good::decide_by` meets its contract: each return has its reason, by what the calls before it promise.
 -- Assumes nothing.
-use mathlib.Core.Path.{_∙_}
 use native.Mathlib.Omega.{arith}
 use borrow.Author.Tests.{not-true, not-false}
 use Rattle.tree.specs.Decide.{not-by-labels, not-by-pieces, not-by-bytes, good-by-bytes}

@@ -1,7 +1,7 @@
 -- `tree::hand::hand_down` meets its contract. The loop's invariant: the records from `i` on have handed their numbers to their children.
 -- A turn hands on those of record `i - 1`, which its own slot holds; that a tree has these labels bounds them all. The measure is `i`.
 -- Assumes nothing.
-use Prim.Native.Nat.{ℕ, _+_, _≤_, _-_}
+use Prim.Native.Nat.{_≤_, _-_}
 use mathlib.Core.Path.{_≡_, ap}
 use native.Mathlib.Omega.{arith}
 use lib.ListN.{length, length-set}

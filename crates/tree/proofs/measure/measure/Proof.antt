@@ -8,7 +8,7 @@ use native.Mathlib.Omega.{arith}
 use lib.ListN.{length, getD}
 use Rattle.language.specs.Tree.{Tree}
 use Rattle.tree.specs.Records.{labels}
-use Rattle.tree.specs.Measured.{Room, Measured, Gathered, gathered, children, right-size-le, room-stays, measured-none, measured-more, node}
+use Rattle.tree.specs.Measured.{Room, Measured, Gathered, gathered, children, right-size-le, room-stays, measured-none, measured-more}
 use Rattle.tree.proofs.measure.measure.Statement.{statement}
 use Rattle.tree.proofs.measure.measure.Tie as tie
 use Rattle.tree.proofs.measure.measure.Reads as reads
