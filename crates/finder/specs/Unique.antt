@@ -3,12 +3,10 @@
 use Prim.Native.Nat.{ℕ, _≤_}
 use native.Mathlib.Omega.{arith}
 use mathlib.Core.Path.{_≡_, refl, ap, subst}
-use mathlib.Core.Bool.{Bool, true, false}
 use mathlib.Core.Logic.{_↔_}
 use mathlib.Core.List.{List}
 use lib.ListN.{length}
-use lib.Dec.{eqb}
-use borrow.Author.Tests.{eq-eqb}
+use lib.Dec.{T, eqb, eqb-refl}
 use Rattle.language.specs.Tree.{Tree}
 use Rattle.language.specs.Language.{Matches}
 use Rattle.tree.specs.Records.{Good}
@@ -20,11 +18,6 @@ use Rattle.finder.specs.declared.Matched.{Matched}
 use Rattle.finder.specs.declared.Matched.the-variants.{Yes, No, NotGood as Match-not-good, TooLong as Match-too-long}
 use Rattle.finder.specs.declared.Searched.{Searched}
 use Rattle.finder.specs.declared.Searched.the-variants.{Found as Found-at, Nothing, NotGood as Search-not-good, TooLong as Search-too-long}
-
--- a test has passed
-abbrev Passed : Bool → Type 0
-Passed true = Unit {0}
-Passed false = ⊥
 
 -- an answer that is no refusal
 abbrev answer : Answer → Searched
@@ -55,8 +48,8 @@ module _ (list text : List ℕ) where
   of-one {P} {Q} a b = (b .t, subst P (good-unique list (a .t) (b .t) (a .good) (b .good)) (a .holds), b .holds)
 
   -- so they give answers of the same number
-  passed : {m n : ℕ} → Reason m → Reason n → Passed (eqb m n)
-  passed {m} {n} a b = rw (eq-eqb m n (reason-unique a b)) tt
+  passed : {m n : ℕ} → Reason m → Reason n → T (eqb m n)
+  passed {m} {n} a b = subst (λ (k : ℕ). T (eqb m k)) (reason-unique a b) (eqb-refl m)
 
   -- the reason of what match answers
   match-reason : (r : Matched) → Match-answers list text r → Reason (match-number r)
@@ -66,7 +59,7 @@ module _ (list text : List ℕ) where
   match-reason Match-too-long a = too-long a
 
   -- match answers of one number are the same: a text lies in a language or not
-  match-settled : (r r' : Matched) → Passed (eqb (match-number r) (match-number r')) → Match-answers list text r → Match-answers list text r' → r ≡ r'
+  match-settled : (r r' : Matched) → T (eqb (match-number r) (match-number r')) → Match-answers list text r → Match-answers list text r' → r ≡ r'
   match-settled Yes Yes same a b = refl
   match-settled No No same a b = refl
   match-settled Yes No same a b = let (t, p, q) = of-one a b in absurd (q p)
@@ -90,7 +83,7 @@ module _ (list text : List ℕ) where
   search-reason Search-too-long a = too-long a
 
   -- search answers of one number are the same: of all parts there is one that begins earliest and then ends latest, or none
-  search-settled : (r r' : Searched) → Passed (eqb (search-number r) (search-number r')) → Search-answers list text r → Search-answers list text r' → r ≡ r'
+  search-settled : (r r' : Searched) → T (eqb (search-number r) (search-number r')) → Search-answers list text r → Search-answers list text r' → r ≡ r'
   search-settled (Found-at s e) (Found-at i j) same a b = let (t, p, q) = of-one a b in ap answer (search-unique (Matches t) text (at s e) (at i j) p q)
   search-settled (Found-at s e) Nothing same a b = let (t, p, q) = of-one a b in ap answer (search-unique (Matches t) text (at s e) nothing p q)
   search-settled Nothing (Found-at i j) same a b = let (t, p, q) = of-one a b in ap answer (search-unique (Matches t) text nothing (at i j) p q)

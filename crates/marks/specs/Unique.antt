@@ -7,8 +7,7 @@ use mathlib.Core.Path.{_≡_, refl, sym, ap, _∙_, subst}
 use mathlib.Core.Bool.{Bool, true, false}
 use mathlib.Core.Logic.{_↔_, Iff·symm, Iff·trans}
 use mathlib.Core.List.{List, _++_}
-use lib.Dec.{eqb}
-use borrow.Author.Tests.{eq-eqb}
+use lib.Dec.{T, eqb, eqb-refl}
 use lib.ListN.{length, take, drop, take-append-drop}
 use Rattle.language.specs.Tree.{Tree}
 use Rattle.language.specs.Language.{Is}
@@ -41,11 +40,6 @@ same-answer : (a b : Bool) → (a ≡ true) ↔ (b ≡ true) → a ≡ b
 same-answer true b h = sym (h .0 refl)
 same-answer false true h = h .1 refl
 same-answer false false h = refl
-
--- a test has passed
-abbrev Passed : Bool → Type 0
-Passed true = Unit {0}
-Passed false = ⊥
 
 module _ (list before : List ℕ) where
   -- the list is good, and P holds of its tree
@@ -141,7 +135,7 @@ module _ (list before : List ℕ) where
     same-number after after' NotMarks r' a b = sym (not-marks-exactly after' r' b .1 (a .because))
 
     -- answers of one number are the same: a refusal leaves every word as it was
-    settled : (after after' : List ℕ) (r r' : Answer) → Passed (eqb (number-of r) (number-of r')) → Answers after r → Answers after' r' → (r ≡ r') × (after ≡ after')
+    settled : (after after' : List ℕ) (r r' : Answer) → T (eqb (number-of r) (number-of r')) → Answers after r → Answers after' r' → (r ≡ r') × (after ≡ after')
     settled after after' (Marked yes') (Marked yes'') same a b = made-unique (a .made) (b .made)
     settled after after' NotGood NotGood same a b = (refl, a .unchanged ∙ sym (b .unchanged))
     settled after after' TooFewWords TooFewWords same a b = (refl, a .unchanged ∙ sym (b .unchanged))
@@ -149,7 +143,7 @@ module _ (list before : List ℕ) where
 
     -- so two results are the same
     answers-unique : (after after' : List ℕ) (r r' : Answer) → Answers after r → Answers after' r' → (r ≡ r') × (after ≡ after')
-    answers-unique after after' r r' a b = settled after after' r r' (rw (eq-eqb (number-of r) (number-of r') (same-number after after' r r' a b)) tt) a b
+    answers-unique after after' r r' a b = settled after after' r r' (subst (λ (n : ℕ). T (eqb (number-of r) n)) (same-number after after' r r' a b) (eqb-refl (number-of r))) a b
 
 -- what start promises, in these words: nothing is asked of the words lent
 starts-answers : (list before after : List ℕ) (r : Answer) → Starts list before after r → Answers list before (λ t. Started t) (λ t. Unit {0}) after r
