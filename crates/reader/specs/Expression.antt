@@ -1,16 +1,15 @@
 -- What reading a whole expression gives: its tree's labels, or the first refusal of 1 to 7.
 -- Assumes nothing.
-use Prim.Native.Nat.{ℕ, _+_, _<_, _≤_}
+use Prim.Native.Nat.{ℕ, _<_, _≤_}
 use native.Mathlib.Omega.{arith}
 use mathlib.Core.Path.{_≡_, refl, ap, _∙_}
 use mathlib.Core.Bool.{Bool}
 use mathlib.Core.List.{List, [], _∷_}
 use lib.ListN.{length, take}
-use lib.Dec.{ltb}
 use borrow.Author.Tests.{lt-ltb, le-ltb}
 use Rattle.language.specs.Tree.{Tree}
 use Rattle.tree.specs.Records.{labels}
-use Rattle.reader.specs.Scanner.{Outcome, tree, refused, due, nothing, pick-outcome, scan, scanned}
+use Rattle.reader.specs.Scanner.{tree, refused, due, nothing, pick-outcome, scan, scanned}
 use Rattle.reader.specs.Grammar.{united}
 use Rattle.reader.specs.Stopping.{closes-united}
 use Rattle.reader.specs.Surroundings.{from, Fails, accepts, closes-none}

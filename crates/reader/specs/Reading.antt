@@ -3,7 +3,7 @@
 use Prim.Native.Nat.{ℕ, _+_, _*_, _<_, _≤_}
 use native.Mathlib.Omega.{arith}
 use native.Mathlib.Numerals.{add-one}
-use mathlib.Core.Path.{_≡_, refl, ap, sym, _∙_}
+use mathlib.Core.Path.{_≡_, refl, _∙_}
 use mathlib.Core.Bool.{true}
 use mathlib.Core.List.{List, [], _∷_, _++_, append-assoc}
 use lib.ListN.{length, take, getD, set}
@@ -13,7 +13,7 @@ use Rattle.tree.specs.Records.{labels, label-of}
 use Rattle.reader.specs.Bytes.{sign-of}
 use Rattle.reader.specs.Grammar.{Level, starred, joined, united}
 use Rattle.reader.specs.Stopping.{Stops, beginning, closes-united}
-use Rattle.reader.specs.Surroundings.{Leads, Fails, leads-star, leads-group, leads-joined, leads-united, leads-factor, leads-branch, fails-factor, fails-branch}
+use Rattle.reader.specs.Surroundings.{Leads, Fails, leads-star, leads-group, leads-joined, leads-united, leads-factor, leads-branch}
 use Rattle.reader.specs.declared.part.Part.{Part}
 use Rattle.reader.specs.declared.part.Part.the-variants.{Read, Refused}
 

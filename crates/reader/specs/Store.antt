@@ -2,8 +2,8 @@
 -- Assumes nothing.
 use Prim.Native.Nat.{ℕ, _*_, _<_, _≤_}
 use native.Mathlib.Omega.{arith}
-use mathlib.Core.Path.{_≡_, refl, ap, sym, _∙_}
-use mathlib.Core.Bool.{Bool, true, false}
+use mathlib.Core.Path.{_≡_, ap, _∙_}
+use mathlib.Core.Bool.{true, false}
 use mathlib.Core.List.{List, _++_}
 use lib.ListN.{length, drop}
 use lib.Dec.{ltb}
@@ -11,8 +11,8 @@ use borrow.Author.Tests.{lt-ltb, le-ltb}
 use Rattle.language.specs.Tree.{Tree, nodes}
 use Rattle.tree.specs.Records.{labels, encode, piece-count}
 use Rattle.tree.specs.Lengths.{length-labels}
-use Rattle.reader.specs.Scanner.{tree, scanned}
-use Rattle.reader.specs.Answer.{numbers, refusing, reading, pick, answer-for, buffer-for, answered, stored}
+use Rattle.reader.specs.Scanner.{tree}
+use Rattle.reader.specs.Answer.{numbers, answer-for, buffer-for}
 use Rattle.reader.specs.declared.answer.Answer.{Answer}
 use Rattle.reader.specs.declared.answer.Answer.the-variants.{Read, Refused}
 

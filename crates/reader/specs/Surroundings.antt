@@ -9,12 +9,11 @@ use mathlib.Core.Option.{Option, none, some}
 use mathlib.Core.List.{List, [], _∷_}
 use lib.ListN.{length, drop, getD}
 use lib.Seq.{drop-cons, drop-length}
-use lib.Dec.{ltb}
 use borrow.Author.Tests.{lt-ltb, le-ltb}
 use Rattle.language.specs.Tree.{Tree, leaf, catenation, union, star}
 use Rattle.reader.specs.Bytes.{Sign, opening, closing, bar, asterisk, backslash, plain, sign-of, special}
 use Rattle.reader.specs.Signs.{Means, sign-means}
-use Rattle.reader.specs.Scanner.{Outcome, tree, refused, Phase, due, escaping, after, Before, Group, nothing, catenated, finished, next-union, next-factor, Onward, pick-outcome, operand, follow, byte-at, end-at, scan}
+use Rattle.reader.specs.Scanner.{tree, refused, Phase, due, escaping, after, Before, Group, nothing, finished, next-union, next-factor, Onward, pick-outcome, operand, follow, byte-at, end-at, scan}
 use Rattle.reader.specs.Grammar.{Level, single, starred, joined, united}
 use Rattle.reader.specs.Stopping.{stopping, Stops, at-end, at-sign, beginning}
 

@@ -6,7 +6,7 @@ use native.Mathlib.Omega.{arith}
 use lib.ListN.{length}
 use lib.Seq.{length-take-le}
 use borrow.Author.Needs.{needs}
-use Rattle.reader.specs.Expression.{Accepted, Rejected}
+use Rattle.reader.specs.Expression.{Accepted}
 use Rattle.reader.proofs.read.Statement.{statement}
 use Rattle.reader.proofs.read.Tie as tie
 

@@ -1,11 +1,11 @@
 -- `reader::catenation::catenation`. The loop's invariant: what was read where the loop begins is read on up to `place`, and an operand ends there.
 -- Assumes nothing.
-use Prim.Native.Nat.{ℕ, _+_, _-_, _≤_}
-use mathlib.Core.Path.{_≡_, refl, sym, _∙_}
+use Prim.Native.Nat.{ℕ, _-_}
+use mathlib.Core.Path.{_≡_, refl, _∙_}
 use native.Mathlib.Omega.{arith}
 use borrow.Author.Needs.{needs}
 use lib.ListN.{length, length-set}
-use Rattle.reader.specs.Grammar.{starred, joined, united}
+use Rattle.reader.specs.Grammar.{starred, joined}
 use Rattle.reader.specs.Stopping.{Stops, at-end, stops-at, begins-next}
 use Rattle.reader.specs.Surroundings.{fails-joined, fails-factor}
 use Rattle.reader.specs.Reading.{Carries, Whole, Went, went-joined, went-factor}

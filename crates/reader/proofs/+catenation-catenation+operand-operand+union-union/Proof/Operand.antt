@@ -1,11 +1,9 @@
 -- `reader::operand::operand`: a `(` with the union in it, or a character, and then the stars.
 -- Assumes nothing.
-use Prim.Native.Nat.{ℕ, _+_, _-_, _≤_}
-use mathlib.Core.Path.{_≡_, refl, sym, _∙_}
+use Prim.Native.Nat.{ℕ, _+_}
 use native.Mathlib.Omega.{arith}
 use borrow.Author.Needs.{needs}
-use lib.ListN.{length, length-set}
-use Rattle.reader.specs.Grammar.{starred, joined, united}
+use Rattle.reader.specs.Grammar.{starred, united}
 use Rattle.reader.specs.Surroundings.{fails-end, fails-deep, fails-group, fails-open}
 use Rattle.reader.specs.Reading.{Whole, Went, went-group, then-stars}
 use Rattle.reader.proofs.operand.operand.Reads as operand

@@ -1,11 +1,11 @@
 -- `reader::union::union`. The loop's invariant: what was read where the loop begins is read on up to `place`, and a catenation ends there.
 -- Assumes nothing.
-use Prim.Native.Nat.{ℕ, _+_, _-_, _≤_}
-use mathlib.Core.Path.{_≡_, refl, sym, _∙_}
+use Prim.Native.Nat.{ℕ, _+_, _-_}
+use mathlib.Core.Path.{_≡_, refl, _∙_}
 use native.Mathlib.Omega.{arith}
 use borrow.Author.Needs.{needs}
 use lib.ListN.{length, length-set}
-use Rattle.reader.specs.Grammar.{starred, joined, united}
+use Rattle.reader.specs.Grammar.{joined, united}
 use Rattle.reader.specs.Stopping.{Stops, at-end, stops-united}
 use Rattle.reader.specs.Surroundings.{fails-united, fails-branch}
 use Rattle.reader.specs.Reading.{Carries, Whole, Went, went-united, went-branch}

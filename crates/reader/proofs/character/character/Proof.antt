@@ -1,54 +1,40 @@
 -- `reader::character::character` meets its contract: each answer is one step of the scanner, or two after a `\`.
 -- Assumes nothing.
-use mathlib.Core.Path.{ap, sym, _∙_}
+use mathlib.Core.Path.{sym, _∙_}
 use native.Mathlib.Omega.{arith}
-use Rattle.reader.specs.Bytes.{sign-of}
 use Rattle.reader.specs.Stopping.{not-special}
 use Rattle.reader.specs.Surroundings.{leads-plain, leads-escaped, fails-escaped, fails-last, fails-special}
 use Rattle.reader.specs.Reading.{character-read}
 use borrow.Author.Needs.{needs}
 use Rattle.reader.proofs.character.character.Statement.{statement}
 use Rattle.reader.proofs.character.character.Tie as tie
-use Rattle.reader.proofs.character.character.Reads as reads
-use Rattle.reader.proofs.character.character.Lts as lts
-use Rattle.reader.proofs.character.is_special.Reads as is-special-reads
-use Rattle.reader.proofs.character.leaf.Reads as leaf-reads
 
--- src/character.rt:49:16
 shared-slice-read-byte : tie.Need-shared-slice-read-byte
 shared-slice-read-byte c = search needs
 
--- src/character.rt:51:21
 add-place : tie.Need-add-place
 add-place c = search needs
 
--- src/character.rt:53:13
 returns : tie.Need-returns
 returns c =
     let s = c .before .before .before .before .before in
     record { fails = λ depth. fails-last (s .args .expr .now) depth (s .args .at) (c .if2 .taken) (c .before .if1 .taken) }
 
--- src/character.rt:55:23
 shared-slice-read-escaped : tie.Need-shared-slice-read-escaped
 shared-slice-read-escaped c = search needs
 
--- src/character.rt:56:12
 is-special-requires : tie.Need-is-special-requires
 is-special-requires c κs = search needs
 
--- src/character.rt:57:34
 add-leaf : tie.Need-add-leaf
 add-leaf c = search needs
 
--- src/character.rt:57:13
 leaf-requires : tie.Need-leaf-requires
 leaf-requires c κs = search needs
 
--- src/character.rt:57:13
 same-length : tie.Need-same-length
 same-length c = search needs
 
--- src/character.rt:57:13
 returns-2 : tie.Need-returns-2
 returns-2 c =
     let s = c .before .before .before .before .before .before .before .before .before .before .before .before in
@@ -56,35 +42,28 @@ returns-2 c =
     let special = sym (c .before .before .before .before .before .is-special .ensures) ∙ c .before .before .before .before .if3 .taken in
     character-read (s .args .labels .now) _ _ (λ depth. leads-escaped (s .args .expr .now) depth (s .args .at) (omega arith) e special) (omega arith) (omega arith) (omega arith) (c .before .before .leaf .ensures .0) (c .before .before .leaf .ensures .1)
 
--- src/character.rt:59:9
 returns-3 : tie.Need-returns-3
 returns-3 c =
     let s = c .before .before .before .before .before .before .before .before in
     record { fails = λ depth. fails-escaped (s .args .expr .now) depth (s .args .at) (omega arith) (c .before .before .before .before .if1 .taken) (sym (c .before .is-special .ensures) ∙ c .if3 .left) }
 
--- src/character.rt:61:8
 is-special-requires-2 : tie.Need-is-special-requires-2
 is-special-requires-2 c κs = search needs
 
--- src/character.rt:62:9
 returns-4 : tie.Need-returns-4
 returns-4 c =
     let s = c .before .before .before .before .before .before in
     record { fails = λ depth. fails-special (s .args .expr .now) depth (s .args .at) (s .pre .0) (s .pre .1 .0) (c .before .before .if1 .left) (sym (c .before .is-special2 .ensures) ∙ c .if4 .taken) }
 
--- src/character.rt:64:16
 add-leaf-2 : tie.Need-add-leaf-2
 add-leaf-2 c = search needs
 
--- src/character.rt:64:5
 leaf-requires-2 : tie.Need-leaf-requires-2
 leaf-requires-2 c κs = search needs
 
--- src/character.rt:43:1
 same-length-2 : tie.Need-same-length-2
 same-length-2 c = search needs
 
--- src/character.rt:43:1
 returns-5 : tie.Need-returns-5
 returns-5 c =
     let s = c .before .before .before .before .before .before .before .before .before .before in
