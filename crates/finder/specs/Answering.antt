@@ -10,7 +10,7 @@ use native.Mathlib.Omega.{arith}
 use lib.ListN.{length, getD}
 use Rattle.language.specs.Tree.{Tree}
 use Rattle.language.specs.Language.{Matches}
-use Rattle.marks.specs.Tables.{Holding, Answered}
+use Rattle.tables.specs.Tables.{Holding, Answered}
 use Rattle.finder.specs.Found.{part, Part, part-empty, part-next, part-join}
 use Rattle.finder.specs.Progress.{better, Says, So-far, Settled, so-far-first, so-far-next, so-far-settled}
 

@@ -14,7 +14,7 @@ use Rattle.language.specs.Automaton.{State, start, accepting, left, right, Stat
 use Rattle.language.specs.Nested.{Nested, leaf, catenation, union, star, below, whole, Has, Models}
 use Rattle.tree.specs.Cut.{nest, wanted}
 use Rattle.tree.specs.Nesting.{whole-nest}
-use Rattle.marks.specs.Words.{Bit, width, run, Marked, Holds, Clean-below, Clean}
+use Rattle.tables.specs.Words.{Bit, width, run, Marked, Holds, Clean-below, Clean}
 use Rattle.finder.specs.Computed.{Test, Passing, start-test, after-test, computed-models}
 
 -- the words hold the marks X of the tree's automaton, cut as wanted, and no bit past the last state is set

@@ -10,7 +10,7 @@ ghost use mathlib.Core.Logic.{_↔_};
 ghost use Rattle.language.specs.Tree.{Tree};
 ghost use Rattle.language.specs.Language.{Matches};
 ghost use Rattle.tree.specs.Records.{Good};
-ghost use Rattle.marks.specs.Given.{Good-list};
+ghost use Rattle.tables.specs.Given.{Good-list};
 ghost use Rattle.finder.specs.Found.{Answers};
 ghost use Rattle.finder.specs.Parts.{answer-of};
 

@@ -7,7 +7,7 @@ ghost use mathlib.Core.Bool.{true};
 ghost use mathlib.Core.Logic.{_↔_};
 ghost use Rattle.language.specs.Tree.{Tree};
 ghost use Rattle.language.specs.Language.{Matches};
-ghost use Rattle.marks.specs.Tables.{Prepared, Ready};
+ghost use Rattle.tables.specs.Tables.{Prepared, Ready};
 
 // Whether the text is in the language of the tree that the tables are of.
 pub fn text_matches(

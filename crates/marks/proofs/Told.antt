@@ -9,7 +9,7 @@ use Rattle.tree.specs.Decide.{Judged}
 use Rattle.tree.specs.declared.good.Decided.{Decided}
 use Rattle.tree.specs.declared.good.Decided.the-variants.{Good as good, NotGood as not-good}
 use Rattle.tree.proofs.good.Decided.{the-type}
-use Rattle.marks.specs.Given.{Good-list}
+use Rattle.tables.specs.Given.{Good-list}
 use Rattle.marks.specs.Promise.{Not-good}
 
 -- the list is good

@@ -8,7 +8,7 @@ use native.Mathlib.Nat.{zero-add}
 use lib.ListN.{getD, drop}
 use Rattle.language.specs.Automaton.{State, start, accepting, left, right}
 use Rattle.language.specs.Nested.{Nested, leaf, catenation, union, star, below, Has, origin}
-use Rattle.marks.specs.Words.{Bit, width, run, number, Marked, Agreeing}
+use Rattle.tables.specs.Words.{Bit, width, run, number, Marked, Agreeing}
 use Rattle.marks.specs.Spots.{bit-at}
 
 -- states that may be equal, by how they begin

@@ -10,7 +10,7 @@ use lib.ListN.{length, getD, take}
 use lib.Seq.{ext-getD, getD-take, length-take-le}
 use Rattle.language.specs.Automaton.{State, left, right}
 use Rattle.language.specs.Nested.{Nested, leaf, catenation, union, star, below, Has}
-use Rattle.marks.specs.Words.{Bit, width, run, number, Holds, Clean}
+use Rattle.tables.specs.Words.{Bit, width, run, number, Holds, Clean}
 use Rattle.marks.specs.Bits.{bit-below, same-bits}
 use Rattle.marks.specs.Numbers.{number-onto}
 use Rattle.marks.specs.Spots.{Spot, own, under, shift, enter, spot, Held, holds-held, own-spot, widths, getD-left, getD-right, clean-words}

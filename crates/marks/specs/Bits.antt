@@ -11,7 +11,7 @@ use native.Mathlib.Omega.{arith}
 use lib.Arith.{bin-ind, digits-mod}
 use lib.Bits.{bitOr, or-step, or-shr}
 use lib.Pow.{pow-pos, pow-mono, shl-exact, shr-shr, split}
-use Rattle.marks.specs.Words.{Bit}
+use Rattle.tables.specs.Words.{Bit}
 
 -- whether a bit is set can be tested
 pub dec-bit : (w i : ℕ) → Dec (Bit w i)

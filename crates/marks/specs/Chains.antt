@@ -9,8 +9,8 @@ use mathlib.Core.List.{List, [], _∷_, _++_}
 use lib.ListN.{length, getD, set, length-set}
 use lib.Seq.{getD-set-same, getD-set-other}
 use Rattle.language.specs.Nested.{Nested, leaf, catenation, union, star, below}
-use Rattle.marks.specs.Words.{width, run, Clean}
-use Rattle.marks.specs.Plan.{Children-at, row, Reaches, Each-below, Closes}
+use Rattle.tables.specs.Words.{width, run, Clean}
+use Rattle.tables.specs.Plan.{Children-at, row, Reaches, Each-below, Closes}
 use Rattle.marks.specs.Swept.{Narrow-below, tables, Laid, Sweepable, Swept, Child, children-of, part, Visited, Visits}
 use Rattle.marks.specs.Spots.{widths, Bounded, clean-words, below-power}
 use Rattle.marks.specs.Places.{Seat, seat-in, place-whole, catenation-left, catenation-right, union-left, union-right, star-inside}

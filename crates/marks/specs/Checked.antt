@@ -12,8 +12,8 @@ use lib.ListN.{length, getD, drop}
 use lib.Seq.{getD-drop, drop-drop}
 use Rattle.language.specs.Automaton.{accepting}
 use Rattle.language.specs.Nested.{Nested, leaf, catenation, union, star, below}
-use Rattle.marks.specs.Words.{Bit, width, run, number, Clean-below, Clean, Agreeing}
-use Rattle.marks.specs.Plan.{Pieces, Piece-at, Children-at, Planned}
+use Rattle.tables.specs.Words.{Bit, width, run, number, Clean-below, Clean, Agreeing}
+use Rattle.tables.specs.Plan.{Pieces, Piece-at, Children-at, Planned}
 use Rattle.marks.specs.Numbers.{width-two, number-accepting}
 use Rattle.marks.specs.Bits.{Told}
 use Rattle.marks.specs.Parents.{Parent, parent-unique, Every-child, hanging-child, every-of-all, all-of-every}

@@ -5,8 +5,8 @@ use mathlib.Core.Path.{sym, ap, _∙_, subst}
 use mathlib.Core.List.{List}
 use lib.ListN.{getD}
 use Rattle.language.specs.Nested.{Nested}
-use Rattle.marks.specs.Words.{Bit, width, number}
-use Rattle.marks.specs.Plan.{row, Reaches, Closes}
+use Rattle.tables.specs.Words.{Bit, width, number}
+use Rattle.tables.specs.Plan.{row, Reaches, Closes}
 use Rattle.marks.specs.Bits.{bit-below, below-of-bits}
 use Rattle.marks.specs.Rows.{row-at}
 use Rattle.marks.specs.Joining.{Joined}

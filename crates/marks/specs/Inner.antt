@@ -21,14 +21,14 @@ use Rattle.tree.specs.Cut.{wanted, nest}
 use Rattle.tree.specs.Records.{Good, piece-count}
 use Rattle.tree.specs.Least.{wanted-fits}
 use Rattle.tree.specs.Nesting.{Small, Every-below, small-pieces, whole-nest}
-use Rattle.marks.specs.Words.{Bit, width, run, Holds, Clean, Agreeing, Set-of}
-use Rattle.marks.specs.Plan.{Pieces, Planned, Each, Reaches}
+use Rattle.tables.specs.Words.{Bit, width, run, Holds, Clean, Agreeing, Set-of}
+use Rattle.tables.specs.Plan.{Pieces, Planned, Each, Reaches}
 use Rattle.marks.specs.Bits.{Told}
-use Rattle.marks.specs.Tables.{cut-up, Prepared, Roomy, Ready, Holding, Answered}
+use Rattle.tables.specs.Tables.{cut-up, Prepared, Roomy, Ready, Holding, Answered}
 use Rattle.marks.specs.Promise.{Hold, Marks-of}
 use Rattle.marks.specs.Swept.{Narrow-below, Laid, Sized}
-use Rattle.marks.specs.Given
-use Rattle.marks.specs.Given.{width-own}
+use Rattle.tables.specs.Given
+use Rattle.tables.specs.Given.{width-own}
 use Rattle.marks.specs.Table.{Closed-all}
 use Rattle.marks.specs.Low.{low-tops, checkable}
 use Rattle.marks.specs.Checked.{Checkable}

@@ -8,7 +8,7 @@ use native.Mathlib.Decide.{ℕ-discrete}
 use native.Mathlib.Omega.{arith}
 use lib.Bits.{bitOr}
 use lib.ListN.{getD}
-use Rattle.marks.specs.Words.{Bit}
+use Rattle.tables.specs.Words.{Bit}
 use Rattle.marks.specs.Bits.{bit-zero, bit-or, bit-below, below-of-nothing}
 
 -- of the words of the table from base on, those numbered by the bits of w below n are joined in r

@@ -6,8 +6,8 @@ use native.Mathlib.Omega.{arith}
 use lib.ListN.{length, getD}
 use Rattle.language.specs.Automaton.{State, start, accepting, left, right, Reads}
 use Rattle.language.specs.Nested.{Nested, leaf, catenation, union, star, below, own, given}
-use Rattle.marks.specs.Words.{width, Own, number}
-use Rattle.marks.specs.Plan.{takes, Is-own}
+use Rattle.tables.specs.Words.{width, Own, number}
+use Rattle.tables.specs.Plan.{takes, Is-own}
 use Rattle.marks.specs.Parts.{one-length, one-inside, one-end, two-length, two-left, two-right, two-end}
 use Rattle.marks.specs.Numbers.{number-below}
 

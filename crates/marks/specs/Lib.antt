@@ -1,7 +1,4 @@
--- How words hold marks, and what the tables of a list hold.
-pub mod Words
-pub mod Plan
-pub mod Tables
+-- How start and step on words hold the marks of the plain simulation.
 pub mod Promise
 pub mod Bits
 pub mod Joining
@@ -33,11 +30,4 @@ pub mod Low
 pub mod Texts
 pub mod Alike
 pub mod Unique
-pub mod Entries
-pub mod Standing
-pub mod Filling
-pub mod Walking
-pub mod Counting
-pub mod Making
-pub mod Given
 pub mod Inner

@@ -7,8 +7,8 @@ use native.Mathlib.Decide.{ℕ-discrete, decLt}
 use native.Mathlib.Omega.{arith}
 use lib.ListN.{length, getD}
 use Rattle.language.specs.Nested.{Nested, leaf, catenation, union, star, below}
-use Rattle.marks.specs.Words.{width, run}
-use Rattle.marks.specs.Plan.{Pieces, Children-at, Planned}
+use Rattle.tables.specs.Words.{width, run}
+use Rattle.tables.specs.Plan.{Pieces, Children-at, Planned}
 use Rattle.marks.specs.Numbers.{width-two}
 use Rattle.marks.specs.Swept.{Narrow-below}
 use Rattle.marks.specs.Checked.{Checkable}

@@ -12,8 +12,8 @@ use Rattle.language.specs.Tree.{Tree}
 use Rattle.language.specs.Language.{Is}
 use Rattle.language.specs.Automaton.{State, start, accepting, left, right, Reads}
 use Rattle.language.specs.Nested.{Nested, leaf, catenation, union, star, below, own, Has, Reading, Move, Leaf, stand-in, given}
-use Rattle.marks.specs.Words.{Bit, width, run, Own, number, Marked, Holds, Clean-below, Clean}
-use Rattle.marks.specs.Plan.{row, takes, Is-own, Moves, Pieces, Piece-at, Children-at, Planned}
+use Rattle.tables.specs.Words.{Bit, width, run, Own, number, Marked, Holds, Clean-below, Clean}
+use Rattle.tables.specs.Plan.{row, takes, Is-own, Moves, Pieces, Piece-at, Children-at, Planned}
 use Rattle.marks.specs.Rows.{Rows, rows-set-at}
 use Rattle.marks.specs.Swept.{Narrow-below}
 use mathlib.Core.Logic.{Iff·trans as iff-trans}

@@ -12,8 +12,8 @@ use lib.Pow.{pow-mono}
 use lib.ListN.{getD}
 use Rattle.language.specs.Automaton.{State, Reads}
 use Rattle.language.specs.Nested.{Nested, own}
-use Rattle.marks.specs.Words.{Bit, width, Own, number}
-use Rattle.marks.specs.Plan.{row, takes, Is-own, Moves}
+use Rattle.tables.specs.Words.{Bit, width, Own, number}
+use Rattle.tables.specs.Plan.{row, takes, Is-own, Moves}
 use Rattle.marks.specs.Bits.{bit-zero, bit-with, bit-below, bit-low, bit-suc, below-of-nothing, below-of-bits}
 use Rattle.marks.specs.Numbers.{number-below, number-onto, number-injective}
 use Rattle.marks.specs.Rows.{row-at}

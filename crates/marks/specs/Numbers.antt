@@ -7,7 +7,7 @@ use native.Mathlib.Omega.{arith}
 use lib.ListN.{length, getD, length-map, List·getD-map}
 use Rattle.language.specs.Automaton.{State, start, accepting, left, right}
 use Rattle.language.specs.Nested.{Nested, leaf, catenation, union, star, below}
-use Rattle.marks.specs.Words.{width, Own, number}
+use Rattle.tables.specs.Words.{width, Own, number}
 use Rattle.marks.specs.Parts.{one-length, one-inside, one-end, two-length, two-left, two-right, two-end, at-start, in-left, in-right, at-end, place}
 
 -- within a list the default does not matter

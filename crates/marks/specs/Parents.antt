@@ -7,8 +7,8 @@ use native.Mathlib.Decide.{ℕ-discrete, decLt}
 use native.Mathlib.Omega.{arith}
 use lib.ListN.{getD}
 use Rattle.language.specs.Nested.{Nested, leaf, catenation, union, star, below}
-use Rattle.marks.specs.Words.{width, run}
-use Rattle.marks.specs.Plan.{Pieces, Piece-at, Children-at}
+use Rattle.tables.specs.Words.{width, run}
+use Rattle.tables.specs.Plan.{Pieces, Piece-at, Children-at}
 
 -- of the pieces before c, k is the last whose run reaches past c
 pub record Parent (runs : List ℕ) (c k : ℕ) : Type 0 where

@@ -5,7 +5,7 @@ use native.Mathlib.Nat.{one-mul, zero-mul}
 use native.Mathlib.Omega.{arith}
 use mathlib.Core.Path.{_≡_, sym, ap, _∙_, subst}
 use mathlib.Core.Logic.{_⊎_, inl, inr, _↔_, ⊎-elim}
-use Rattle.marks.specs.Words.{Bit}
+use Rattle.tables.specs.Words.{Bit}
 use Rattle.marks.specs.Bits.{dec-bit, clear-bit, bit-zero, bit-or, bit-power, bit-below, below-of-bits}
 use Rattle.marks.specs.Swept.{passed}
 

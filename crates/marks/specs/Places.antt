@@ -8,7 +8,7 @@ use mathlib.Core.List.{_++_}
 use lib.ListN.{getD}
 use Rattle.language.specs.Automaton.{State, start, accepting, left, right}
 use Rattle.language.specs.Nested.{Nested, catenation, union, star, Has}
-use Rattle.marks.specs.Words.{width, run}
+use Rattle.tables.specs.Words.{width, run}
 use Rattle.marks.specs.Spots.{Spot, own, under, shift, spot, Within, spot-within, widths, getD-left, getD-right}
 
 -- the states of x are numbered from i in the own word of whole, and the words of the child pieces below x stand from n among those below whole

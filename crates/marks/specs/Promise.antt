@@ -11,8 +11,8 @@ use Rattle.language.specs.Language.{Is}
 use Rattle.language.specs.Automaton.{States, accepting, Started, Stepped}
 use Rattle.language.specs.Nested.{Models}
 use Rattle.tree.specs.Records.{Good, piece-count}
-use Rattle.marks.specs.Words.{Holds, Clean, Agreeing, Set-of}
-use Rattle.marks.specs.Tables.{cut-up}
+use Rattle.tables.specs.Words.{Holds, Clean, Agreeing, Set-of}
+use Rattle.tables.specs.Tables.{cut-up}
 use Rattle.marks.specs.declared.Answer.{Answer}
 use Rattle.marks.specs.declared.Answer.the-variants.{Marked, NotGood, TooFewWords, NotMarks}
 

@@ -9,8 +9,8 @@ use lib.Bits.{bitOr}
 use lib.ListN.{length, getD, set}
 use Rattle.language.specs.Automaton.{State, Empty, Path-of, here, step}
 use Rattle.language.specs.Nested.{Nested, own}
-use Rattle.marks.specs.Words.{Bit, width, Own, number}
-use Rattle.marks.specs.Plan.{row, nexts, Nexts, Reaches}
+use Rattle.tables.specs.Words.{Bit, width, Own, number}
+use Rattle.tables.specs.Plan.{row, nexts, Nexts, Reaches}
 use Rattle.marks.specs.Bits.{bit-with, below-of-bits}
 use Rattle.marks.specs.Numbers.{number-below, number-onto, number-injective}
 use Rattle.marks.specs.Transitions.{transition-own, nexts-bits}

@@ -8,7 +8,7 @@ use native.Mathlib.Decide.{decLt}
 use native.Mathlib.Omega.{arith}
 use lib.Bits.{bitOr, or-self}
 use lib.ListN.{length, getD, set}
-use Rattle.marks.specs.Words.{Bit}
+use Rattle.tables.specs.Words.{Bit}
 use Rattle.marks.specs.Bits.{dec-bit, bit-or}
 use Rattle.marks.specs.Rows.{Rows, rows-set, rows-same}
 

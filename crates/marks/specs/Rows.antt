@@ -8,7 +8,7 @@ use native.Mathlib.Decide.{ℕ-discrete}
 use native.Mathlib.Omega.{arith}
 use lib.ListN.{length, getD, drop, set, length-set, length-take, length-drop}
 use lib.Seq.{getD-set-same, getD-set-other, getD-take, getD-drop, ext-getD}
-use Rattle.marks.specs.Plan.{row}
+use Rattle.tables.specs.Plan.{row}
 
 -- the n entries from base on are as Row says, each by its number, and the others are as before
 pub record Rows (Row : ℕ → ℕ → Type 0) (before after : List ℕ) (base n : ℕ) : Type 0 where

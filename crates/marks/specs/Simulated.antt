@@ -12,8 +12,8 @@ use Rattle.language.specs.Automaton.{State, start, accepting, States, Started, 
 use Rattle.language.specs.Nested.{Nested, whole, Models, Move}
 use Rattle.language.specs.Same.{Agree, sweep-same, models-same}
 use Rattle.language.specs.Sweeps.{sweeps-start, sweeps-step}
-use Rattle.marks.specs.Words.{Bit, width, run, Holds, Clean}
-use Rattle.marks.specs.Plan.{Planned, Each, Reaches}
+use Rattle.tables.specs.Words.{Bit, width, run, Holds, Clean}
+use Rattle.tables.specs.Plan.{Planned, Each, Reaches}
 use Rattle.marks.specs.Numbers.{width-two}
 use Rattle.marks.specs.Bits.{bit-zero, bit-power}
 use Rattle.marks.specs.Swept.{Narrow-below, tables, Laid}

@@ -11,7 +11,7 @@ use lib.ListN.{length, getD, drop, length-append, List·getD-append}
 use lib.Seq.{getD-drop, getD-append-add}
 use Rattle.language.specs.Automaton.{State, start, accepting, left, right}
 use Rattle.language.specs.Nested.{Nested, leaf, catenation, union, star, below, Has}
-use Rattle.marks.specs.Words.{Bit, width, run, Own, number, Marked, Holds, Clean-below, Clean}
+use Rattle.tables.specs.Words.{Bit, width, run, Own, number, Marked, Holds, Clean-below, Clean}
 
 -- a spot: a bit of the piece's own word, or a bit of one of the words below it, counted from 0
 pub data Spot : Type 0 where

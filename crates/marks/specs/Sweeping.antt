@@ -8,8 +8,8 @@ use mathlib.Core.List.{List, _∷_, _++_}
 use lib.ListN.{length, getD, take, drop, set, length-set, length-drop, length-append, List·getD-append}
 use lib.Seq.{getD-take, getD-drop, getD-set-same, getD-set-other, length-take-le, take-at, drop-at, drop-set-lt, getD-append-add}
 use Rattle.language.specs.Nested.{Nested}
-use Rattle.marks.specs.Words.{width, run, Clean}
-use Rattle.marks.specs.Plan.{row, Reaches, Closes}
+use Rattle.tables.specs.Words.{width, run, Clean}
+use Rattle.tables.specs.Plan.{row, Reaches, Closes}
 use Rattle.marks.specs.Numbers.{width-two}
 use Rattle.marks.specs.Passing.{passed-below}
 use Rattle.marks.specs.Swept.{passed, Sweepable, Sized, Ready, Swept, Child, part, started, Visited}

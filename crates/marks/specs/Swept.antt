@@ -8,8 +8,8 @@ use lib.ListN.{length, getD, take, drop, set}
 use lib.Bits.{bitOr}
 use Rattle.language.specs.Automaton.{State}
 use Rattle.language.specs.Nested.{Nested, leaf, catenation, union, star, below, Has, Sweep}
-use Rattle.marks.specs.Words.{width, run, Holds, Clean}
-use Rattle.marks.specs.Plan.{Pieces, Piece-at, Children-at, row, Reaches, Each-below, Closes}
+use Rattle.tables.specs.Words.{width, run, Holds, Clean}
+use Rattle.tables.specs.Plan.{Pieces, Piece-at, Children-at, row, Reaches, Each-below, Closes}
 
 -- the word with bit `to` set where bit `from` of the other is
 unfoldable pub passed : (other from word to : ℕ) → ℕ

@@ -8,8 +8,8 @@ use native.Mathlib.Decide.{ℕ-discrete}
 use native.Mathlib.Omega.{arith}
 use lib.ListN.{length, getD}
 use Rattle.language.specs.Nested.{Nested, leaf, catenation, union, star, below}
-use Rattle.marks.specs.Words.{width, run}
-use Rattle.marks.specs.Plan.{row, Nexts, Reaches, Pieces, Piece-at, Children-at, Planned, Each-below, Each}
+use Rattle.tables.specs.Words.{width, run}
+use Rattle.tables.specs.Plan.{row, Nexts, Reaches, Pieces, Piece-at, Children-at, Planned, Each-below, Each}
 use Rattle.marks.specs.Numbers.{width-two}
 use Rattle.marks.specs.Rows.{row-same}
 use Rattle.marks.specs.Reached.{Closed-rows}

@@ -18,8 +18,8 @@ use Rattle.tree.specs.Cut.{wanted}
 use Rattle.tree.specs.Records.{piece-count}
 use Rattle.tree.specs.Nesting.{pieces-below, whole-nest}
 use Rattle.tree.specs.Pieces.{stated}
-use Rattle.marks.specs.Words.{Bit, width, run, Holds, Clean}
-use Rattle.marks.specs.Tables.{cut-up, Holding}
+use Rattle.tables.specs.Words.{Bit, width, run, Holds, Clean}
+use Rattle.tables.specs.Tables.{cut-up, Holding}
 use Rattle.marks.specs.Bits.{bit-zero}
 use Rattle.marks.specs.Numbers.{number-accepting}
 use Rattle.marks.specs.Spots.{Spot, own, under, spot, Held, Within, bit-at, held-at, holds-held, spot-within, own-spot}

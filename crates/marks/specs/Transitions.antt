@@ -11,8 +11,8 @@ use lib.Pow.{pow-lt}
 use lib.ListN.{length, getD}
 use Rattle.language.specs.Automaton.{State, start, accepting, left, right, Empty}
 use Rattle.language.specs.Nested.{Nested, leaf, catenation, union, star, below, own}
-use Rattle.marks.specs.Words.{Bit, width, Own, number}
-use Rattle.marks.specs.Plan.{nexts}
+use Rattle.tables.specs.Words.{Bit, width, Own, number}
+use Rattle.tables.specs.Plan.{nexts}
 use Rattle.marks.specs.Bits.{bit-zero, bit-power, bit-or}
 use Rattle.marks.specs.Parts.{one-length, one-inside, one-end, two-length, two-left, two-right, two-end}
 use Rattle.marks.specs.Numbers.{width-two, number-below}

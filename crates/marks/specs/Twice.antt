@@ -10,7 +10,7 @@ use lib.Seq.{getD-take, length-take-le, take-at, drop-at, length-front}
 use Rattle.language.specs.Automaton.{State}
 use Rattle.language.specs.Nested.{Nested, Has, Sweep}
 use Rattle.language.specs.Same.{Agree, sweep-same}
-use Rattle.marks.specs.Words.{width, run, Holds, Clean}
+use Rattle.tables.specs.Words.{width, run, Holds, Clean}
 use Rattle.marks.specs.Swept.{Laid, Sweepable, Sized, Ready, Swept}
 use Rattle.marks.specs.Sweeping.{sized-same}
 use Rattle.marks.specs.Spots.{Spot, own, under, spot, Held, holds-held, Within, spot-within, clean-words, below-power, bit-of}

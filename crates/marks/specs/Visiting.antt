@@ -10,8 +10,8 @@ use lib.Seq.{getD-drop, getD-take, getD-set-same, getD-set-other}
 use Rattle.language.specs.Automaton.{State, start, accepting, left, right, States, Closed, here}
 use Rattle.language.specs.Nested.{Nested, leaf, catenation, union, star, below, own as own-tree, Has, Down, Up, Visit, Sweep}
 use Rattle.language.specs.Same.{Agree, up-more-in, visit-more-in, sweep-same}
-use Rattle.marks.specs.Words.{Bit, width, run, Own, number, Holds}
-use Rattle.marks.specs.Plan.{Closes}
+use Rattle.tables.specs.Words.{Bit, width, run, Own, number, Holds}
+use Rattle.tables.specs.Plan.{Closes}
 use Rattle.marks.specs.Numbers.{number-accepting}
 use Rattle.marks.specs.Swept.{passed, Child, children-of, part, started, Visited, Visits}
 use Rattle.marks.specs.Passing.{bit-passed}

@@ -6,7 +6,7 @@ use mathlib.Core.Logic.{_⊎_, inl, inr, ⊎-elim}
 use Rattle.language.specs.Automaton.{State, start, accepting, left, right, States, Empty, Path-of, here, step, Closed}
 use Rattle.language.specs.Nested.{Nested, leaf, catenation, union, star, below, own, Has, Down, Up, Visit, Sweep}
 use Rattle.language.specs.Same.{More-in, closed-more-in}
-use Rattle.marks.specs.Words.{Own}
+use Rattle.tables.specs.Words.{Own}
 use Rattle.marks.specs.Transitions.{transition-own}
 
 -- the top piece's own states are states

@@ -2,7 +2,7 @@
 ghost use Prim.Native.Nat.{_^_, _<_};
 ghost use mathlib.Core.Path.{_≡_};
 ghost use lib.Bits.{bitOr};
-ghost use Rattle.marks.specs.Words.{Bit};
+ghost use Rattle.tables.specs.Words.{Bit};
 ghost use Rattle.marks.specs.Bits.{Told};
 
 // Whether bit i is set.

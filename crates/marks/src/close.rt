@@ -2,8 +2,8 @@
 ghost use Prim.Native.Nat.{ℕ, _+_, _*_, _^_, _≤_, _<_};
 ghost use lib.ListN.{length};
 ghost use Rattle.language.specs.Nested.{Nested};
-ghost use Rattle.marks.specs.Words.{width};
-ghost use Rattle.marks.specs.Plan.{row, Reaches, Closes};
+ghost use Rattle.tables.specs.Words.{width};
+ghost use Rattle.tables.specs.Plan.{row, Reaches, Closes};
 
 // The word of a piece, closed: the rows of its set bits, joined. A word with few bits set is quick.
 pub fn close(reach: &[u64], piece: usize, word: u64) -> u64

@@ -1,9 +1,9 @@
 // The layer inside, for those who run many bytes or many texts over one list: its tables are made once.
 use crate::bits::has_bit;
 use crate::moves::move_all;
-use crate::plan::plan;
 use crate::reach::close_all;
 use crate::sweep::close_twice;
+use tables::plan::plan;
 ghost use Prim.Native.Nat.{ℕ, _≤_};
 ghost use mathlib.Core.Path.{_≡_};
 ghost use mathlib.Core.List.{_++_};
@@ -11,9 +11,9 @@ ghost use lib.ListN.{length, take, drop};
 ghost use Rattle.language.specs.Tree.{Tree};
 ghost use Rattle.tree.specs.Records.{Good};
 ghost use Rattle.marks.specs.Bits.{Told};
-ghost use Rattle.marks.specs.Given.{Good-list};
+ghost use Rattle.tables.specs.Given.{Good-list};
 ghost use Rattle.marks.specs.Promise.{Marks-of};
-ghost use Rattle.marks.specs.Tables.{Prepared, Roomy, Ready};
+ghost use Rattle.tables.specs.Tables.{Prepared, Roomy, Ready};
 ghost use Rattle.marks.specs.Texts.{All-zero};
 ghost use Rattle.marks.specs.Inner.{Running, Begun, Advanced};
 

@@ -2,12 +2,8 @@
 pub mod agree;
 pub mod bits;
 pub mod close;
-mod count;
-mod fields;
-mod fill;
 pub mod inner;
 pub mod moves;
-pub mod plan;
 pub mod reach;
 pub mod sweep;
 
@@ -17,7 +13,7 @@ use crate::inner::begin;
 use crate::inner::prepare;
 use tree::good::Decided;
 use tree::good::decide;
-ghost use Rattle.marks.specs.Given.{Good-list};
+ghost use Rattle.tables.specs.Given.{Good-list};
 ghost use Rattle.marks.specs.Promise.{Starts, Steps};
 
 // What a start or a step answers.

@@ -4,8 +4,8 @@ ghost use mathlib.Core.Path.{_≡_};
 ghost use Prim.Native.Nat.{ℕ, _+_, _*_, _^_, _≤_, _<_};
 ghost use lib.ListN.{length};
 ghost use Rattle.language.specs.Nested.{Nested};
-ghost use Rattle.marks.specs.Words.{width};
-ghost use Rattle.marks.specs.Plan.{row, takes, Moves};
+ghost use Rattle.tables.specs.Words.{width};
+ghost use Rattle.tables.specs.Plan.{row, takes, Moves};
 ghost use Rattle.marks.specs.Moved.{Moved-all};
 
 // The word of a piece, moved along the byte: a state that takes it has the label one above it, and leads to the next state.

@@ -8,7 +8,7 @@ ghost use mathlib.Core.Logic.{_↔_};
 ghost use Rattle.language.specs.Tree.{Tree};
 ghost use Rattle.language.specs.Language.{Matches};
 ghost use Rattle.tree.specs.Records.{Good, piece-count};
-ghost use Rattle.marks.specs.Tables.{Prepared, Roomy, Ready};
+ghost use Rattle.tables.specs.Tables.{Prepared, Roomy, Ready};
 
 extern "C" {
     pub fn prepare(

@@ -9,7 +9,7 @@ ghost use lib.ListN.{length, drop};
 ghost use Rattle.language.specs.Tree.{Tree};
 ghost use mathlib.Core.Path.{_≡_};
 ghost use Rattle.tree.specs.Records.{Good, piece-count};
-ghost use Rattle.marks.specs.Tables.{Prepared, Ready};
+ghost use Rattle.tables.specs.Tables.{Prepared, Ready};
 ghost use Rattle.finder.specs.Decide.{matches};
 ghost use Rattle.picker.specs.Lines.{lines};
 ghost use Rattle.picker.specs.Print.{text-lines};

@@ -9,7 +9,7 @@ use borrow.Author.Needs.{needs}
 use lib.ListN.{length}
 use Rattle.language.specs.Tree.{Tree}
 use Rattle.language.specs.Language.{Matches}
-use Rattle.marks.specs.Tables.{Prepared, Ready}
+use Rattle.tables.specs.Tables.{Prepared, Ready}
 use Rattle.finder.specs.Found.{None-before}
 use Rattle.finder.specs.Parts.{end-of}
 use Rattle.finder.specs.declared.part.End.{End}

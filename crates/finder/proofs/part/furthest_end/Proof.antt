@@ -6,7 +6,7 @@ use native.Mathlib.Omega.{arith}
 use borrow.Author.Needs.{needs}
 use lib.ListN.{length}
 use Rattle.language.specs.Tree.{Tree}
-use Rattle.marks.specs.Tables.{Prepared, Ready}
+use Rattle.tables.specs.Tables.{Prepared, Ready}
 use Rattle.marks.specs.Texts.{nothing-left}
 use Rattle.marks.specs.Inner.{running, holding-marks, answered-first, answered-next}
 use Rattle.finder.specs.Parts.{end-of}

@@ -10,7 +10,7 @@ use lib.ListN.{length, take, getD}
 use lib.Seq.{take-all}
 use Rattle.finder.specs.Taken.{take-next}
 use Rattle.language.specs.Tree.{Tree}
-use Rattle.marks.specs.Tables.{Prepared, Ready, Answered}
+use Rattle.tables.specs.Tables.{Prepared, Ready, Answered}
 use Rattle.marks.specs.Inner.{running, holding-marks, answered-first, answered-next}
 use Rattle.finder.proofs.text.text_matches.Statement.{statement}
 use Rattle.finder.proofs.text.text_matches.Tie as tie

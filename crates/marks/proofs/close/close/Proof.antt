@@ -4,7 +4,7 @@ use Prim.Native.Nat.{ℕ, _/_, _^_, _≤_, _<_}
 use mathlib.Core.Path.{_≡_, sym, ap, _∙_}
 use mathlib.Core.Logic.{⊎-elim}
 use native.Mathlib.Omega.{arith}
-use Rattle.marks.specs.Words.{width}
+use Rattle.tables.specs.Words.{width}
 use Rattle.marks.specs.Bits.{something-left, bit-next}
 use Rattle.marks.specs.Joining.{Joined, joined-none, joined-more, joined-same, joined-all}
 use Rattle.marks.specs.Closing.{closed-by-joining}

@@ -7,7 +7,7 @@ use Rattle.marks.proofs.inner.prepare.Statement.{statement}
 use Rattle.marks.proofs.inner.prepare.Tie as tie
 use Rattle.marks.proofs.inner.prepare.Reads as reads
 use Rattle.marks.proofs.inner.prepare.Lts as lts
-use Rattle.marks.proofs.plan.plan.Reads as plan-reads
+use Rattle.tables.proofs.plan.plan.Reads as plan-reads
 use Rattle.marks.proofs.reach.close_all.Reads as close-all-reads
 
 -- src/inner.rt:34:9

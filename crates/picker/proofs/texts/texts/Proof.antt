@@ -8,7 +8,7 @@ use native.Mathlib.Omega.{arith}
 use borrow.Author.Needs.{needs}
 use lib.ListN.{length}
 use Rattle.language.specs.Tree.{Tree}
-use Rattle.marks.specs.Tables.{Prepared}
+use Rattle.tables.specs.Tables.{Prepared}
 use Rattle.finder.specs.Decide.{matches}
 use Rattle.picker.specs.Print.{yes-after}
 use Rattle.picker.specs.Loop.{Space, space-line, space-next, space-total, So-far, so-far-none, so-far-next, so-far-done, lent-answer}

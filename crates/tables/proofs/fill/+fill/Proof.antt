@@ -1,0 +1,196 @@
+-- The proof of the cycle of calls {fill}. The measure is the record's number: the records of the children come before their parent's.
+-- What was found at the record and filled by the calls is what a visit of the spot there makes. Assumes nothing.
+use Prim.Native.Nat.{ℕ, _<_}
+use mathlib.Core.Path.{subst}
+use native.Mathlib.Omega.{arith}
+use borrow.Author.Needs.{needs}
+use borrow.Fn.Kinds.{In}
+use borrow.Fn.PlainCycle.{Measures, is, falls, and}
+use Rattle.tables.specs.Filling.{Room, tables}
+use Rattle.tables.specs.Walking.{bounds, stand-few, wide-enough, room-kept, Met, visited-stand, visited-leaf, left-ready, right-ready, star-bounds, two-bounds, visited-star, visited-two}
+use Rattle.tables.proofs.fill.fill.Reads as fill
+use Rattle.tables.proofs.fill.fill.Kinds as fill-kinds
+use Rattle.tables.proofs.fill.+fill.Lts-fill as fill-lts
+use Rattle.tables.proofs.fields.field.Reads as field-reads
+use Rattle.tables.proofs.fill.join.Reads as join-reads
+use Rattle.tables.proofs.fields.kind_of.Reads as kind-of-reads
+use Rattle.tables.proofs.fill.leaf.Reads as leaf-reads
+use Rattle.tables.proofs.fill.stand.Reads as stand-reads
+use Rattle.tables.proofs.fill.+fill.{statement}
+use Rattle.tables.proofs.fill.+fill.Tie.{close}
+
+abbrev μ-fill : Measures 5 fill-kinds.ps ℕ
+μ-fill κs a = a .1 .0
+
+abbrev fill-at : ℕ → In 5 fill-kinds.ps
+fill-at t = and 5 fill-kinds.ps (is 5 fill-kinds.ps μ-fill t) fill.Pre
+
+abbrev fill-below : ℕ → In 5 fill-kinds.ps
+fill-below t = and 5 fill-kinds.ps (falls 5 fill-kinds.ps _<_ μ-fill t) fill.Pre
+
+abbrev fill-claims : ℕ → fill-lts.Claims
+fill-claims t =
+    (field-reads.Asked, field-reads.Learnt, stand-reads.Asked, stand-reads.Learnt, kind-of-reads.Asked, kind-of-reads.Learnt, leaf-reads.Asked, leaf-reads.Learnt, fill-below t, fill.Post, join-reads.Asked, join-reads.Learnt)
+
+-- the record is of the walk's piece, and its kind is known
+met : (t : ℕ) (c : fill-lts.After-kind-of (fill-claims t) (fill-at t) fill.Post) → Met (c .before .before .before .before .before .before .before .before .args .list .now) (c .before .before .before .before .before .before .before .before .args .node) (c .before .before .before .before .before .before .before .before .args .piece) (c .before .before .field .result) (c .kind-of .result)
+met t c = record { shown = c .before .before .field .ensures; same = c .before .if1 .left; of-kind = c .kind-of .ensures }
+
+fill-field-requires : (t : ℕ) → fill-lts.Need-field-requires (fill-claims t) (fill-at t) fill.Post
+fill-field-requires t c κs = let within = bounds (c .before .before .before .before .before .pre .1 .sitting) in omega arith
+
+fill-stand-requires : (t : ℕ) → fill-lts.Need-stand-requires (fill-claims t) (fill-at t) fill.Post
+fill-stand-requires t c κs =
+    let start = c .before .before .before .before .before .before .before .before .before .before .before in
+    let within = bounds (start .pre .1 .sitting) in
+    let few = stand-few (start .pre .1 .sitting) in
+    let shown = c .before .before .before .before .before .field .ensures in
+    (omega arith, start .pre .1 .room)
+
+fill-same-length : (t : ℕ) → fill-lts.Need-same-length (fill-claims t) (fill-at t) fill.Post
+fill-same-length t c = search needs
+
+fill-same-length-2 : (t : ℕ) → fill-lts.Need-same-length-2 (fill-claims t) (fill-at t) fill.Post
+fill-same-length-2 t c = search needs
+
+fill-same-length-3 : (t : ℕ) → fill-lts.Need-same-length-3 (fill-claims t) (fill-at t) fill.Post
+fill-same-length-3 t c = search needs
+
+fill-same-length-4 : (t : ℕ) → fill-lts.Need-same-length-4 (fill-claims t) (fill-at t) fill.Post
+fill-same-length-4 t c = search needs
+
+fill-returns : (t : ℕ) → fill-lts.Need-returns (fill-claims t) (fill-at t) fill.Post
+fill-returns t c =
+    let made = c .before .before .before .before .before .before .before .before in
+    visited-stand (made .before .before .before .before .before .before .before .before .before .before .before .before .pre .1 .room) (made .before .before .before .before .before .before .field .ensures) (made .before .before .before .before .before .if1 .taken) (made .stand .ensures .0) (made .stand .ensures .1)
+
+fill-kind-of-requires : (t : ℕ) → fill-lts.Need-kind-of-requires (fill-claims t) (fill-at t) fill.Post
+fill-kind-of-requires t c κs = let within = bounds (c .before .before .before .before .before .before .before .pre .1 .sitting) in omega arith
+
+fill-leaf-requires : (t : ℕ) → fill-lts.Need-leaf-requires (fill-claims t) (fill-at t) fill.Post
+fill-leaf-requires t c κs = let start = c .before .before .before .before .before .before .before .before .before .before .before in (bounds (start .pre .1 .sitting), wide-enough (start .pre .1 .room))
+
+fill-same-length-5 : (t : ℕ) → fill-lts.Need-same-length-5 (fill-claims t) (fill-at t) fill.Post
+fill-same-length-5 t c = search needs
+
+fill-same-length-6 : (t : ℕ) → fill-lts.Need-same-length-6 (fill-claims t) (fill-at t) fill.Post
+fill-same-length-6 t c = search needs
+
+fill-returns-2 : (t : ℕ) → fill-lts.Need-returns-2 (fill-claims t) (fill-at t) fill.Post
+fill-returns-2 t c =
+    let made = c .before .before .before .before in
+    visited-leaf (met t (made .before .before .before .before)) (made .before .before .before .before .before .before .before .before .before .before .before .before .pre .1 .room) (made .before .before .before .if2 .taken) (made .leaf .ensures .0) (made .leaf .ensures .1 .0) (made .leaf .ensures .1 .1)
+
+fill-field-requires-2 : (t : ℕ) → fill-lts.Need-field-requires-2 (fill-claims t) (fill-at t) fill.Post
+fill-field-requires-2 t c κs = let within = bounds (c .before .before .before .before .before .before .before .before .before .pre .1 .sitting) in omega arith
+
+fill-add-fill : (t : ℕ) → fill-lts.Need-add-fill (fill-claims t) (fill-at t) fill.Post
+fill-add-fill t c = let within = bounds (c .before .before .before .before .before .before .before .before .before .before .pre .1 .sitting) in omega arith
+
+fill-fill-requires : (t : ℕ) → fill-lts.Need-fill-requires (fill-claims t) (fill-at t) fill.Post
+fill-fill-requires t c κs =
+    let start = c .before .before .before .before .before .before .before .before .before .before .before .before .before .before in
+    let ready = left-ready (met t (c .before .before .before .before .before .before)) (c .before .before .before .before .field2 .ensures) (c .before .before .before .before .before .if2 .left) (start .pre .1) in
+    (subst (λ (k : ℕ). c .before .before .before .before .field2 .result < k) (start .pre .0) (ready .0), ready .1)
+
+-- the tables that the first call leaves have the same room
+room-left : (t : ℕ) (c : fill-lts.After-fill (fill-claims t) (fill-at t) fill.Post) → Room (tables (c .fill .last .1 .1 .1 .1 .0) (c .fill .last .1 .1 .1 .1 .1 .0) (c .fill .last .1 .1 .1 .1 .1 .1 .0) (c .fill .last .1 .1 .1 .1 .1 .1 .1 .0))
+room-left t c = room-kept _ _ _ _ (c .before .before .before .before .before .before .before .before .before .before .before .before .before .before .before .pre .1 .room) (c .fill .kept .1 .1 .1 .1 .0) (c .fill .kept .1 .1 .1 .1 .1 .0) (c .fill .kept .1 .1 .1 .1 .1 .1 .0) (c .fill .kept .1 .1 .1 .1 .1 .1 .1 .0)
+
+fill-join-requires : (t : ℕ) → fill-lts.Need-join-requires (fill-claims t) (fill-at t) fill.Post
+fill-join-requires t c κs =
+    let made = c .before .before .before .before .before .before .before .before .before .before .before in
+    let start = made .before .before .before .before .before .before .before .before .before .before .before .before .before .before .before in
+    let room = room-left t made in
+    (star-bounds (met t (made .before .before .before .before .before .before .before)) (made .before .before .before .before .before .field2 .ensures) (made .before .before .before .before .before .before .if2 .left) (start .pre .1) room (made .fill .ensures) (c .before .before .if3 .taken), wide-enough room)
+
+fill-same-length-7 : (t : ℕ) → fill-lts.Need-same-length-7 (fill-claims t) (fill-at t) fill.Post
+fill-same-length-7 t c = search needs
+
+fill-same-length-8 : (t : ℕ) → fill-lts.Need-same-length-8 (fill-claims t) (fill-at t) fill.Post
+fill-same-length-8 t c = search needs
+
+fill-same-length-9 : (t : ℕ) → fill-lts.Need-same-length-9 (fill-claims t) (fill-at t) fill.Post
+fill-same-length-9 t c = search needs
+
+fill-same-length-10 : (t : ℕ) → fill-lts.Need-same-length-10 (fill-claims t) (fill-at t) fill.Post
+fill-same-length-10 t c = search needs
+
+fill-returns-3 : (t : ℕ) → fill-lts.Need-returns-3 (fill-claims t) (fill-at t) fill.Post
+fill-returns-3 t c =
+    let done = c .before .before .before .before in
+    let made = done .before .before .before .before .before .before .before .before .before .before .before .before in
+    visited-star (met t (made .before .before .before .before .before .before .before)) (made .before .before .before .before .before .field2 .ensures) (made .before .before .before .before .before .before .if2 .left) (made .before .before .before .before .before .before .before .before .before .before .before .before .before .before .before .pre .1) (room-left t made) (made .fill .ensures) (done .before .before .before .if3 .taken) (done .join .ensures .0) (done .join .ensures .1 .0) (done .join .ensures .1 .1)
+
+fill-field-requires-3 : (t : ℕ) → fill-lts.Need-field-requires-3 (fill-claims t) (fill-at t) fill.Post
+fill-field-requires-3 t c κs = let within = bounds (c .before .before .before .before .before .before .before .before .before .before .before .before .before .before .before .before .before .before .before .before .before .before .before .before .pre .1 .sitting) in omega arith
+
+fill-fill-requires-2 : (t : ℕ) → fill-lts.Need-fill-requires-2 (fill-claims t) (fill-at t) fill.Post
+fill-fill-requires-2 t c κs =
+    let made = c .before .before .before .before .before .before .before .before .before .before .before .before .before .before in
+    let start = made .before .before .before .before .before .before .before .before .before .before .before .before .before .before .before in
+    let ready = right-ready (met t (made .before .before .before .before .before .before .before)) (made .before .before .before .before .before .field2 .ensures) (made .before .before .before .before .before .before .if2 .left) (start .pre .1) (room-left t made) (made .fill .ensures) (c .before .before .before .before .field3 .ensures) (c .before .before .before .before .before .if3 .left) in
+    (subst (λ (k : ℕ). c .before .before .before .before .field3 .result < k) (start .pre .0) (ready .0), ready .1)
+
+-- and so have those of the second call
+room-right : (t : ℕ) (c : fill-lts.After-fill2 (fill-claims t) (fill-at t) fill.Post) → Room (tables (c .fill2 .last .1 .1 .1 .1 .0) (c .fill2 .last .1 .1 .1 .1 .1 .0) (c .fill2 .last .1 .1 .1 .1 .1 .1 .0) (c .fill2 .last .1 .1 .1 .1 .1 .1 .1 .0))
+room-right t c = room-kept _ _ _ _ (room-left t (c .before .before .before .before .before .before .before .before .before .before .before .before .before .before .before)) (c .fill2 .kept .1 .1 .1 .1 .0) (c .fill2 .kept .1 .1 .1 .1 .1 .0) (c .fill2 .kept .1 .1 .1 .1 .1 .1 .0) (c .fill2 .kept .1 .1 .1 .1 .1 .1 .1 .0)
+
+fill-join-requires-2 : (t : ℕ) → fill-lts.Need-join-requires-2 (fill-claims t) (fill-at t) fill.Post
+fill-join-requires-2 t c κs =
+    let last = c .before .before .before .before .before .before .before .before .before .before in
+    let made = last .before .before .before .before .before .before .before .before .before .before .before .before .before .before .before in
+    let room = room-right t last in
+    (two-bounds (met t (made .before .before .before .before .before .before .before)) (made .before .before .before .before .before .field2 .ensures) (made .before .before .before .before .before .before .if2 .left) (made .before .before .before .before .before .before .before .before .before .before .before .before .before .before .before .pre .1) (room-left t made) (made .fill .ensures) (last .before .before .before .before .before .field3 .ensures) (last .before .before .before .before .before .before .if3 .left) room (last .fill2 .ensures), wide-enough room)
+
+fill-same-length-11 : (t : ℕ) → fill-lts.Need-same-length-11 (fill-claims t) (fill-at t) fill.Post
+fill-same-length-11 t c = search needs
+
+fill-same-length-12 : (t : ℕ) → fill-lts.Need-same-length-12 (fill-claims t) (fill-at t) fill.Post
+fill-same-length-12 t c = search needs
+
+fill-same-length-13 : (t : ℕ) → fill-lts.Need-same-length-13 (fill-claims t) (fill-at t) fill.Post
+fill-same-length-13 t c = search needs
+
+fill-same-length-14 : (t : ℕ) → fill-lts.Need-same-length-14 (fill-claims t) (fill-at t) fill.Post
+fill-same-length-14 t c = search needs
+
+fill-returns-4 : (t : ℕ) → fill-lts.Need-returns-4 (fill-claims t) (fill-at t) fill.Post
+fill-returns-4 t c =
+    let done = c .before .before .before .before in
+    let last = done .before .before .before .before .before .before .before .before .before .before .before in
+    let made = last .before .before .before .before .before .before .before .before .before .before .before .before .before .before .before in
+    visited-two (met t (made .before .before .before .before .before .before .before)) (made .before .before .before .before .before .field2 .ensures) (made .before .before .before .before .before .before .if2 .left) (made .before .before .before .before .before .before .before .before .before .before .before .before .before .before .before .pre .1) (room-left t made) (made .fill .ensures) (last .before .before .before .before .before .field3 .ensures) (last .before .before .before .before .before .before .if3 .left) (room-right t last) (last .fill2 .ensures) (done .join2 .ensures .0) (done .join2 .ensures .1 .0) (done .join2 .ensures .1 .1)
+
+pub +fill-spec : {M : Type 1} → statement M
++fill-spec =
+    close μ-fill λ t. fill-lts.spec (fill-claims t) (fill-at t) fill.Post
+    (fill-field-requires t)
+    (fill-stand-requires t)
+    (fill-same-length t)
+    (fill-same-length-2 t)
+    (fill-same-length-3 t)
+    (fill-same-length-4 t)
+    (fill-returns t)
+    (fill-kind-of-requires t)
+    (fill-leaf-requires t)
+    (fill-same-length-5 t)
+    (fill-same-length-6 t)
+    (fill-returns-2 t)
+    (fill-field-requires-2 t)
+    (fill-add-fill t)
+    (fill-fill-requires t)
+    (fill-join-requires t)
+    (fill-same-length-7 t)
+    (fill-same-length-8 t)
+    (fill-same-length-9 t)
+    (fill-same-length-10 t)
+    (fill-returns-3 t)
+    (fill-field-requires-3 t)
+    (fill-fill-requires-2 t)
+    (fill-join-requires-2 t)
+    (fill-same-length-11 t)
+    (fill-same-length-12 t)
+    (fill-same-length-13 t)
+    (fill-same-length-14 t)
+    (fill-returns-4 t)

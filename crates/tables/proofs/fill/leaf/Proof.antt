@@ -1,0 +1,54 @@
+-- `marks::fill::leaf` meets its contract: it sets the two entries. Assumes nothing.
+use mathlib.Core.Path.{refl}
+use borrow.Author.Needs.{needs}
+use Rattle.tables.proofs.fill.leaf.Statement.{statement}
+use Rattle.tables.proofs.fill.leaf.Tie as tie
+
+mul-pair : tie.Need-mul-pair
+mul-pair c = search needs
+
+add-pair : tie.Need-add-pair
+add-pair c = search needs
+
+mul-label : tie.Need-mul-label
+mul-label c = search needs
+
+add-label : tie.Need-add-label
+add-label c = search needs
+
+shared-slice-read-label : tie.Need-shared-slice-read-label
+shared-slice-read-label c = search needs
+
+label-requires : tie.Need-label-requires
+label-requires c κs = search needs
+
+pair-requires : tie.Need-pair-requires
+pair-requires c κs = search needs
+
+add-result : tie.Need-add-result
+add-result c = search needs
+
+same-length : tie.Need-same-length
+same-length c = search needs
+
+same-length-2 : tie.Need-same-length-2
+same-length-2 c = search needs
+
+returns : tie.Need-returns
+returns c = (refl, (c .before .before .before .before .pair .ensures .0, cc (c .before .before .before .before .pair .ensures .1)))
+
+pub leaf-spec : {M : Type 1} → statement M
+leaf-spec =
+    tie.close
+    (tie.spec
+    mul-pair
+    add-pair
+    mul-label
+    add-label
+    shared-slice-read-label
+    label-requires
+    pair-requires
+    add-result
+    same-length
+    same-length-2
+    returns)

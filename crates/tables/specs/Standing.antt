@@ -1,0 +1,461 @@
+-- Where each node of a cut tree stands: its records in the list, its piece, and the number of its start in the piece.
+-- Assumes nothing.
+use Prim.Native.Nat.{ℕ, _+_, _*_, _-_, _≤_, _<_}
+use mathlib.Core.Path.{_≡_, refl, sym, ap, subst, _∙_}
+use mathlib.Core.Bool.{Bool, true, false}
+use mathlib.Core.List.{List, [], _++_, append-assoc}
+use native.Mathlib.Omega.{arith}
+use native.Mathlib.Decide.{decLt}
+use lib.ListN.{length, getD, length-append}
+use lib.Seq.{getD-append-add}
+use Rattle.language.specs.Tree.{Tree, nodes, leaf as tree-leaf, catenation as tree-catenation, union as tree-union, star as tree-star}
+use Rattle.language.specs.Nested.{Nested, leaf, catenation, union, star, below, whole}
+use Rattle.tree.specs.Cut.{Cut, cuts, one, edge, nest}
+use Rattle.tree.specs.Nesting.{whole-edge, whole-nest}
+use Rattle.tree.specs.Records.{record-of, child-piece, records}
+use Rattle.tables.specs.Words.{width, run}
+
+-- how many nodes there are, in all pieces
+abbrev pub size : Nested ℕ → ℕ
+size x = nodes (whole x)
+
+-- the record of x's root
+abbrev pub root-record : Nested ℕ → (first piece new : ℕ) → List ℕ
+root-record (leaf a) f p n = record-of 1 a 65535 65535 p
+root-record (catenation x y) f p n = record-of 2 0 (f + size x - 1) (f + size x + size y - 1) p
+root-record (union x y) f p n = record-of 3 0 (f + size x - 1) (f + size x + size y - 1) p
+root-record (star x) f p n = record-of 4 0 (f + size x - 1) 65535 p
+root-record (below x) f p n = root-record x f n (n + 1)
+
+-- the records of x: its first record has the number f, its root is in the piece p, and the child pieces below it are numbered from n
+abbrev pub listed : Nested ℕ → (first piece new : ℕ) → List ℕ
+listed (leaf a) f p n = root-record (leaf a) f p n
+listed (catenation x y) f p n = listed x f p n ++ listed y (f + size x) p (n + run x) ++ root-record (catenation x y) f p n
+listed (union x y) f p n = listed x f p n ++ listed y (f + size x) p (n + run x) ++ root-record (union x y) f p n
+listed (star x) f p n = listed x f p n ++ root-record (star x) f p n
+listed (below x) f p n = listed x f n (n + 1)
+
+-- cutting an edge leaves all nodes
+size-edge : (b : Bool) (x : Nested ℕ) → size (edge b x) ≡ size x
+size-edge b x = ap nodes (whole-edge b x)
+
+-- a tree that is cut has its nodes
+pub size-nest : (t : Tree ℕ) (c : Cut t) → size (nest t c) ≡ nodes t
+size-nest t c = ap nodes (whole-nest t c)
+
+-- a cut edge has one piece more below it
+run-edge : (b : Bool) (x : Nested ℕ) → run (edge b x) ≡ one b + run x
+run-edge true x = refl
+run-edge false x = omega arith
+
+-- there is one piece below each cut edge
+pub run-nest : (t : Tree ℕ) (c : Cut t) → run (nest t c) ≡ cuts t c
+run-nest (tree-leaf a) c = refl
+run-nest (tree-catenation s t) c = omega (arith, run-edge (c .0) (nest s (c .1)), run-edge (c .2) (nest t (c .3)), run-nest s (c .1), run-nest t (c .3))
+run-nest (tree-union s t) c = omega (arith, run-edge (c .0) (nest s (c .1)), run-edge (c .2) (nest t (c .3)), run-nest s (c .1), run-nest t (c .3))
+run-nest (tree-star s) c = omega (arith, run-edge (c .0) (nest s (c .1)), run-nest s (c .1))
+
+-- s, cut by c, has the same records told as a tree and told as the pieces that it is cut into
+Same : (s : Tree ℕ) → Cut s → Type 0
+Same s c = (f p n : ℕ) → records s c f p n ≡ listed (nest s c) f p n
+
+-- so has a child: a cut edge gives it a new piece
+child-same : (b : Bool) (s : Tree ℕ) (c : Cut s) → Same s c → (f p n m : ℕ) → m ≡ n → records s c f (child-piece b p m) (one b + m) ≡ listed (edge b (nest s c)) f p n
+unfolding Same
+child-same true s c same f p n m e = same f m (1 + m) ∙ ap (λ (k : ℕ). listed (nest s c) f k (1 + m)) e ∙ ap (λ (k : ℕ). listed (nest s c) f n k) (omega arith)
+child-same false s c same f p n m e = same f p (0 + m) ∙ ap (λ (k : ℕ). listed (nest s c) f p k) (omega arith)
+
+-- the records of two children and of their parent of the kind k
+two-same : (b d : Bool) (s t : Tree ℕ) (c : Cut s) (e : Cut t) → Same s c → Same t e → (k f p n : ℕ)
+    → records s c f (child-piece b p n) (one b + n)
+    ++ records t e (f + nodes s) (child-piece d p (one b + cuts s c + n)) (one d + (one b + cuts s c + n))
+    ++ record-of k 0 (f + nodes s - 1) (f + nodes s + nodes t - 1) p
+    ≡ listed (edge b (nest s c)) f p n
+    ++ listed (edge d (nest t e)) (f + size (edge b (nest s c))) p (n + run (edge b (nest s c)))
+    ++ record-of k 0 (f + size (edge b (nest s c)) - 1) (f + size (edge b (nest s c)) + size (edge d (nest t e)) - 1) p
+two-same b d s t c e same-s same-t k f p n =
+    let size-s : size (edge b (nest s c)) ≡ nodes s = size-edge b (nest s c) ∙ size-nest s c in
+    let size-t : size (edge d (nest t e)) ≡ nodes t = size-edge d (nest t e) ∙ size-nest t e in
+    rw (size-s, size-t, child-same b s c same-s f p n n refl, child-same d t e same-t (f + nodes s) p (n + run (edge b (nest s c))) (one b + cuts s c + n) (omega (arith, run-edge b (nest s c), run-nest s c)))
+
+-- the records of a tree are those of the pieces that it is cut into
+pub records-listed : (s : Tree ℕ) (c : Cut s) (f p n : ℕ) → records s c f p n ≡ listed (nest s c) f p n
+unfolding Same
+records-listed (tree-leaf a) c f p n = refl
+records-listed (tree-catenation s t) c f p n = two-same (c .0) (c .2) s t (c .1) (c .3) (records-listed s (c .1)) (records-listed t (c .3)) 2 f p n
+records-listed (tree-union s t) c f p n = two-same (c .0) (c .2) s t (c .1) (c .3) (records-listed s (c .1)) (records-listed t (c .3)) 3 f p n
+records-listed (tree-star s) c f p n =
+    let size-s : size (edge (c .0) (nest s (c .1))) ≡ nodes s = size-edge (c .0) (nest s (c .1)) ∙ size-nest s (c .1) in
+    rw (size-s, child-same (c .0) s (c .1) (records-listed s (c .1)) f p n n refl)
+
+-- there is a node at least: the root
+pub size-positive : (x : Nested ℕ) → 1 ≤ size x
+size-positive (leaf a) = omega arith
+size-positive (catenation x y) = omega arith
+size-positive (union x y) = omega arith
+size-positive (star x) = omega arith
+size-positive (below x) = size-positive x
+
+-- the records before x's root
+abbrev inner : Nested ℕ → (first piece new : ℕ) → List ℕ
+inner (leaf a) f p n = []
+inner (catenation x y) f p n = listed x f p n ++ listed y (f + size x) p (n + run x)
+inner (union x y) f p n = listed x f p n ++ listed y (f + size x) p (n + run x)
+inner (star x) f p n = listed x f p n
+inner (below x) f p n = inner x f n (n + 1)
+
+-- x's root is listed last
+listed-inner : (x : Nested ℕ) (f p n : ℕ) → listed x f p n ≡ inner x f p n ++ root-record x f p n
+listed-inner (leaf a) f p n = refl
+listed-inner (catenation x y) f p n = refl
+listed-inner (union x y) f p n = refl
+listed-inner (star x) f p n = refl
+listed-inner (below x) f p n = listed-inner x f n (n + 1)
+
+-- 8 bytes for each node
+pub length-listed : (x : Nested ℕ) (f p n : ℕ) → length (listed x f p n) ≡ 8 * size x
+length-listed (leaf a) f p n = refl
+length-listed (catenation x y) f p n = let e = length-listed x in let g = length-listed y in simp (length-append, e, g) (omega arith)
+length-listed (union x y) f p n = let e = length-listed x in let g = length-listed y in simp (length-append, e, g) (omega arith)
+length-listed (star x) f p n = let e = length-listed x in simp (length-append, e) (omega arith)
+length-listed (below x) f p n = length-listed x f n (n + 1)
+
+-- 8 bytes for each node but the root
+length-inner : (x : Nested ℕ) (f p n : ℕ) → length (inner x f p n) + 8 ≡ 8 * size x
+length-inner (leaf a) f p n = refl
+length-inner (catenation x y) f p n = let e = length-listed x in let g = length-listed y in simp (length-append, e, g) (omega arith)
+length-inner (union x y) f p n = let e = length-listed x in let g = length-listed y in simp (length-append, e, g) (omega arith)
+length-inner (star x) f p n = let e = length-listed x in simp e (omega arith)
+length-inner (below x) f p n = length-inner x f n (n + 1)
+
+-- the number in two bytes of a list
+abbrev pub word : List ℕ → ℕ → ℕ
+word list at = getD list at 0 + 256 * getD list (at + 1) 0
+
+-- record r of the list has these fields
+pub record Shows (list : List ℕ) (r kind character left right piece : ℕ) : Type 0 where
+  pub kind-byte : getD list (8 * r) 0 ≡ kind
+  pub character-byte : getD list (8 * r + 1) 0 ≡ character
+  pub left-word : word list (8 * r + 2) ≡ left
+  pub right-word : word list (8 * r + 4) ≡ right
+  pub piece-word : word list (8 * r + 6) ≡ piece
+
+-- a byte behind m others
+byte-past : (before rest : List ℕ) (m k : ℕ) → length before ≡ m → getD (before ++ rest) (m + k) 0 ≡ getD rest k 0
+byte-past before rest m k e = rw (← e) (getD-append-add before rest k 0)
+
+-- a record that stands in the list after r others shows its fields
+shows : (before after : List ℕ) (r kind character left right piece : ℕ) → length before ≡ 8 * r → left < 65536 → right < 65536 → piece < 65536
+    → Shows (before ++ (record-of kind character left right piece ++ after)) r kind character left right piece
+shows before after r kind character left right piece e small-left small-right small-piece =
+    let rest = record-of kind character left right piece ++ after in
+    let at : (k m : ℕ) → 8 * r + k ≡ m → getD (before ++ rest) m 0 ≡ getD rest k 0 = λ k m h. rw (← h) (byte-past before rest (8 * r) k e) in
+    record {
+      kind-byte = at 0 _ (omega arith);
+      character-byte = at 1 _ (omega arith);
+      left-word = omega (arith, at 2 (8 * r + 2) (omega arith), at 3 (8 * r + 2 + 1) (omega arith));
+      right-word = omega (arith, at 4 (8 * r + 4) (omega arith), at 5 (8 * r + 4 + 1) (omega arith));
+      piece-word = omega (arith, at 6 (8 * r + 6) (omega arith), at 7 (8 * r + 6 + 1) (omega arith));
+    }
+
+-- a node, or a stand-in with the child piece below it, and where it stands: the number of its first record, its piece,
+-- the number from which the child pieces below it are numbered, and the number of its start in its piece
+pub data Spot : Type 0 where
+  spot : Nested ℕ → (first piece new number : ℕ) → Spot
+
+-- the spot's node, with all below it
+abbrev pub tree : Spot → Nested ℕ
+tree (spot x f p n i) = x
+
+-- the number of the spot's first record
+abbrev pub first : Spot → ℕ
+first (spot x f p n i) = f
+
+-- the piece in which the spot is
+abbrev pub piece : Spot → ℕ
+piece (spot x f p n i) = p
+
+-- the number of the first child piece below the spot
+abbrev pub new : Spot → ℕ
+new (spot x f p n i) = n
+
+-- the number of the spot's start in its piece
+abbrev pub number : Spot → ℕ
+number (spot x f p n i) = i
+
+-- the second spot is a child of the first; a stand-in's child is the top of the child piece
+pub data Child : Spot → Spot → Type 0 where
+  catenation-left : {x y : Nested ℕ} {f p n i : ℕ} → Child (spot (catenation x y) f p n i) (spot x f p n (i + 1))
+  catenation-right : {x y : Nested ℕ} {f p n i : ℕ} → Child (spot (catenation x y) f p n i) (spot y (f + size x) p (n + run x) (i + (1 + width x)))
+  union-left : {x y : Nested ℕ} {f p n i : ℕ} → Child (spot (union x y) f p n i) (spot x f p n (i + 1))
+  union-right : {x y : Nested ℕ} {f p n i : ℕ} → Child (spot (union x y) f p n i) (spot y (f + size x) p (n + run x) (i + (1 + width x)))
+  operand : {x : Nested ℕ} {f p n i : ℕ} → Child (spot (star x) f p n i) (spot x f p n (i + 1))
+  under : {x : Nested ℕ} {f p n i : ℕ} → Child (spot (below x) f p n i) (spot x f n (n + 1) 0)
+
+-- the second spot is the first or lies below it
+pub data In : Spot → Spot → Type 0 where
+  here : {s : Spot} → In s s
+  step : {s t u : Spot} → Child s t → In t u → In s u
+
+-- a child of what lies below a spot lies below it
+pub in-child : {s t u : Spot} → In s t → Child t u → In s u
+in-child here c = step c here
+in-child (step d m) c = step d (in-child m c)
+
+-- the root is a node of the tree and no stand-in
+abbrev pub Plain : Nested ℕ → Type 0
+Plain (leaf a) = Unit {0}
+Plain (catenation x y) = Unit {0}
+Plain (union x y) = Unit {0}
+Plain (star x) = Unit {0}
+Plain (below x) = ⊥
+
+-- below each stand-in stands the top node of a child piece with at most 62 states
+abbrev pub Sound : Nested ℕ → Type 0
+Sound (leaf a) = Unit {0}
+Sound (catenation x y) = Sound x × Sound y
+Sound (union x y) = Sound x × Sound y
+Sound (star x) = Sound x
+Sound (below x) = Plain x × (width x ≤ 62) × Sound x
+
+-- the records of the spot stand in the list
+pub record Written (list : List ℕ) (s : Spot) : Type 0 where
+  pub before : List ℕ
+  pub after : List ℕ
+  pub parts : list ≡ before ++ (listed (tree s) (first s) (piece s) (new s) ++ after)
+  pub begins : length before ≡ 8 * first s
+
+-- the spot stands in the list, and its numbers are within bounds
+pub record Fine (list : List ℕ) (s : Spot) : Type 0 where
+  pub written : Written list s
+  pub later : piece s < new s
+  pub few : new s + run (tree s) ≤ 128
+  pub narrow : number s + width (tree s) ≤ 62
+  pub short : first s + size (tree s) ≤ 1920
+  pub sound : Sound (tree s)
+
+-- three parts, and what is before and after them
+regroup : (before xs ys zs after : List ℕ) → before ++ ((xs ++ ys ++ zs) ++ after) ≡ before ++ (xs ++ (ys ++ (zs ++ after)))
+regroup before xs ys zs after = simp append-assoc
+
+-- the records of the first and of the second of three parts
+written-left : {list : List ℕ} (xs ys zs before after : List ℕ) → list ≡ before ++ ((xs ++ ys ++ zs) ++ after) → list ≡ before ++ (xs ++ (ys ++ (zs ++ after)))
+written-left xs ys zs before after e = e ∙ regroup before xs ys zs after
+
+written-right : {list : List ℕ} (xs ys zs before after : List ℕ) → list ≡ before ++ ((xs ++ ys ++ zs) ++ after) → list ≡ (before ++ xs) ++ (ys ++ (zs ++ after))
+written-right xs ys zs before after e = e ∙ regroup before xs ys zs after ∙ sym (append-assoc before xs _)
+
+-- a child's records stand within its parent's
+child-written : {list : List ℕ} {s t : Spot} → Child s t → Written list s → Written list t
+child-written (catenation-left {x = x} {y = y} {f = f} {p = p} {n = n}) w =
+    record { before = w .before; after = _; parts = written-left (listed x f p n) _ _ (w .before) (w .after) (w .parts); begins = w .begins }
+child-written (catenation-right {x = x} {y = y} {f = f} {p = p} {n = n}) w =
+    record {
+      before = w .before ++ listed x f p n;
+      after = _;
+      parts = written-right (listed x f p n) _ _ (w .before) (w .after) (w .parts);
+      begins = let e = w .begins in let g = length-listed x f p n in simp length-append (omega arith);
+    }
+child-written (union-left {x = x} {y = y} {f = f} {p = p} {n = n}) w =
+    record { before = w .before; after = _; parts = written-left (listed x f p n) _ _ (w .before) (w .after) (w .parts); begins = w .begins }
+child-written (union-right {x = x} {y = y} {f = f} {p = p} {n = n}) w =
+    record {
+      before = w .before ++ listed x f p n;
+      after = _;
+      parts = written-right (listed x f p n) _ _ (w .before) (w .after) (w .parts);
+      begins = let e = w .begins in let g = length-listed x f p n in simp length-append (omega arith);
+    }
+child-written (operand {x = x} {f = f} {p = p} {n = n}) w =
+    record { before = w .before; after = _; parts = w .parts ∙ ap (λ (l : List ℕ). w .before ++ l) (append-assoc (listed x f p n) _ (w .after)); begins = w .begins }
+child-written under w = record { before = w .before; after = w .after; parts = w .parts; begins = w .begins }
+
+-- the children of a spot within bounds are so too
+pub child-fine : {list : List ℕ} {s t : Spot} → Child s t → Fine list s → Fine list t
+child-fine (catenation-left {x = x} {y = y}) h =
+    record { written = child-written catenation-left (h .written); later = h .later; few = omega arith; narrow = omega arith; short = omega arith; sound = h .sound .0 }
+child-fine (catenation-right {x = x} {y = y}) h =
+    record { written = child-written catenation-right (h .written); later = omega arith; few = omega arith; narrow = omega arith; short = omega arith; sound = h .sound .1 }
+child-fine (union-left {x = x} {y = y}) h =
+    record { written = child-written union-left (h .written); later = h .later; few = omega arith; narrow = omega arith; short = omega arith; sound = h .sound .0 }
+child-fine (union-right {x = x} {y = y}) h =
+    record { written = child-written union-right (h .written); later = omega arith; few = omega arith; narrow = omega arith; short = omega arith; sound = h .sound .1 }
+child-fine (operand {x = x}) h =
+    record { written = child-written operand (h .written); later = h .later; few = omega arith; narrow = omega arith; short = omega arith; sound = h .sound }
+child-fine (under {x = x}) h =
+    record { written = child-written under (h .written); later = omega arith; few = omega arith; narrow = omega (arith, h .sound .1); short = omega arith; sound = h .sound .2 }
+
+-- and so is all that lies below it
+pub in-fine : {list : List ℕ} {s t : Spot} → In s t → Fine list s → Fine list t
+in-fine here h = h
+in-fine (step c m) h = in-fine m (child-fine c h)
+
+-- the root's record of a spot in the list
+root-shows : {list : List ℕ} {s : Spot} → Written list s → (r kind character left right own : ℕ) → r + 1 ≡ first s + size (tree s)
+    → root-record (tree s) (first s) (piece s) (new s) ≡ record-of kind character left right own → left < 65536 → right < 65536 → own < 65536
+    → Shows list r kind character left right own
+root-shows {list} {s = spot x f p n i} w r kind character left right own at e small-left small-right small-piece =
+    let split : list ≡ (w .before ++ inner x f p n) ++ (record-of kind character left right own ++ w .after) =
+    w .parts ∙ ap (λ (l : List ℕ). w .before ++ (l ++ w .after)) (listed-inner x f p n ∙ ap (λ (l : List ℕ). inner x f p n ++ l) e) ∙ simp append-assoc in
+    let begins = w .begins in
+    let long = length-inner x f p n in
+    rw split (shows (w .before ++ inner x f p n) (w .after) r kind character left right own (simp length-append (omega arith)) small-left small-right small-piece)
+
+module _ {list : List ℕ} {f p n i : ℕ} where
+  -- what the record of a node shows, by the node's kind
+  pub leaf-shows : {a : ℕ} → Fine list (spot (leaf a) f p n i) → (r : ℕ) → r + 1 ≡ f + 1 → Shows list r 1 a 65535 65535 p
+  leaf-shows h r at = root-shows (h .written) r _ _ _ _ _ at refl (omega arith) (omega arith) (omega arith)
+
+  pub catenation-shows : {x y : Nested ℕ} → Fine list (spot (catenation x y) f p n i) → (r : ℕ) → r + 1 ≡ f + size (catenation x y) → Shows list r 2 0 (f + size x - 1) (f + size x + size y - 1) p
+  catenation-shows h r at = root-shows (h .written) r _ _ _ _ _ at refl (omega arith) (omega arith) (omega arith)
+
+  pub union-shows : {x y : Nested ℕ} → Fine list (spot (union x y) f p n i) → (r : ℕ) → r + 1 ≡ f + size (union x y) → Shows list r 3 0 (f + size x - 1) (f + size x + size y - 1) p
+  union-shows h r at = root-shows (h .written) r _ _ _ _ _ at refl (omega arith) (omega arith) (omega arith)
+
+  pub star-shows : {x : Nested ℕ} → Fine list (spot (star x) f p n i) → (r : ℕ) → r + 1 ≡ f + size (star x) → Shows list r 4 0 (f + size x - 1) 65535 p
+  star-shows h r at = root-shows (h .written) r _ _ _ _ _ at refl (omega arith) (omega arith) (omega arith)
+
+-- the piece that a node's record shows is the node's
+pub piece-shows : {list : List ℕ} {f p n i : ℕ} (x : Nested ℕ) → Plain x → Fine list (spot x f p n i) → (r : ℕ) → r + 1 ≡ f + size x → word list (8 * r + 6) ≡ p
+piece-shows (leaf a) plain h r at = leaf-shows h r at .piece-word
+piece-shows (catenation x y) plain h r at = catenation-shows h r at .piece-word
+piece-shows (union x y) plain h r at = union-shows h r at .piece-word
+piece-shows (star x) plain h r at = star-shows h r at .piece-word
+piece-shows (below x) plain h r at = absurd plain
+
+-- the list holds the records of the spot
+pub within : {list : List ℕ} {s : Spot} → Fine list s → 8 * (first s + size (tree s)) ≤ length list
+within {list} {s = spot x f p n i} h =
+    let w = h .written in
+    let e = w .begins in
+    omega (arith, simp length-append at (ap length (w .parts)), length-listed x f p n)
+
+-- k is the number of a child piece below the spot
+abbrev pub Reaches-piece : Spot → ℕ → Type 0
+Reaches-piece s k = (new s ≤ k) × (k < new s + run (tree s))
+
+-- the child pieces below a child are below its parent
+child-reaches : {s t : Spot} {k : ℕ} → Child s t → Reaches-piece t k → Reaches-piece s k
+child-reaches catenation-left h = omega arith
+child-reaches catenation-right h = omega arith
+child-reaches union-left h = omega arith
+child-reaches union-right h = omega arith
+child-reaches operand h = h
+child-reaches under h = omega arith
+
+-- and those below what lies below a spot
+pub in-reaches : {s t : Spot} {k : ℕ} → In s t → Reaches-piece t k → Reaches-piece s k
+in-reaches here h = h
+in-reaches (step c m) h = child-reaches c (in-reaches m h)
+
+-- no two children have a child piece below them in common
+same-child : {s t u : Spot} {k : ℕ} → Child s t → Child s u → Reaches-piece t k → Reaches-piece u k → t ≡ u
+same-child catenation-left catenation-left h g = refl
+same-child catenation-left catenation-right h g = absurd (omega arith)
+same-child catenation-right catenation-left h g = absurd (omega arith)
+same-child catenation-right catenation-right h g = refl
+same-child union-left union-left h g = refl
+same-child union-left union-right h g = absurd (omega arith)
+same-child union-right union-left h g = absurd (omega arith)
+same-child union-right union-right h g = refl
+same-child operand operand h g = refl
+same-child under under h g = refl
+
+-- the spot is the stand-in of the child piece k
+pub data Stand-in : Spot → ℕ → Type 0 where
+  stand-in : {x : Nested ℕ} {f p n i : ℕ} → Stand-in (spot (below x) f p n i) n
+
+-- a stand-in has its child piece below it
+pub stand-in-reaches : {s : Spot} {k : ℕ} → Stand-in s k → Reaches-piece s k
+stand-in-reaches stand-in = omega arith
+
+-- a stand-in's own child piece does not lie below that piece's top
+not-below-itself : {s t : Spot} {k : ℕ} → Stand-in s k → Child s t → Reaches-piece t k → ⊥
+not-below-itself stand-in under h = omega arith
+
+-- a child piece has one stand-in
+pub one-stand-in : {s u v : Spot} {k : ℕ} → In s u → In s v → Stand-in u k → Stand-in v k → u ≡ v
+one-stand-in here here a b = refl
+one-stand-in here (step c m) a b = absurd (not-below-itself a c (in-reaches m (stand-in-reaches b)))
+one-stand-in (step c m) here a b = absurd (not-below-itself b c (in-reaches m (stand-in-reaches a)))
+one-stand-in {v = v} (step {t = t} c m) (step d l) a b =
+    let e = same-child c d (in-reaches m (stand-in-reaches a)) (in-reaches l (stand-in-reaches b)) in
+    one-stand-in m (subst (λ (q : Spot). In q v) (sym e) l) a b
+
+-- pieces below a spot have higher numbers than the spot's
+pub piece-grows : {list : List ℕ} {s u : Spot} → Fine list s → In s u → piece s ≤ piece u
+piece-grows h here = omega arith
+piece-grows h (step catenation-left m) = piece-grows (child-fine catenation-left h) m
+piece-grows h (step catenation-right m) = piece-grows (child-fine catenation-right h) m
+piece-grows h (step union-left m) = piece-grows (child-fine union-left h) m
+piece-grows h (step union-right m) = piece-grows (child-fine union-right h) m
+piece-grows h (step operand m) = piece-grows (child-fine operand h) m
+piece-grows h (step under m) = omega (arith, piece-grows (child-fine under h) m)
+
+-- the node of the record r below a spot
+pub record Node-at (s : Spot) (r : ℕ) : Type 0 where
+  pub at : Spot
+  pub inside : In s at
+  pub plain : Plain (tree at)
+  pub is-root : r + 1 ≡ first at + size (tree at)
+
+-- a node below a child is below its parent
+node-below : {s t : Spot} {r : ℕ} → Child s t → Node-at t r → Node-at s r
+node-below c h = record { at = h .at; inside = step c (h .inside); plain = h .plain; is-root = h .is-root }
+
+-- each record of a spot is the root of a node below it
+pub node-at : (x : Nested ℕ) (f p n i r : ℕ) → f ≤ r → r < f + size x → Node-at (spot x f p n i) r
+node-at (leaf a) f p n i r low high = record { at = _; inside = here; plain = tt; is-root = omega arith }
+node-at (catenation x y) f p n i r low high =
+    elim (decLt r (f + size x)) [
+      | yes h ↦ node-below catenation-left (node-at x f p n (i + 1) r low h)
+      | no h ↦ elim (decLt r (f + size x + size y)) [
+        | yes g ↦ node-below catenation-right (node-at y (f + size x) p (n + run x) (i + (1 + width x)) r (omega arith) g)
+        | no g ↦ record { at = _; inside = here; plain = tt; is-root = omega arith }
+      ]
+    ]
+node-at (union x y) f p n i r low high =
+    elim (decLt r (f + size x)) [
+      | yes h ↦ node-below union-left (node-at x f p n (i + 1) r low h)
+      | no h ↦ elim (decLt r (f + size x + size y)) [
+        | yes g ↦ node-below union-right (node-at y (f + size x) p (n + run x) (i + (1 + width x)) r (omega arith) g)
+        | no g ↦ record { at = _; inside = here; plain = tt; is-root = omega arith }
+      ]
+    ]
+node-at (star x) f p n i r low high =
+    elim (decLt r (f + size x)) [
+      | yes h ↦ node-below operand (node-at x f p n (i + 1) r low h)
+      | no h ↦ record { at = _; inside = here; plain = tt; is-root = omega arith }
+    ]
+node-at (below x) f p n i r low high = node-below under (node-at x f n (n + 1) 0 r low high)
+
+-- the stand-in of the child piece k below a spot: `top` is the top piece's tree, and its records begin at `begin`
+pub record Piece-below (s : Spot) (k : ℕ) : Type 0 where
+  pub top : Nested ℕ
+  pub begin : ℕ
+  pub parent : ℕ
+  pub place : ℕ
+  pub inside : In s (spot (below top) begin parent k place)
+
+-- a child piece below a child is below its parent
+piece-under : {s t : Spot} {k : ℕ} → Child s t → Piece-below t k → Piece-below s k
+piece-under c h = record { top = h .top; begin = h .begin; parent = h .parent; place = h .place; inside = step c (h .inside) }
+
+-- each child piece below a spot has a stand-in below it
+pub piece-below : (x : Nested ℕ) (f p n i k : ℕ) → n ≤ k → k < n + run x → Piece-below (spot x f p n i) k
+piece-below (leaf a) f p n i k low high = absurd (omega arith)
+piece-below (catenation x y) f p n i k low high =
+    elim (decLt k (n + run x)) [
+      | yes h ↦ piece-under catenation-left (piece-below x f p n (i + 1) k low h)
+      | no h ↦ piece-under catenation-right (piece-below y (f + size x) p (n + run x) (i + (1 + width x)) k (omega arith) (omega arith))
+    ]
+piece-below (union x y) f p n i k low high =
+    elim (decLt k (n + run x)) [
+      | yes h ↦ piece-under union-left (piece-below x f p n (i + 1) k low h)
+      | no h ↦ piece-under union-right (piece-below y (f + size x) p (n + run x) (i + (1 + width x)) k (omega arith) (omega arith))
+    ]
+piece-below (star x) f p n i k low high = piece-under operand (piece-below x f p n (i + 1) k low high)
+piece-below (below x) f p n i k low high =
+    elim (decLt n k) [
+      | yes h ↦ piece-under under (piece-below x f n (n + 1) 0 k (omega arith) (omega arith))
+      | no h ↦ record { top = x; begin = f; parent = p; place = i; inside = subst (λ (m : ℕ). In (spot (below x) f p n i) (spot (below x) f p m i)) (omega arith) here }
+    ]

@@ -1,0 +1,50 @@
+-- The tables of a list, made once for many bytes and many texts, and what the words hold after a text.
+-- Assumes nothing.
+use Prim.Native.Nat.{ℕ, _≤_}
+use mathlib.Core.Path.{_≡_}
+use mathlib.Core.Bool.{Bool, true}
+use mathlib.Core.Logic.{_↔_}
+use mathlib.Core.List.{List}
+use lib.ListN.{length}
+use Rattle.language.specs.Tree.{Tree}
+use Rattle.language.specs.Language.{Is, Matches}
+use Rattle.language.specs.Automaton.{States, Started, After}
+use Rattle.language.specs.Nested.{Nested, Models}
+use Rattle.tree.specs.Cut.{wanted, nest}
+use Rattle.tree.specs.Records.{piece-count}
+use Rattle.tables.specs.Words.{Holds, Clean}
+use Rattle.tables.specs.Plan.{Planned, Each, Reaches}
+
+-- the tree cut into its pieces, as its records say
+abbrev pub cut-up : Tree ℕ → Nested ℕ
+cut-up t = nest t (wanted t)
+
+-- the tables are those of t: of its pieces, and document 002's table of each
+pub record Prepared (t : Tree ℕ) (reach labels runs stands tops : List ℕ) (count : ℕ) : Type 0 where
+  pub planned : Planned (record { labels = labels; runs = runs; stands = stands; tops = tops }) (cut-up t)
+  pub reached : Each Reaches reach (cut-up t)
+  pub counted : count ≡ piece-count t
+  pub few : piece-count t ≤ 128
+
+-- the tables have room for 128 pieces of 64 states
+pub record Roomy (reach labels runs stands tops : List ℕ) : Type 0 where
+  pub reach-room : length reach ≡ 8192
+  pub labels-room : length labels ≡ 8192
+  pub runs-room : length runs ≡ 128
+  pub stands-room : length stands ≡ 128
+  pub tops-room : length tops ≡ 128
+
+-- the tables are those of some tree
+pub record Ready (reach labels runs stands tops : List ℕ) (count : ℕ) : Type 0 where
+  pub roomy : Roomy reach labels runs stands tops
+  pub of-tree : (t : Tree ℕ) × Prepared t reach labels runs stands tops count
+
+-- the words hold the marks of the plain simulation after the text w, and no bit past a last state
+pub record Holding (t : Tree ℕ) (w words : List ℕ) : Type 0 where
+  pub modelled : Models (cut-up t) (Holds (cut-up t) words) (After Is t w (Started t))
+  pub clean : Clean (cut-up t) words
+
+-- the words hold the marks after the text w, and `yes` says whether w is in the language
+pub record Answered (t : Tree ℕ) (w words : List ℕ) (yes : Bool) : Type 0 where
+  pub holding : Holding t w words
+  pub answer : (yes ≡ true) ↔ Matches t w

@@ -1,0 +1,181 @@
+// A piece's row of entries, filled by a walk of the piece's own tree: the words of the empty transitions and the labels of the states.
+use crate::fields::field;
+use crate::fields::kind_of;
+ghost use mathlib.Core.Path.{_≡_};
+ghost use Prim.Native.Nat.{_+_, _*_, _-_, _<_, _≤_, _^_};
+ghost use lib.ListN.{getD, length, set};
+ghost use Rattle.tables.specs.Entries.{thrice};
+ghost use Rattle.tables.specs.Filling.{start-word, left-exit, right-exit, tables, Room, stand-entries};
+ghost use Rattle.tables.specs.Walking.{Within, Wide, Visited, Ready};
+
+// The word with bit i alone.
+fn bit(i: usize) -> u64
+    requires { ⌜ i < 64 ⌝ }
+    ensures { λ r. ⌜ r ≡ 2 ^ i ⌝ }
+{
+    1 << i
+}
+
+// The word with the bits i and j, which differ.
+fn two_bits(i: usize, j: usize) -> u64
+    requires { ⌜ (i < 63) × (j < 63) ⌝ }
+    ensures { λ r. ⌜ r ≡ 2 ^ i + 2 ^ j ⌝ }
+{
+    bit(i) + bit(j)
+}
+
+// The word of a node's start, by its kind.
+fn start_word(kind: u8, at: usize, middle: usize) -> u64
+    requires { ⌜ (at < 62) × (middle < 63) ⌝ }
+    ensures { λ r. ⌜ r ≡ start-word kind at middle ⌝ }
+{
+    if kind == 2 {
+        bit(at + 1)
+    } else {
+        two_bits(at + 1, middle)
+    }
+}
+
+// The word of its right or only child's accepting state.
+fn right_exit(kind: u8, at: usize, middle: usize, last: usize) -> u64
+    requires { ⌜ (at < 62) × (middle < 63) × (last < 63) ⌝ }
+    ensures { λ r. ⌜ r ≡ right-exit kind at middle last ⌝ }
+{
+    if kind == 4 {
+        two_bits(at + 1, middle)
+    } else {
+        bit(last)
+    }
+}
+
+// The word of its left or only child's accepting state.
+fn left_exit(kind: u8, at: usize, middle: usize, last: usize) -> u64
+    requires { ⌜ (at < 62) × (middle < 63) × (last < 63) ⌝ }
+    ensures { λ r. ⌜ r ≡ left-exit kind at middle last ⌝ }
+{
+    if kind == 2 {
+        bit(middle)
+    } else {
+        right_exit(kind, at, middle, last)
+    }
+}
+
+// Two entries for a leaf or a stand-in, but for the word of its accepting state.
+fn pair(nexts: &mut [u64], labels: &mut [u16], at: usize, label: u16)
+    requires { ⌜ (at < length (now nexts)) × (at + 1 < length (now labels)) ⌝ }
+    ensures { λ _. ⌜ now (nexts .exit) ≡ set (now (nexts .entry)) at 0 ⌝ }
+    ensures { λ _. ⌜ now (labels .exit) ≡ set (set (now (labels .entry)) at label) (at + 1) 0 ⌝ }
+{
+    nexts[at] = 0;
+    labels[at] = label;
+    labels[at + 1] = 0;
+}
+
+// The label of a character: one more than its byte.
+fn label(character: u8) -> u16
+    ensures { λ r. ⌜ r ≡ character + 1 ⌝ }
+{
+    character as u16 + 1
+}
+
+// The entries of a leaf at the number `at`. Gives the number after its last state's.
+fn leaf(
+    list: &[u8],
+    node: usize,
+    piece: usize,
+    at: usize,
+    nexts: &mut [u64],
+    labels: &mut [u16],
+) -> usize
+    requires { ⌜ Within (now list) node piece at ⌝ }
+    requires { ⌜ Wide (now nexts) (now labels) ⌝ }
+    ensures { λ r. ⌜ r ≡ at + 2 ⌝ }
+    ensures { λ _. ⌜ now (nexts .exit) ≡ set (now (nexts .entry)) (64 * piece + at) 0 ⌝ }
+    ensures { λ _. ⌜ now (labels .exit) ≡ set (set (now (labels .entry)) (64 * piece + at) (getD (now (list .entry)) (8 * node + 1) 0 + 1)) (64 * piece + at + 1) 0 ⌝ }
+{
+    pair(nexts, labels, 64 * piece + at, label(list[8 * node + 1]));
+    at + 2
+}
+
+// The entries of the stand-in of the piece `child`, whose root's record is `node`, and what is told of that piece.
+fn stand(
+    child: usize,
+    node: usize,
+    piece: usize,
+    at: usize,
+    nexts: &mut [u64],
+    labels: &mut [u16],
+    stands: &mut [u8],
+    roots: &mut [u16],
+) -> usize
+    requires { ⌜ (child < 128) × (node < 65536) × (piece < 128) × (at + 2 ≤ 62) ⌝ }
+    requires { ⌜ Room (tables (now nexts) (now labels) (now stands) (now roots)) ⌝ }
+    ensures { λ r. ⌜ r ≡ at + 2 ⌝ }
+    ensures { λ _. ⌜ tables (now (nexts .exit)) (now (labels .exit)) (now (stands .exit)) (now (roots .exit)) ≡ stand-entries (tables (now (nexts .entry)) (now (labels .entry)) (now (stands .entry)) (now (roots .entry))) (64 * piece + at) child at node ⌝ }
+{
+    pair(nexts, labels, 64 * piece + at, 0);
+    stands[child] = at as u8;
+    roots[child] = node as u16;
+    at + 2
+}
+
+// The entries of a node whose children's are there: its start's, its children's accepting states', and its labels.
+fn join(
+    kind: u8,
+    piece: usize,
+    at: usize,
+    middle: usize,
+    last: usize,
+    nexts: &mut [u64],
+    labels: &mut [u16],
+) -> usize
+    requires { ⌜ (piece < 128) × (at < middle) × (middle ≤ last) × (last < 62) ⌝ }
+    requires { ⌜ Wide (now nexts) (now labels) ⌝ }
+    ensures { λ r. ⌜ r ≡ last + 1 ⌝ }
+    ensures { λ _. ⌜ now (nexts .exit) ≡ thrice (now (nexts .entry)) (64 * piece + at) (64 * piece + middle - 1) (64 * piece + last - 1) (start-word kind at middle) (left-exit kind at middle last) (right-exit kind at middle last) ⌝ }
+    ensures { λ _. ⌜ now (labels .exit) ≡ set (set (now (labels .entry)) (64 * piece + at) 0) (64 * piece + last) 0 ⌝ }
+{
+    let base = 64 * piece;
+    let start = start_word(kind, at, middle);
+    let left = left_exit(kind, at, middle, last);
+    let right = right_exit(kind, at, middle, last);
+    nexts[base + at] = start;
+    nexts[base + middle - 1] = left;
+    nexts[base + last - 1] = right;
+    labels[base + at] = 0;
+    labels[base + last] = 0;
+    last + 1
+}
+
+// The entries of the part of a piece at and below a record, from the number `at` on, but for the word of its accepting state.
+// Gives the number after its last state's. A record of another piece is a stand-in's.
+pub fn fill(
+    list: &[u8],
+    node: usize,
+    piece: usize,
+    at: usize,
+    nexts: &mut [u64],
+    labels: &mut [u16],
+    stands: &mut [u8],
+    roots: &mut [u16],
+) -> usize
+    requires { ⌜ Ready (now list) node piece at (tables (now nexts) (now labels) (now stands) (now roots)) ⌝ }
+    ensures { λ r. ⌜ Visited (now (list .entry)) node piece at (tables (now (nexts .entry)) (now (labels .entry)) (now (stands .entry)) (now (roots .entry))) (tables (now (nexts .exit)) (now (labels .exit)) (now (stands .exit)) (now (roots .exit))) r ⌝ }
+{
+    let own = field(list, node, 6);
+    if own != piece {
+        return stand(own, node, piece, at, nexts, labels, stands, roots);
+    }
+    let kind = kind_of(list, node);
+    if kind == 1 {
+        return leaf(list, node, piece, at, nexts, labels);
+    }
+    let left = field(list, node, 2);
+    let middle = fill(list, left, piece, at + 1, nexts, labels, stands, roots);
+    if kind == 4 {
+        return join(kind, piece, at, middle, middle, nexts, labels);
+    }
+    let right = field(list, node, 4);
+    let last = fill(list, right, piece, middle, nexts, labels, stands, roots);
+    join(kind, piece, at, middle, last, nexts, labels)
+}
