@@ -20,7 +20,6 @@ use Rattle.finder.specs.Decide.{matches}
 use Rattle.picker.specs.Lines.{lines, expression, texts, texts-count}
 use Rattle.picker.specs.Ends.{Ends, after, first-line}
 use Rattle.picker.specs.Print.{few-pieces, answered, refusal-line, text-lines, reported}
-use Rattle.picker.specs.Room.{refusal-line-length}
 use Rattle.picker.specs.Printing.{Prints}
 use Rattle.picker.specs.Loop.{Space}
 

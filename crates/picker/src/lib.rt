@@ -1,6 +1,5 @@
 // The whole output of `pick`, from the bytes that it reads.
 mod line;
-mod mock;
 mod print;
 mod report;
 mod texts;
@@ -9,6 +8,7 @@ use line::line_end;
 use line::next_line;
 use print::put;
 use reader::Answer;
+use reader::read;
 use report::refusal_line;
 use texts::list_texts;
 ghost use Prim.Native.Nat.{_≤_};
@@ -38,12 +38,12 @@ fn report_lines(input: &[u8], out: &mut [u8]) -> usize
 {
     let end = line_end(input, 0);
     let mut list = [0u8; 15360];
-    let answer = mock::read(&input[..end], &mut list);
+    let answer = read(&input[..end], &mut list);
     match answer {
         Answer::Refused { number, place } => refusal_line(out, 0, number, place),
-        Answer::Read { records, pieces } => {
+        Answer::Read { records, pieces: _ } => {
             let start = next_line(input, end);
-            list_texts(&list[..8 * records], pieces, input, start, out)
+            list_texts(&list[..8 * records], input, start, out)
         }
     }
 }

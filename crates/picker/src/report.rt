@@ -1,7 +1,7 @@
 // The lines of the output, each printed at a place.
 use crate::print::put;
 use crate::print::put_number;
-ghost use Prim.Native.Nat.{_+_, _-_, _≤_};
+ghost use Prim.Native.Nat.{_+_, _≤_};
 ghost use lib.ListN.{length};
 ghost use Rattle.picker.specs.Print.{text-line, total-line, refusal-line};
 ghost use Rattle.picker.specs.Printing.{Prints};

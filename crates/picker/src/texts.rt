@@ -1,14 +1,15 @@
 // The lines of the texts, by the tables of the expression's list, which are made once.
 use crate::line::line_end;
 use crate::line::next_line;
-use crate::mock;
 use crate::report::text_line;
 use crate::report::total_line;
-ghost use Prim.Native.Nat.{ℕ, _+_, _*_, _≤_, _<_};
-ghost use lib.ListN.{length, drop};
+use finder::text_matches;
+use marks::inner::prepare;
+ghost use Prim.Native.Nat.{ℕ};
+ghost use lib.ListN.{drop};
 ghost use Rattle.language.specs.Tree.{Tree};
-ghost use mathlib.Core.Path.{_≡_};
-ghost use Rattle.tree.specs.Records.{Good, piece-count};
+ghost use Rattle.tree.specs.Records.{Good};
+ghost use Rattle.tables.specs.Given.{Good-list};
 ghost use Rattle.tables.specs.Tables.{Prepared, Ready};
 ghost use Rattle.finder.specs.Decide.{matches};
 ghost use Rattle.picker.specs.Lines.{lines};
@@ -38,7 +39,7 @@ pub fn texts(
     let mut yes = 0;
     while place < input.len() {
         let end = line_end(input, place);
-        let matched = mock::text_matches(
+        let matched = text_matches(
             reach,
             labels,
             runs,
@@ -58,8 +59,8 @@ pub fn texts(
 }
 
 // Makes the tables of an expression's list, and prints a line for each text and the last line.
-pub fn list_texts(list: &[u8], pieces: usize, input: &[u8], start: usize, out: &mut [u8]) -> usize
-    requires list { ⌜ ((t : Tree ℕ) × Good (now list) t × (pieces ≡ piece-count t)) ⌝ }
+pub fn list_texts(list: &[u8], input: &[u8], start: usize, out: &mut [u8]) -> usize
+    requires list { ⌜ Good-list (now list) ⌝ }
     requires space { ⌜ Space (now input) start 0 0 0 (now out) ⌝ }
     ensures { λ r. ⌜ ((t : Tree ℕ) → Good (now (list .entry)) t → Prints (now (out .entry)) 0 (text-lines matches t 0 0 (lines (drop start (now (input .entry))))) (now (out .exit)) r) ⌝ }
 {
@@ -68,9 +69,8 @@ pub fn list_texts(list: &[u8], pieces: usize, input: &[u8], start: usize, out: &
     let mut runs = [0u8; 128];
     let mut stands = [0u8; 128];
     let mut tops = [0u8; 128];
-    mock::prepare(
+    let pieces = prepare(
         list,
-        pieces,
         &mut reach,
         &mut labels,
         &mut runs,

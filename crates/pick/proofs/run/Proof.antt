@@ -7,11 +7,6 @@ use Rattle.pick.specs.Within.{Within}
 use borrow.Author.Needs.{needs}
 use Rattle.pick.proofs.run.Statement.{statement}
 use Rattle.pick.proofs.run.Tie as tie
-use Rattle.pick.proofs.run.Reads as reads
-use Rattle.pick.proofs.run.Lts as lts
-use Rattle.os.proofs.fail.Reads as fail-reads
-use Rattle.pick.proofs.read_input.Reads as read-input-reads
-use Rattle.pick.proofs.write_output.Reads as write-output-reads
 
 -- as many bytes as were read lie within what the call left in the buffer
 within : (c : tie.After-read) → c .read .given .0 .0 ≤ length (c .before .before .before .before .read-input .last .0)
@@ -19,51 +14,39 @@ within c =
     let call = c .before .before .before .before .read-input in
     subst (Within (call .last .0)) (c .read .given .1) (call .ensures)
 
--- src/main.rt:46:9
 read-input-requires : tie.Need-read-input-requires
 read-input-requires c κs = search needs
 
--- src/main.rt:47:23
 enum-known-read : tie.Need-enum-known-read
 enum-known-read c = search needs
 
--- src/main.rt:48:18
 enum-told : tie.Need-enum-told
 enum-told c = search needs
 
--- src/main.rt:48:18
 slice-aggregate-fail : tie.Need-slice-aggregate-fail
 slice-aggregate-fail c = search needs
 
--- src/main.rt:48:9
 fail-requires : tie.Need-fail-requires
 fail-requires c κs = search needs
 
--- src/main.rt:49:9
 same-length : tie.Need-same-length
 same-length c = search needs
 
--- src/main.rt:49:9
 returns : tie.Need-returns
 returns c = search needs
 
--- src/main.rt:51:18
 slice-reshare-prefix-write-output : tie.Need-slice-reshare-prefix-write-output
 slice-reshare-prefix-write-output c = within (c .before)
 
--- src/main.rt:51:18
 slice-aggregate-write-output : tie.Need-slice-aggregate-write-output
 slice-aggregate-write-output c = sym (length-take-le _ _ (within (c .before .before)))
 
--- src/main.rt:51:5
 write-output-requires : tie.Need-write-output-requires
 write-output-requires c κs = search needs
 
--- src/main.rt:45:1
 same-length-2 : tie.Need-same-length-2
 same-length-2 c = search needs
 
--- src/main.rt:45:1
 returns-2 : tie.Need-returns-2
 returns-2 c = search needs
 

@@ -8,11 +8,6 @@ use Rattle.picker.specs.Promise.{written-within}
 use borrow.Author.Needs.{needs}
 use Rattle.pick.proofs.write_output.Statement.{statement}
 use Rattle.pick.proofs.write_output.Tie as tie
-use Rattle.pick.proofs.write_output.Reads as reads
-use Rattle.pick.proofs.write_output.Lts as lts
-use Rattle.picker.proofs.pick.Reads as pick-reads
-use Rattle.io.proofs.write_all.Reads as write-all-reads
-use Rattle.os.proofs.fail.Reads as fail-reads
 
 -- the output's length lies within what the call left in the buffer
 within : (c : tie.After-picked) → c .picked .given .0 .0 ≤ length (c .before .before .before .before .pick .last .1 .0)
@@ -21,59 +16,45 @@ within c =
     let start = made .before .before .before .before in
     omega (arith, written-within (start .args .input .now) (start .args .output .now) (made .pick .last .1 .0) (made .pick .result) _ (made .pick .ensures) (c .picked .given .1), made .pick .kept .1 .0)
 
--- src/main.rt:35:9
 pick-requires : tie.Need-pick-requires
 pick-requires c κs = search needs
 
--- src/main.rt:36:27
 enum-known-picked : tie.Need-enum-known-picked
 enum-known-picked c = search needs
 
--- src/main.rt:37:9
 enum-told : tie.Need-enum-told
 enum-told c = search needs
 
--- src/main.rt:37:9
 same-length : tie.Need-same-length
 same-length c = search needs
 
--- src/main.rt:37:9
 returns : tie.Need-returns
 returns c = search needs
 
--- src/main.rt:39:38
 slice-reshare-prefix-write-all : tie.Need-slice-reshare-prefix-write-all
 slice-reshare-prefix-write-all c = within (c .before)
 
--- src/main.rt:39:38
 slice-aggregate-write-all : tie.Need-slice-aggregate-write-all
 slice-aggregate-write-all c = sym (length-take-le _ _ (within (c .before .before)))
 
--- src/main.rt:39:9
 write-all-requires : tie.Need-write-all-requires
 write-all-requires c κs = search needs
 
--- src/main.rt:40:18
 slice-aggregate-fail : tie.Need-slice-aggregate-fail
 slice-aggregate-fail c = search needs
 
--- src/main.rt:40:9
 fail-requires : tie.Need-fail-requires
 fail-requires c κs = search needs
 
--- src/main.rt:34:1
 same-length-2 : tie.Need-same-length-2
 same-length-2 c = search needs
 
--- src/main.rt:34:1
 returns-2 : tie.Need-returns-2
 returns-2 c = search needs
 
--- src/main.rt:34:1
 same-length-3 : tie.Need-same-length-3
 same-length-3 c = search needs
 
--- src/main.rt:34:1
 returns-3 : tie.Need-returns-3
 returns-3 c = search needs
 

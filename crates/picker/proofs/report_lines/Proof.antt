@@ -1,9 +1,8 @@
 -- `picker::report_lines` meets its contract: what reading the first line answers is the expression's outcome, and what is printed for it is reported.
 -- Assumes nothing.
-use Prim.Native.Nat.{_+_, _*_, _≤_, _<_}
-use mathlib.Core.Path.{_≡_, sym, ap, _∙_}
+use mathlib.Core.Path.{sym, ap, _∙_}
 use native.Mathlib.Omega.{arith}
-use lib.ListN.{length, take, replicate, length-replicate}
+use lib.ListN.{take, replicate}
 use lib.Seq.{length-take-le}
 use Rattle.reader.specs.Answer.{numbers, Kept, kept}
 use Rattle.picker.specs.Report.{Told, told, read-outcome, reports-refusal, reports-texts, texts-space}
@@ -11,13 +10,6 @@ use Rattle.picker.specs.Room.{refusal-line-length}
 use borrow.Author.Needs.{needs}
 use Rattle.picker.proofs.report_lines.Statement.{statement}
 use Rattle.picker.proofs.report_lines.Tie as tie
-use Rattle.picker.proofs.report_lines.Reads as reads
-use Rattle.picker.proofs.report_lines.Lts as lts
-use Rattle.picker.proofs.line.line_end.Reads as line-end-reads
-use Rattle.picker.proofs.line.next_line.Reads as next-line-reads
-use Rattle.picker.proofs.mock.read.Reads as read-reads
-use Rattle.picker.proofs.report.refusal_line.Reads as refusal-line-reads
-use Rattle.picker.proofs.texts.list_texts.Reads as list-texts-reads
 
 abbrev line : tie.After-read → tie.After-line-end
 line c = c .before .before .before
@@ -39,73 +31,57 @@ refusal c = told _ 15360 _ _ (omega arith) (sym (ap numbers (c .answer .given .1
 records : (c : tie.After-answer2) → Kept (take (line (read-by c) .line-end .result) (start (read-by c) .args .input .now)) (replicate 15360 0) (read-by c .read .last .1 .0) (c .answer2 .given .0 .0) (c .answer2 .given .0 .1 .0)
 records c = kept _ (replicate 15360 0) _ _ _ (sym (ap numbers (c .answer2 .given .1)) ∙ read-by c .read .ensures .0) (read-by c .read .ensures .1)
 
--- src/lib.rt:38:9
 line-end-requires : tie.Need-line-end-requires
 line-end-requires c κs = search needs
 
--- src/lib.rt:40:29
 slice-aggregate-read : tie.Need-slice-aggregate-read
 slice-aggregate-read c = sym (length-take-le _ _ (search needs))
 
--- src/lib.rt:40:44
 slice-aggregate-read-2 : tie.Need-slice-aggregate-read-2
 slice-aggregate-read-2 c = search needs
 
--- src/lib.rt:40:9
 read-requires : tie.Need-read-requires
 read-requires c κs = search needs
 
--- src/lib.rt:42:27
 enum-known-answer : tie.Need-enum-known-answer
 enum-known-answer c = search needs
 
--- src/lib.rt:42:46
 refusal-line-requires : tie.Need-refusal-line-requires
 refusal-line-requires c κs = omega (arith, refusal-line-length _ _ (refusal (c .before .before) .small-number) (refusal (c .before .before) .small-place))
 
--- src/lib.rt:43:24
 enum-known-answer-2 : tie.Need-enum-known-answer-2
 enum-known-answer-2 c = search needs
 
--- src/lib.rt:44:17
 next-line-requires : tie.Need-next-line-requires
 next-line-requires c κs = search needs
 
--- src/lib.rt:45:32
 mul-list : tie.Need-mul-list
 mul-list c = record { fits = omega (arith, records (c .before .before) .fits) }
 
--- src/lib.rt:45:24
 array-share-prefix-list : tie.Need-array-share-prefix-list
 array-share-prefix-list c = omega (arith, records (c .before .before) .fits, read-by (c .before .before) .read .kept)
 
--- src/lib.rt:45:24
 slice-aggregate-list-texts : tie.Need-slice-aggregate-list-texts
 slice-aggregate-list-texts c = sym (length-take-le _ _ (omega (arith, records (c .before .before .before) .fits, read-by (c .before .before .before) .read .kept)))
 
--- src/lib.rt:45:13
 list-texts-requires : tie.Need-list-texts-requires
 list-texts-requires c κs =
     let answer = c .before .before .before .before in
     let list = records answer in
     let begun = start (read-by answer) in
-    ((list .read, list .good, list .parted), rw (c .before .before .next-line .ensures) (texts-space _ _ (line (read-by answer) .line-end .ensures) (begun .pre .0) (begun .pre .1) list))
+    (record { some = list .read; good = list .good }, rw (c .before .before .next-line .ensures) (texts-space _ _ (line (read-by answer) .line-end .ensures) (begun .pre .0) (begun .pre .1) list))
 
--- src/lib.rt:33:1
 same-length : tie.Need-same-length
 same-length c = search needs
 
--- src/lib.rt:33:1
 returns : tie.Need-returns
 returns c =
     let answer = c .before .before .before .before .before in
     reports-refusal _ _ (line (refused-by answer) .line-end .ensures) (refusal answer) (c .before .before .refusal-line .ensures)
 
--- src/lib.rt:33:1
 same-length-2 : tie.Need-same-length-2
 same-length-2 c = search needs
 
--- src/lib.rt:33:1
 returns-2 : tie.Need-returns-2
 returns-2 c =
     let answer = c .before .before .before .before .before .before .before in

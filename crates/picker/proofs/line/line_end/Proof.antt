@@ -8,8 +8,6 @@ use borrow.Author.Needs.{needs}
 use lib.ListN.{length, getD}
 use Rattle.picker.proofs.line.line_end.Statement.{statement}
 use Rattle.picker.proofs.line.line_end.Tie as tie
-use Rattle.picker.proofs.line.line_end.Reads as reads
-use Rattle.picker.proofs.line.line_end.Lts as lts
 
 -- one more byte that is not 10
 unbroken-next : (input : List ℕ) (start end : ℕ) → ((i : ℕ) → start ≤ i → i < end → getD input i 0 ≡ 10 → ⊥) → (getD input end 0 ≡ 10 → ⊥) → (i : ℕ) → start ≤ i → i < end + 1 → getD input i 0 ≡ 10 → ⊥
@@ -25,31 +23,24 @@ Inv-loop input start end₀ end = (start ≤ end) × (end ≤ length input) × (
 abbrev μ-loop : tie.MeasureT-loop
 μ-loop input start end₀ end = length input - end
 
--- src/line.rt:13:5
 loop-holds : tie.Need-loop-holds Inv-loop μ-loop
 loop-holds c = search needs
 
--- src/line.rt:14:12
 shared-slice-read-if1 : tie.Need-shared-slice-read-if1 Inv-loop μ-loop
 shared-slice-read-if1 c = search needs
 
--- src/line.rt:17:9
 add-end : tie.Need-add-end Inv-loop μ-loop
 add-end c = search needs
 
--- src/line.rt:13:5
 loop-less : tie.Need-loop-less Inv-loop μ-loop
 loop-less c = search needs
 
--- src/line.rt:13:5
 loop-again : tie.Need-loop-again Inv-loop μ-loop
 loop-again c = (search needs, search needs, unbroken-next (c .before .before .before .before .args .input .now) _ _ (c .before .before .before .loop .inv .2) (c .if1 .left))
 
--- src/line.rt:8:1
 returns : tie.Need-returns Inv-loop μ-loop
 returns c = record { ordered = search needs; inside = search needs; unbroken = c .before .loop .inv .2; stops = λ h. absurd (omega arith) }
 
--- src/line.rt:8:1
 returns-2 : tie.Need-returns-2 Inv-loop μ-loop
 returns-2 c = record { ordered = search needs; inside = search needs; unbroken = c .before .before .before .loop .inv .2; stops = λ h. c .if1 .taken }
 

@@ -2,7 +2,6 @@
 -- The measure is the number. Assumes nothing.
 use native.Mathlib.Omega.{arith}
 use borrow.Author.Needs.{needs}
-use lib.ListN.{length}
 use Rattle.picker.specs.Printing.{prints-small, prints-large, small-room, large-room}
 use Prim.Native.Nat.{ℕ, _<_}
 use borrow.Fn.Kinds.{In}

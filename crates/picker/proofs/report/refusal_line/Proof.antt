@@ -7,10 +7,6 @@ use Rattle.picker.specs.Digits.{digits}
 use Rattle.picker.specs.Printing.{prints-join}
 use Rattle.picker.proofs.report.refusal_line.Statement.{statement}
 use Rattle.picker.proofs.report.refusal_line.Tie as tie
-use Rattle.picker.proofs.report.refusal_line.Reads as reads
-use Rattle.picker.proofs.report.refusal_line.Lts as lts
-use Rattle.picker.proofs.print.put.Reads as put-reads
-use Rattle.picker.proofs.print.put_number.Reads as put-number-reads
 
 abbrev at-start : tie.After-put → tie.Start
 at-start c = c .before .before .before .before
@@ -31,43 +27,33 @@ fourth c = c .before .before .before .before .before
 room : (c : tie.Start) → c .args .at + (8 + length (digits (c .args .number)) + 4 + length (digits (c .args .place)) + 1) ≤ length (c .args .out .now)
 room c = simp length-append at (c .pre)
 
--- src/report.rt:27:38
 slice-aggregate-put : tie.Need-slice-aggregate-put
 slice-aggregate-put c = search needs
 
--- src/report.rt:27:9
 put-requires : tie.Need-put-requires
 put-requires c κs = search needs
 
--- src/report.rt:28:9
 put-number-requires : tie.Need-put-number-requires
 put-number-requires c κs = omega (arith, room (c .before .before .before .before .before .before .before))
 
--- src/report.rt:29:43
 slice-aggregate-put-2 : tie.Need-slice-aggregate-put-2
 slice-aggregate-put-2 c = search needs
 
--- src/report.rt:29:9
 put-requires-2 : tie.Need-put-requires-2
 put-requires-2 c κs = omega (arith, room (at-start (first (c .before .before .before .before))))
 
--- src/report.rt:30:9
 put-number-requires-2 : tie.Need-put-number-requires-2
 put-number-requires-2 c κs = omega (arith, room (at-start (first (second (c .before .before .before)))))
 
--- src/report.rt:31:27
 slice-aggregate-put-3 : tie.Need-slice-aggregate-put-3
 slice-aggregate-put-3 c = search needs
 
--- src/report.rt:31:5
 put-requires-3 : tie.Need-put-requires-3
 put-requires-3 c κs = omega (arith, room (at-start (first (second (third (c .before .before .before .before))))))
 
--- src/report.rt:23:1
 same-length : tie.Need-same-length
 same-length c = search needs
 
--- src/report.rt:23:1
 returns : tie.Need-returns
 returns c =
     let last = c .before .before in

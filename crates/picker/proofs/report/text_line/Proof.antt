@@ -10,9 +10,6 @@ use Rattle.picker.specs.Printing.{prints-join}
 use borrow.Author.Needs.{needs}
 use Rattle.picker.proofs.report.text_line.Statement.{statement}
 use Rattle.picker.proofs.report.text_line.Tie as tie
-use Rattle.picker.proofs.report.text_line.Reads as reads
-use Rattle.picker.proofs.report.text_line.Lts as lts
-use Rattle.picker.proofs.print.put.Reads as put-reads
 
 abbrev at-start : tie.After-put-number → tie.Start
 at-start c = c .before .before .before
@@ -38,35 +35,27 @@ room-yes c e = simp length-append at (rw e at (c .pre))
 room-no : (c : tie.Start) → c .args .yes ≡ false → c .args .at + (length (digits (c .args .number)) + 6) ≤ length (c .args .out .now)
 room-no c e = simp length-append at (rw e at (c .pre))
 
--- src/report.rt:13:9
 put-number-requires : tie.Need-put-number-requires
 put-number-requires c κs = omega (arith, number-first (c .before .before .args .yes) (c .before .before .args .number) (c .before .before .args .rank))
 
--- src/report.rt:15:48
 slice-aggregate-put : tie.Need-slice-aggregate-put
 slice-aggregate-put c = search needs
 
--- src/report.rt:15:13
 put-requires : tie.Need-put-requires
 put-requires c κs = omega (arith, room-yes (at-start (c .before .before .before .before .before)) (c .before .before .if1 .taken))
 
--- src/report.rt:16:13
 put-number-requires-2 : tie.Need-put-number-requires-2
 put-number-requires-2 c κs = omega (arith, room-yes (at-start (number-put (c .before .before .before))) (c .before .before .before .before .before .before .if1 .taken))
 
--- src/report.rt:17:37
 slice-aggregate-put-2 : tie.Need-slice-aggregate-put-2
 slice-aggregate-put-2 c = search needs
 
--- src/report.rt:17:9
 put-requires-2 : tie.Need-put-requires-2
 put-requires-2 c κs = omega (arith, room-yes (at-start (number-put (yes-put (c .before .before .before .before)))) (yes-put (c .before .before .before .before) .before .before .before .if1 .taken))
 
--- src/report.rt:17:9
 same-length : tie.Need-same-length
 same-length c = search needs
 
--- src/report.rt:17:9
 returns : tie.Need-returns
 returns c =
     let ended = c .before .before in
@@ -75,19 +64,15 @@ returns c =
     rw (said .before .before .before .if1 .taken)
     (prints-join (prints-join (prints-join (number-put said .put-number .ensures) (said .put .ensures)) (ranked .put-number2 .ensures)) (ended .put2 .ensures))
 
--- src/report.rt:19:28
 slice-aggregate-put-3 : tie.Need-slice-aggregate-put-3
 slice-aggregate-put-3 c = search needs
 
--- src/report.rt:19:5
 put-requires-3 : tie.Need-put-requires-3
 put-requires-3 c κs = omega (arith, room-no (at-start (c .before .before .before .before .before)) (c .before .before .if1 .left))
 
--- src/report.rt:9:1
 same-length-2 : tie.Need-same-length-2
 same-length-2 c = search needs
 
--- src/report.rt:9:1
 returns-2 : tie.Need-returns-2
 returns-2 c =
     let ended = c .before .before in
