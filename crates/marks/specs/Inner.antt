@@ -16,7 +16,8 @@ use Rattle.language.specs.Nested.{Nested, leaf, catenation, union, star, below,
 use Rattle.language.specs.Same.{Agree, models-same}
 use Rattle.language.specs.Simulation.{_⊆_, stepped-more}
 use Rattle.language.specs.Acceptance.{accepts-exactly}
-use Rattle.language.specs.Models.{State-of, alike-models, models-alike, models-origins, started-state, stepped-state}
+use Rattle.language.specs.Models.{State-of, alike-models, models-alike, models-origins}
+use Rattle.language.specs.Along.{reached-state}
 use Rattle.tree.specs.Cut.{wanted, nest}
 use Rattle.tree.specs.Records.{Good, piece-count}
 use Rattle.tree.specs.Least.{wanted-fits}
@@ -203,17 +204,12 @@ pub answered-first : {t : Tree ℕ} {before after : List ℕ} {yes' : Bool} → 
 answered-first {t} begins =
     record { holding = holding-first (begins .hold .marks) (begins .hold .clean); answer = Iff·trans (begins .answer) (accepts-exactly Is t []) }
 
--- every state after a text is one of the automaton's
-after-state : (t : Tree ℕ) (w : List ℕ) (X : States) → X ⊆ State-of t → After Is t w X ⊆ State-of t
-after-state t [] X states = states
-after-state t (b ∷ w) X states = after-state t w (Stepped Is t b X) (stepped-state Is t b X)
-
 -- after one more byte they hold the marks after one more byte
 pub answered-next : {t : Tree ℕ} {w before after : List ℕ} {b : ℕ} {yes' : Bool} → Holding t w before → Advanced t b before after yes' → Answered t (w ++ (b ∷ [])) after yes'
 answered-next {t} {w} {before} {after} {b} {yes'} holding went =
     let x = cut-up t in
     let X = After Is t w (Started t) in
-    let states : X ⊆ State-of (whole x) = subst (λ (s : Tree ℕ). X ⊆ State-of s) (sym (whole-nest t (wanted t))) (after-state t w (Started t) (started-state t)) in
+    let states : X ⊆ State-of (whole x) = subst (λ (s : Tree ℕ). X ⊆ State-of s) (sym (whole-nest t (wanted t))) (reached-state Is t w) in
     let same : (p : State) → X p ↔ Set-of x before p = models-origins x (Holds x before) X (holding .modelled) states in
     let stepped : (p : State) → Stepped Is t b (Set-of x before) p ↔ Stepped Is t b X p = λ p. (stepped-more Is t b (λ q. same q .1) p, stepped-more Is t b (λ q. same q .0) p) in
     let held : Holding t (w ++ (b ∷ [])) after = holding-next holding (λ q has. Iff·trans (went .hold .marks q has) (stepped (origin x q))) (went .hold .clean) in
