@@ -1,0 +1,2 @@
+-- What the answers behind the outside interface tell.
+pub mod Told

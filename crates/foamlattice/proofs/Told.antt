@@ -1,0 +1,66 @@
+-- The number that an answer is packed into, by its case: each case's tag finds it in a list.
+-- Assumes nothing.
+use Prim.Native.Nat.{ℕ}
+use mathlib.Core.Path.{_≡_, refl, ap, _∙_}
+use mathlib.Core.List.{List, [], _∷_}
+use native.Mathlib.Omega.{arith}
+use lib.ListN.{getD}
+use denote.Enum.Declared.{tagOf}
+use Rattle.reader.specs.Answer.{Numbers, refusing}
+use Rattle.marks.specs.declared.Answer.{Answer}
+use Rattle.marks.specs.declared.Answer.the-variants.{Marked, NotGood, TooFewWords, NotMarks}
+use Rattle.marks.proofs.Answer.{the-type as marks-type}
+use Rattle.finder.specs.declared.Matched.{Matched}
+use Rattle.finder.specs.declared.Matched.the-variants.{Yes, No, NotGood as Match-not-good, TooLong as Match-too-long}
+use Rattle.finder.proofs.Matched.{the-type as matched-type}
+use Rattle.finder.specs.declared.Searched.{Searched}
+use Rattle.finder.specs.declared.Searched.the-variants.{Found, Nothing, NotGood as Search-not-good, TooLong as Search-too-long}
+use Rattle.finder.proofs.Searched.{the-type as searched-type}
+use Rattle.foamlattice.specs.Packed.{packed}
+use Rattle.foamlattice.specs.Promise.{read-packed, match-packed, search-packed, marks-packed}
+
+-- a match's numbers, in the order of its cases
+abbrev pub match-numbers : List ℕ
+match-numbers = packed 0 1 0 0 ∷ packed 0 0 0 0 ∷ packed 10 0 0 0 ∷ packed 11 0 0 0 ∷ []
+
+match-number-at : (answer : Matched) → match-packed answer ≡ getD match-numbers (tagOf matched-type answer) 0
+match-number-at Yes = refl
+match-number-at No = refl
+match-number-at Match-not-good = refl
+match-number-at Match-too-long = refl
+
+pub told-match : (answer : Matched) (tag : ℕ) → tagOf matched-type answer ≡ tag → match-packed answer ≡ getD match-numbers tag 0
+told-match answer tag e = match-number-at answer ∙ ap (λ (k : ℕ). getD match-numbers k 0) e
+
+-- a search's numbers: that of a part found is its own
+abbrev pub search-numbers : Searched → List ℕ
+search-numbers answer = search-packed answer ∷ packed 0 0 0 0 ∷ packed 10 0 0 0 ∷ packed 11 0 0 0 ∷ []
+
+search-number-at : (answer : Searched) → search-packed answer ≡ getD (search-numbers answer) (tagOf searched-type answer) 0
+search-number-at (Found start end) = refl
+search-number-at Nothing = refl
+search-number-at Search-not-good = refl
+search-number-at Search-too-long = refl
+
+pub told-search : (answer : Searched) (tag : ℕ) → tagOf searched-type answer ≡ tag → search-packed answer ≡ getD (search-numbers answer) tag 0
+told-search answer tag e = search-number-at answer ∙ ap (λ (k : ℕ). getD (search-numbers answer) k 0) e
+
+-- the numbers of a start or a step: that of marks made is their own
+abbrev pub marks-numbers : Answer → List ℕ
+marks-numbers answer = marks-packed answer ∷ packed 10 0 0 0 ∷ packed 12 0 0 0 ∷ packed 13 0 0 0 ∷ []
+
+marks-number-at : (answer : Answer) → marks-packed answer ≡ getD (marks-numbers answer) (tagOf marks-type answer) 0
+marks-number-at (Marked accepting) = refl
+marks-number-at NotGood = refl
+marks-number-at TooFewWords = refl
+marks-number-at NotMarks = refl
+
+pub told-marks : (answer : Answer) (tag : ℕ) → tagOf marks-type answer ≡ tag → marks-packed answer ≡ getD (marks-numbers answer) tag 0
+told-marks answer tag e = marks-number-at answer ∙ ap (λ (k : ℕ). getD (marks-numbers answer) k 0) e
+
+-- of a reading's place and count of records one is 0, so that x is the other
+pub read-number : (records pieces : ℕ) → packed 0 0 records pieces ≡ read-packed (record { refusal = 0; place = 0; records = records; pieces = pieces })
+read-number records pieces = omega arith
+
+pub refused-number : (number place : ℕ) → packed number 0 place 0 ≡ read-packed (refusing number place)
+refused-number number place = omega arith

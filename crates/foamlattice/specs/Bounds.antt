@@ -1,0 +1,122 @@
+-- The parts of every right answer are in range, so unpacking its number gives them back.
+-- Assumes nothing.
+use Prim.Native.Nat.{ℕ, _+_, _*_, _≤_, _<_}
+use native.Mathlib.Omega.{arith}
+use mathlib.Core.Path.{_≡_, refl, sym}
+use mathlib.Core.Bool.{Bool, true, false, cond}
+use mathlib.Core.List.{List}
+use lib.ListN.{length}
+use lib.Dec.{ltb}
+use borrow.Author.Tests.{ltb-false}
+use Rattle.language.specs.Tree.{Tree, nodes}
+use Rattle.tree.specs.Cut.{wanted}
+use Rattle.tree.specs.Least.{wanted-fits}
+use Rattle.tree.specs.Bounds.{nodes-at-most}
+use Rattle.tree.specs.Records.{piece-count}
+use Rattle.reader.specs.Scanner.{Outcome, tree, refused, scanned}
+use Rattle.reader.specs.Agree.{scanned-refusal}
+use Rattle.reader.specs.Answer.{Numbers, refusing, reading, pick, answer-for, answered}
+use Rattle.marks.specs.declared.Answer.{Answer}
+use Rattle.marks.specs.declared.Answer.the-variants.{Marked, NotGood, TooFewWords, NotMarks}
+use Rattle.marks.specs.Promise.{number-of}
+use Rattle.finder.specs.declared.Matched.{Matched}
+use Rattle.finder.specs.declared.Matched.the-variants.{Yes, No, NotGood as Match-not-good, TooLong as Match-too-long}
+use Rattle.finder.specs.declared.Searched.{Searched}
+use Rattle.finder.specs.declared.Searched.the-variants.{Found, Nothing, NotGood as Search-not-good, TooLong as Search-too-long}
+use Rattle.finder.specs.Promise.{match-number, search-number, Search-answers}
+use Rattle.foamlattice.specs.Packed.{packed, Ranges, Unpacks, unpacks}
+use Rattle.foamlattice.specs.Promise.{read-packed, match-flag, search-flag, search-start, search-end, marks-flag, Matching, Searching, Starting, Stepping}
+
+-- the numbers that reading can answer
+pub record Read-ranges (n : Numbers) : Type 0 where
+  pub refusal-small : n .refusal ≤ 9
+  pub place-small : n .place ≤ 1024
+  pub records-small : n .records ≤ 1920
+  pub pieces-small : n .pieces ≤ 128
+
+-- by the two tests of an expression that is read: the records have at most 15 nodes for each of at most 128 pieces
+picked-ranges : (t : Tree ℕ) (room : ℕ) (many short : Bool) → ltb 128 (piece-count t) ≡ many → Read-ranges (pick many (refusing 8 0) (pick short (refusing 9 0) (reading t)))
+picked-ranges t room true short e = record { refusal-small = omega arith; place-small = omega arith; records-small = omega arith; pieces-small = omega arith }
+picked-ranges t room false true e = record { refusal-small = omega arith; place-small = omega arith; records-small = omega arith; pieces-small = omega arith }
+picked-ranges t room false false e =
+    let few : piece-count t ≤ 128 = ltb-false 128 (piece-count t) e in
+    record { refusal-small = omega arith; place-small = omega arith; records-small = omega (arith, few, nodes-at-most t (wanted t) (wanted-fits t)); pieces-small = few }
+
+outcome-ranges : (bytes : List ℕ) (room : ℕ) (outcome : Outcome) → scanned bytes ≡ outcome → Read-ranges (answer-for outcome room)
+outcome-ranges bytes room (refused number place) e =
+    let known = scanned-refusal bytes number place e in
+    record { refusal-small = omega (arith, known .most); place-small = known .inside; records-small = omega arith; pieces-small = omega arith }
+outcome-ranges bytes room (tree t) e = picked-ranges t room (ltb 128 (piece-count t)) (ltb room (8 * nodes t)) refl
+
+-- what is answered for any bytes and any buffer
+pub answered-ranges : (bytes : List ℕ) (room : ℕ) → Read-ranges (answered bytes room)
+answered-ranges bytes room = outcome-ranges bytes room (scanned bytes) refl
+
+-- so for numbers that fit the promise
+pub read-ranges : (bytes : List ℕ) (room : ℕ) (n : Numbers) → n ≡ answered bytes room → Read-ranges n
+read-ranges bytes room n e = rw e (answered-ranges bytes room)
+
+-- a part that search answers lies in a text of at most 65,536 bytes
+pub record Search-ranges (answer : Searched) : Type 0 where
+  pub start-small : search-start answer ≤ 65536
+  pub end-small : search-end answer ≤ 65536
+
+pub search-ranges : (list text : List ℕ) (answer : Searched) → Search-answers list text answer → Search-ranges answer
+search-ranges list text (Found start end) right =
+    record { start-small = omega (arith, right .short, right .holds .here .ordered, right .holds .here .inside); end-small = omega (arith, right .short, right .holds .here .inside) }
+search-ranges list text Nothing right = record { start-small = omega arith; end-small = omega arith }
+search-ranges list text Search-not-good right = record { start-small = omega arith; end-small = omega arith }
+search-ranges list text Search-too-long right = record { start-small = omega arith; end-small = omega arith }
+
+-- a number and a flag of a case are small
+pub record Small (number flag : ℕ) : Type 0 where
+  pub number-small : number ≤ 13
+  pub flag-small : flag ≤ 1
+
+small : (number flag : ℕ) → number ≤ 13 → flag ≤ 1 → Small number flag
+small number flag n f = record { number-small = n; flag-small = f }
+
+match-small : (answer : Matched) → Small (match-number answer) (match-flag answer)
+match-small Yes = small 0 1 (omega arith) (omega arith)
+match-small No = small 0 0 (omega arith) (omega arith)
+match-small Match-not-good = small 10 0 (omega arith) (omega arith)
+match-small Match-too-long = small 11 0 (omega arith) (omega arith)
+
+search-small : (answer : Searched) → Small (search-number answer) (search-flag answer)
+search-small (Found start end) = small 0 1 (omega arith) (omega arith)
+search-small Nothing = small 0 0 (omega arith) (omega arith)
+search-small Search-not-good = small 10 0 (omega arith) (omega arith)
+search-small Search-too-long = small 11 0 (omega arith) (omega arith)
+
+marks-small : (answer : Answer) → Small (number-of answer) (marks-flag answer)
+marks-small (Marked true) = small 0 1 (omega arith) (omega arith)
+marks-small (Marked false) = small 0 0 (omega arith) (omega arith)
+marks-small NotGood = small 10 0 (omega arith) (omega arith)
+marks-small TooFewWords = small 12 0 (omega arith) (omega arith)
+marks-small NotMarks = small 13 0 (omega arith) (omega arith)
+
+-- a small number and flag are in range beside x and y of at most 65,536
+case-unpacks : (r number flag x y : ℕ) → Small number flag → x ≤ 65536 → y ≤ 65536 → r ≡ packed number flag x y → Unpacks r number flag x y
+case-unpacks r number flag x y h k l e =
+    unpacks r number flag x y (record { number-small = omega (arith, h .number-small); flag-small = omega (arith, h .flag-small); x-small = omega arith; y-small = omega arith }) e
+
+-- the number that reading answers gives its parts back
+pub read-unpacks : (bytes : List ℕ) (room r : ℕ) → r ≡ read-packed (answered bytes room) → Unpacks r (answered bytes room .refusal) 0 (answered bytes room .place + answered bytes room .records) (answered bytes room .pieces)
+read-unpacks bytes room r e =
+    let known = answered-ranges bytes room in
+    case-unpacks r _ 0 _ _ (small _ 0 (omega (arith, known .refusal-small)) (omega arith)) (omega (arith, known .place-small, known .records-small)) (omega (arith, known .pieces-small)) e
+
+-- so does that of a match, of a search, of a start and of a step
+pub matching-unpacks : (list text : List ℕ) (r : ℕ) (m : Matching list text r) → Unpacks r (match-number (m .answer)) (match-flag (m .answer)) 0 0
+matching-unpacks list text r m = case-unpacks r _ _ 0 0 (match-small (m .answer)) (omega arith) (omega arith) (m .as-number)
+
+pub searching-unpacks : (list text : List ℕ) (r : ℕ) (m : Searching list text r) → Unpacks r (search-number (m .answer)) (search-flag (m .answer)) (search-start (m .answer)) (search-end (m .answer))
+searching-unpacks list text r m =
+    let known = search-ranges list text (m .answer) (m .right) in
+    case-unpacks r _ _ _ _ (search-small (m .answer)) (known .start-small) (known .end-small) (m .as-number)
+
+pub starting-unpacks : (list before after : List ℕ) (r : ℕ) (m : Starting list before after r) → Unpacks r (number-of (m .answer)) (marks-flag (m .answer)) 0 0
+starting-unpacks list before after r m = case-unpacks r _ _ 0 0 (marks-small (m .answer)) (omega arith) (omega arith) (m .as-number)
+
+pub stepping-unpacks : (list : List ℕ) (byte : ℕ) (before after : List ℕ) (r : ℕ) (m : Stepping list byte before after r) → Unpacks r (number-of (m .answer)) (marks-flag (m .answer)) 0 0
+stepping-unpacks list byte before after r m = case-unpacks r _ _ 0 0 (marks-small (m .answer)) (omega arith) (omega arith) (m .as-number)

@@ -1,0 +1,5 @@
+-- What the outside interface answers.
+pub mod Packed
+pub mod Promise
+pub mod Bounds
+pub mod Unique

@@ -1,0 +1,86 @@
+-- What each call of the outside interface answers: the number that an answer is packed into, and that the answer is right.
+-- Assumes nothing.
+use Prim.Native.Nat.{ℕ, _+_}
+use mathlib.Core.Path.{_≡_}
+use mathlib.Core.Bool.{Bool, cond}
+use mathlib.Core.List.{List}
+use Rattle.reader.specs.Answer.{Numbers}
+use Rattle.marks.specs.declared.Answer.{Answer}
+use Rattle.marks.specs.declared.Answer.the-variants.{Marked, NotGood, TooFewWords, NotMarks}
+use Rattle.marks.specs.Promise.{number-of, Starts, Steps}
+use Rattle.finder.specs.declared.Matched.{Matched}
+use Rattle.finder.specs.declared.Matched.the-variants.{Yes, No, NotGood as Match-not-good, TooLong as Match-too-long}
+use Rattle.finder.specs.declared.Searched.{Searched}
+use Rattle.finder.specs.declared.Searched.the-variants.{Found, Nothing, NotGood as Search-not-good, TooLong as Search-too-long}
+use Rattle.finder.specs.Promise.{match-number, search-number, Match-answers, Search-answers}
+use Rattle.foamlattice.specs.Packed.{packed}
+
+-- read: x is the count of records, or the place of a refusal, the other of which is 0; y is the count of pieces
+abbrev pub read-packed : Numbers → ℕ
+read-packed n = packed (n .refusal) 0 (n .place + n .records) (n .pieces)
+
+-- match: the flag is 1 for yes
+abbrev pub match-flag : Matched → ℕ
+match-flag Yes = 1
+match-flag No = 0
+match-flag Match-not-good = 0
+match-flag Match-too-long = 0
+
+abbrev pub match-packed : Matched → ℕ
+match-packed answer = packed (match-number answer) (match-flag answer) 0 0
+
+-- search: the flag is 1 where a part was found; x is its start and y its end
+abbrev pub search-flag : Searched → ℕ
+search-flag (Found start end) = 1
+search-flag Nothing = 0
+search-flag Search-not-good = 0
+search-flag Search-too-long = 0
+
+abbrev pub search-start : Searched → ℕ
+search-start (Found start end) = start
+search-start Nothing = 0
+search-start Search-not-good = 0
+search-start Search-too-long = 0
+
+abbrev pub search-end : Searched → ℕ
+search-end (Found start end) = end
+search-end Nothing = 0
+search-end Search-not-good = 0
+search-end Search-too-long = 0
+
+abbrev pub search-packed : Searched → ℕ
+search-packed answer = packed (search-number answer) (search-flag answer) (search-start answer) (search-end answer)
+
+-- start and step: the flag is 1 where the root's accepting state is marked
+abbrev pub marks-flag : Answer → ℕ
+marks-flag (Marked accepting) = cond accepting 1 0
+marks-flag NotGood = 0
+marks-flag TooFewWords = 0
+marks-flag NotMarks = 0
+
+abbrev pub marks-packed : Answer → ℕ
+marks-packed answer = packed (number-of answer) (marks-flag answer) 0 0
+
+-- the number r is the right answer of a match, packed
+pub record Matching (list text : List ℕ) (r : ℕ) : Type 0 where
+  pub answer : Matched
+  pub right : Match-answers list text answer
+  pub as-number : r ≡ match-packed answer
+
+-- the number r is the right answer of a search, packed
+pub record Searching (list text : List ℕ) (r : ℕ) : Type 0 where
+  pub answer : Searched
+  pub right : Search-answers list text answer
+  pub as-number : r ≡ search-packed answer
+
+-- the words afterwards and the number r are those of a right start
+pub record Starting (list before after : List ℕ) (r : ℕ) : Type 0 where
+  pub answer : Answer
+  pub right : Starts list before after answer
+  pub as-number : r ≡ marks-packed answer
+
+-- the words afterwards and the number r are those of a right step
+pub record Stepping (list : List ℕ) (byte : ℕ) (before after : List ℕ) (r : ℕ) : Type 0 where
+  pub answer : Answer
+  pub right : Steps list byte before after answer
+  pub as-number : r ≡ marks-packed answer

@@ -1,0 +1,87 @@
+// The outside interface: reading, matching, searching, starting and stepping for callers in C and Rust, each of which answers one number.
+mod pack;
+
+use finder::Matched;
+use finder::Searched;
+use finder::is_match;
+use finder::search;
+use marks::start;
+use marks::step;
+use pack::pack;
+use reader::Answer;
+use reader::read;
+ghost use mathlib.Core.Path.{_≡_};
+ghost use lib.ListN.{length};
+ghost use Rattle.reader.specs.Answer.{answered, stored};
+ghost use Rattle.foamlattice.specs.Promise.{read-packed, marks-packed, Matching, Searching, Starting, Stepping};
+
+// Reads an expression into tree records.
+#[no_mangle]
+pub extern "C" fn foam_read(expression: &[u8], records: &mut [u8]) -> u64
+    ensures answer { λ r. ⌜ r ≡ read-packed (answered (now (expression .entry)) (length (now (records .entry)))) ⌝ }
+    ensures buffer { λ _. ⌜ now (records .exit) ≡ stored (now (expression .entry)) (now (records .entry)) ⌝ }
+{
+    let answer = read(expression, records);
+    match answer {
+        Answer::Read { records, pieces } => pack(0, false, records, pieces),
+        Answer::Refused { number, place } => pack(number, false, place, 0),
+    }
+}
+
+// Whether the whole text is in the language of the list's tree.
+#[no_mangle]
+pub extern "C" fn foam_match(records: &[u8], text: &[u8]) -> u64
+    ensures { λ r. ⌜ Matching (now (records .entry)) (now (text .entry)) r ⌝ }
+{
+    let answer = is_match(records, text);
+    match answer {
+        Matched::Yes => pack(0, true, 0, 0),
+        Matched::No => pack(0, false, 0, 0),
+        Matched::NotGood => pack(10, false, 0, 0),
+        Matched::TooLong => pack(11, false, 0, 0),
+    }
+}
+
+// The part of the text that starts earliest and then ends furthest, of those in the language of the list's tree.
+#[no_mangle]
+pub extern "C" fn foam_search(records: &[u8], text: &[u8]) -> u64
+    ensures { λ r. ⌜ Searching (now (records .entry)) (now (text .entry)) r ⌝ }
+{
+    let answer = search(records, text);
+    match answer {
+        Searched::Found { start, end } => pack(0, true, start, end),
+        Searched::Nothing => pack(0, false, 0, 0),
+        Searched::NotGood => pack(10, false, 0, 0),
+        Searched::TooLong => pack(11, false, 0, 0),
+    }
+}
+
+// What a start or a step answers, packed.
+fn pack_marked(answer: marks::Answer) -> u64
+    ensures { λ r. ⌜ r ≡ marks-packed answer ⌝ }
+{
+    match answer {
+        marks::Answer::Marked { accepting } => pack(0, accepting, 0, 0),
+        marks::Answer::NotGood => pack(10, false, 0, 0),
+        marks::Answer::TooFewWords => pack(12, false, 0, 0),
+        marks::Answer::NotMarks => pack(13, false, 0, 0),
+    }
+}
+
+// Writes the marks to start with.
+#[no_mangle]
+pub extern "C" fn foam_start(records: &[u8], words: &mut [u64]) -> u64
+    ensures { λ r. ⌜ Starting (now (records .entry)) (now (words .entry)) (now (words .exit)) r ⌝ }
+{
+    let answer = start(records, words);
+    pack_marked(answer)
+}
+
+// Turns the marks into those after one more byte.
+#[no_mangle]
+pub extern "C" fn foam_step(records: &[u8], words: &mut [u64], byte: u8) -> u64
+    ensures { λ r. ⌜ Stepping (now (records .entry)) byte (now (words .entry)) (now (words .exit)) r ⌝ }
+{
+    let answer = step(records, words, byte);
+    pack_marked(answer)
+}
