@@ -1,4 +1,4 @@
--- `marks::count::added` meets its contract: the two branches are those of the definition. Assumes nothing.
+-- `tables::count::added` meets its contract: the two branches are those of the definition. Assumes nothing.
 use native.Mathlib.Omega.{arith}
 use Rattle.tables.specs.Counting.{adds-same, adds-other}
 use borrow.Author.Needs.{needs}

@@ -1,4 +1,4 @@
--- `marks::count::pieces_below` meets its contract, by what a record shows of its children. Assumes nothing.
+-- `tables::count::pieces_below` meets its contract, by what a record shows of its children. Assumes nothing.
 use native.Mathlib.Omega.{arith}
 use mathlib.Core.Path.{sym, _∙_}
 use Rattle.tables.specs.Counting.{runs-leaf, read-star, read-two, node-listed, left-listed, right-listed}
