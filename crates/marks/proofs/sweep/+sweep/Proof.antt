@@ -1,6 +1,6 @@
 -- The proof of the cycle of calls {sweep}. What is lent to a child's sweep leaves out the own word, so the number of words falls.
 -- Assumes nothing.
-use Prim.Native.Nat.{ℕ, _-_, _<_}
+use Prim.Native.Nat.{ℕ, _+_, _-_, _<_}
 use native.Mathlib.Omega.{arith}
 use mathlib.Core.Path.{_∙_}
 use lib.ListN.{length, set, length-set}
@@ -77,6 +77,10 @@ Come-back t = sweep-lts.After-words (sweep-claims t) (sweep-at t) sweep.Post swe
 abbrev going-on : (t : ℕ) → Come-back t → Going-on t
 going-on t c = c .before .before .before .before .before .before .before .before .before
 
+-- a bit whose next is in the word, and the lowest
+bits-within : (stand : ℕ) → stand + 1 < 64 → (stand < 64) × (0 < 64)
+bits-within stand h = (omega arith, omega arith)
+
 sweep-slice-read-close : (t : ℕ) → sweep-lts.Need-slice-read-close (sweep-claims t) (sweep-at t) sweep.Post sweep-Inv-loop sweep-μ-loop
 sweep-slice-read-close t c = search needs
 
@@ -123,7 +127,7 @@ sweep-slice-read-pass-2 : (t : ℕ) → sweep-lts.Need-slice-read-pass-2 (sweep-
 sweep-slice-read-pass-2 t c = search (needs, room t (c .before .before .before .before .before))
 
 sweep-pass-requires : (t : ℕ) → sweep-lts.Need-pass-requires (sweep-claims t) (sweep-at t) sweep.Post sweep-Inv-loop sweep-μ-loop
-sweep-pass-requires t c κs = search (needs, room t (c .before .before .before .before .before))
+sweep-pass-requires t c κs = bits-within _ (room t (c .before .before .before .before .before) .stand-small)
 
 sweep-mul-words : (t : ℕ) → sweep-lts.Need-mul-words (sweep-claims t) (sweep-at t) sweep.Post sweep-Inv-loop sweep-μ-loop
 sweep-mul-words t c = search (needs, room t (c .before .before .before .before .before .before))
@@ -169,10 +173,10 @@ sweep-add-pass : (t : ℕ) → sweep-lts.Need-add-pass (sweep-claims t) (sweep-a
 sweep-add-pass t c = search (needs, room t (c .before .before .before .before .before .before .before .before .before .before .before .before))
 
 sweep-pass-requires-2 : (t : ℕ) → sweep-lts.Need-pass-requires-2 (sweep-claims t) (sweep-at t) sweep.Post sweep-Inv-loop sweep-μ-loop
-sweep-pass-requires-2 t c κs = search (needs, room t (c .before .before .before .before .before .before .before .before .before .before .before .before))
+sweep-pass-requires-2 t c κs = let r = room t (c .before .before .before .before .before .before .before .before .before .before .before .before) in (r .top-small, r .stand-small)
 
 sweep-close-requires-2 : (t : ℕ) → sweep-lts.Need-close-requires-2 (sweep-claims t) (sweep-at t) sweep.Post sweep-Inv-loop sweep-μ-loop
-sweep-close-requires-2 t c κs = search (needs, room t (c .before .before .before .before .before .before .before .before .before .before .before .before .before))
+sweep-close-requires-2 t c κs = room t (c .before .before .before .before .before .before .before .before .before .before .before .before .before) .reach-room
 
 sweep-slice-write-words-3 : (t : ℕ) → sweep-lts.Need-slice-write-words-3 (sweep-claims t) (sweep-at t) sweep.Post sweep-Inv-loop sweep-μ-loop
 sweep-slice-write-words-3 t c =
