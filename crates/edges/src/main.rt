@@ -1,0 +1,268 @@
+// Both sides of each edge of the statement: what is refused and what is not, a line each.
+mod finding;
+mod marking;
+mod reading;
+mod say;
+
+use finding::match_list;
+use finding::match_named;
+use finding::match_shown;
+use finding::search_list;
+use finding::search_named;
+use finding::search_shown;
+use marking::marks_after;
+use marking::say_step;
+use marking::step_from;
+use reading::list_shown;
+use reading::read_into;
+use reading::read_named;
+use reading::read_shown;
+use say::say;
+
+// P1 to P6, and the fault that is met first.
+fn faults() {
+    read_named(b"the empty expression", b"");
+    read_shown(b"a|");
+    read_shown(b"()");
+    read_shown(b"((a)");
+    read_shown(b"a)");
+    read_shown(b")");
+    read_shown(b"a\\b");
+    read_shown(b"(a\\b");
+}
+
+fn groups() {
+    read_shown(b"((((((((((((((((((((((((((((((((a))))))))))))))))))))))))))))))))");
+    read_shown(b"(((((((((((((((((((((((((((((((((a)))))))))))))))))))))))))))))))))");
+}
+
+fn letters() {
+    let letters = [b'a'; 1025];
+    read_named(b"8 letters", &letters[..8]);
+    read_named(b"9 letters", &letters[..9]);
+    read_named(b"897 letters", &letters[..897]);
+    read_named(b"898 letters", &letters[..898]);
+    read_named(b"1024 letters", &letters[..1024]);
+    read_named(b"1025 letters", &letters);
+}
+
+fn buffers() {
+    let letters = [b'a'; 897];
+    let mut enough = [0u8; 14344];
+    read_into(b"897 letters into 14344 bytes", &letters, &mut enough);
+    let mut short = [0u8; 14343];
+    read_into(b"897 letters into 14343 bytes", &letters, &mut short);
+}
+
+// P7: the marks of one piece, step by step.
+fn one_piece() {
+    let mut words = [0u64; 1];
+    marks_after(b"a*b", &mut words, b"", 1);
+    marks_after(b"a*b", &mut words, b"a", 1);
+    marks_after(b"a*b", &mut words, b"ab", 1);
+    marks_after(b"a*b", &mut words, b"aba", 1);
+}
+
+// P8 to P10.
+fn small_texts() {
+    read_shown(b"ac|a*b");
+    match_shown(b"ac|a*b", b"ac");
+    match_shown(b"ac|a*b", b"b");
+    match_shown(b"ac|a*b", b"a");
+    search_shown(b"ab*", b"xabbab");
+    search_shown(b"a*", b"b");
+    search_named(b"b in the empty text", b"b", b"");
+}
+
+// A tree of three pieces under a star: the second round goes back through pieces that were already swept.
+fn rounds() {
+    read_shown(b"(abcdefgh(ijklmnop))*");
+    match_shown(b"(abcdefgh(ijklmnop))*", b"abcdefghijklmno");
+    match_shown(
+        b"(abcdefgh(ijklmnop))*",
+        b"abcdefghijklmnopabcdefghijklmnop",
+    );
+    match_shown(
+        b"(abcdefgh(ijklmnop))*",
+        b"abcdefghijklmnopabcdefghijklmnopabcdefghijklmnop",
+    );
+}
+
+// Stars in stars, with cut edges between them.
+fn stars() {
+    read_shown(b"((abcdefgh)*(ijklmnop)*)*");
+    match_named(
+        b"((abcdefgh)*(ijklmnop)*)* on the empty text",
+        b"((abcdefgh)*(ijklmnop)*)*",
+        b"",
+    );
+    match_shown(b"((abcdefgh)*(ijklmnop)*)*", b"ijklmnopabcdefgh");
+    match_shown(
+        b"((abcdefgh)*(ijklmnop)*)*",
+        b"ijklmnopijklmnopabcdefghabcdefghijklmnop",
+    );
+    match_shown(b"((abcdefgh)*(ijklmnop)*)*", b"ijklmnopabcdefgijklmnop");
+    read_shown(b"(((abcdefgh)*i)*(jklmnopq)*)*");
+    match_shown(
+        b"(((abcdefgh)*i)*(jklmnopq)*)*",
+        b"jklmnopqiabcdefghabcdefghi",
+    );
+    match_shown(b"(((abcdefgh)*i)*(jklmnopq)*)*", b"jklmnopqabcdefgh");
+    read_shown(b"(abcdefgh(ijklmnop(qrstuvwx)))*");
+    match_shown(
+        b"(abcdefgh(ijklmnop(qrstuvwx)))*",
+        b"abcdefghijklmnopqrstuvwxabcdefghijklmnopqrstuvwx",
+    );
+}
+
+// The tree of 16 times 8 letters: its root's piece has 15 nodes and 16 stand-ins, so 62 states.
+const FULL: [u8; 143] =
+    *b"aaaaaaaa|bbbbbbbb|cccccccc|dddddddd|eeeeeeee|ffffffff|gggggggg|hhhhhhhh|iiiiiiii|jjjjjjjj|kkkkkkkk|llllllll|mmmmmmmm|nnnnnnnn|oooooooo|pppppppp";
+
+fn full_piece() {
+    let mut words = [0u64; 17];
+    read_shown(&FULL);
+    marks_after(&FULL, &mut words, b"", 1);
+    marks_after(&FULL, &mut words, b"aaaaaaaa", 1);
+    marks_after(&FULL, &mut words, b"pppppppp", 1);
+    marks_after(&FULL, &mut words, b"ppppppp", 1);
+}
+
+// 128 pieces, each below the one before it.
+fn most_pieces() {
+    let letters = [b'a'; 897];
+    let text = [b'a'; 898];
+    match_named(b"897 letters on 896", &letters, &text[..896]);
+    match_named(b"897 letters on 897", &letters, &text[..897]);
+    match_named(b"897 letters on 898", &letters, &text);
+}
+
+// A piece and one below it: the start, a step in the lower one, the way up, and the end.
+fn two_pieces() {
+    let mut words = [0u64; 2];
+    marks_after(b"abcdefghi", &mut words, b"", 2);
+    marks_after(b"abcdefghi", &mut words, b"a", 2);
+    marks_after(b"abcdefghi", &mut words, b"abcdefgh", 2);
+    marks_after(b"abcdefghi", &mut words, b"abcdefghi", 2);
+}
+
+// A word too few is refused, and a word too many is left as it was.
+fn counts_of_words() {
+    let mut few = [7u64; 1];
+    marks_after(b"abcdefghi", &mut few, b"", 1);
+    marks_after(b"abcdefghi", &mut few, b"a", 1);
+    let mut many = [7u64; 3];
+    marks_after(b"abcdefghi", &mut many, b"", 3);
+}
+
+// The last state's bit and the first bit past it.
+fn last_bits() {
+    step_from(b"a*b", &mut [55]);
+    step_from(b"a*b", &mut [128]);
+    step_from(b"a*b", &mut [256]);
+    step_from(b"abcdefghi", &mut [0, 1073741824]);
+}
+
+// The two bits of a shared state: both set, and one of them.
+fn shared_bits() {
+    step_from(b"abcdefghi", &mut [3, 255]);
+    step_from(b"abcdefghi", &mut [2, 0]);
+    step_from(b"abcdefghi", &mut [0, 1]);
+    step_from(b"abcdefghi", &mut [4, 536870912]);
+    step_from(b"abcdefghi", &mut [4, 0]);
+    step_from(b"abcdefghi", &mut [0, 536870912]);
+}
+
+// The records of `a*b`, and the same with a byte changed, cut off and added.
+fn damaged() {
+    list_shown(b"a*b");
+    let mut list = [
+        1,
+        97,
+        255,
+        255,
+        255,
+        255,
+        0,
+        0,
+        4,
+        0,
+        0,
+        0,
+        255,
+        255,
+        0,
+        0,
+        1,
+        98,
+        255,
+        255,
+        255,
+        255,
+        0,
+        0,
+        2,
+        0,
+        1,
+        0,
+        2,
+        0,
+        0,
+        0,
+        0,
+    ];
+    match_list(b"the records of a*b on b", &list[..32], b"b");
+    match_list(b"a byte less", &list[..31], b"b");
+    match_list(b"a byte more", &list, b"b");
+    match_list(b"a record less", &list[..24], b"b");
+    match_list(b"no record", &list[..0], b"b");
+    list[30] = 1;
+    match_list(b"the last record in piece 1", &list[..32], b"b");
+    search_list(b"a search by it", &list[..32], b"b");
+    say(b"a step by it from");
+    say_step(&list[..32], &mut [256]);
+}
+
+// Texts of 65,536 bytes and of one byte more.
+fn long_texts() {
+    let mut text = [b'a'; 65537];
+    match_named(b"(a|b)* on 65536 letters", b"(a|b)*", &text[..65536]);
+    match_named(b"(a|b)* on 65537 letters", b"(a|b)*", &text);
+    search_named(b"(a|b)* in 65536 letters", b"(a|b)*", &text[..65536]);
+    search_named(b"(a|b)* in 65537 letters", b"(a|b)*", &text);
+    match_list(b"no record on 65537 letters", b"", &text);
+    text[65535] = b'c';
+    match_named(b"(a|b)* on 65535 letters and c", b"(a|b)*", &text[..65536]);
+    search_named(b"c in 65535 letters and c", b"c", &text[..65536]);
+}
+
+// The earliest start and then the furthest end; an empty part, which is found at the start if anywhere.
+fn parts() {
+    search_shown(b"ab", b"abxabxab");
+    search_shown(b"a|bbb", b"abbb");
+    search_shown(b"a|abcd", b"xabcd");
+    search_shown(b"a|abcd", b"xabcx");
+    search_shown(b"b", b"aab");
+    search_shown(b"x*", b"ax");
+    search_named(b"x* in the empty text", b"x*", b"");
+}
+
+fn main() {
+    faults();
+    groups();
+    letters();
+    buffers();
+    one_piece();
+    small_texts();
+    rounds();
+    stars();
+    full_piece();
+    most_pieces();
+    two_pieces();
+    counts_of_words();
+    last_bits();
+    shared_bits();
+    damaged();
+    long_texts();
+    parts();
+}

@@ -1,0 +1,87 @@
+// Marks started and stepped.
+use crate::reading::list_of;
+use crate::say::say;
+use crate::say::say_refused;
+use crate::say::say_yes;
+use libc::STDOUT_FILENO;
+use marks::Answer;
+
+fn say_answer(answer: Answer) {
+    match answer {
+        Answer::Marked { accepting } => say_yes(accepting),
+        Answer::NotGood => say_refused(10, 0),
+        Answer::TooFewWords => say_refused(12, 0),
+        Answer::NotMarks => say_refused(13, 0),
+    }
+}
+
+// One word, in decimal and in hex.
+fn say_word(word: u64) {
+    say(b" ");
+    io::print_decimal(STDOUT_FILENO, word);
+    say(b" (0x");
+    io::print_hex(STDOUT_FILENO, word, 1);
+    say(b")");
+}
+
+// The first of the words, as many as are to be shown.
+fn say_words(words: &[u64], shown: usize) {
+    let mut i = 0;
+    while i < words.len() && i < shown {
+        say_word(words[i]);
+        i += 1;
+    }
+}
+
+// Starts, and steps along each byte of the text; answers what the last of these answered.
+fn walk(list: &[u8], words: &mut [u64], text: &[u8]) -> Answer {
+    let mut answer = marks::start(list, words);
+    let mut i = 0;
+    while i < text.len() {
+        answer = marks::step(list, words, text[i]);
+        i += 1;
+    }
+    answer
+}
+
+// The rest of a line: what the start and the steps along a text answer, and the first words then.
+fn say_walk(list: &[u8], words: &mut [u64], text: &[u8], shown: usize) {
+    let answer = walk(list, words, text);
+    say_answer(answer);
+    say(b", marks");
+    say_words(words, shown);
+    say(b"\n");
+}
+
+// A line of its own: the marks after a text, in this many words, of which the first are shown.
+pub fn marks_after(expr: &[u8], words: &mut [u64], text: &[u8], shown: usize) {
+    say(expr);
+    say(b" after ");
+    say(text);
+    say(b": ");
+    let mut list = [0u8; 15360];
+    let bytes = list_of(expr, &mut list);
+    let n = io::count(bytes, &list);
+    say_walk(&list[..n], words, text, shown);
+}
+
+// The rest of a line: what a step along `a` from these marks answers, and the marks then.
+pub fn say_step(list: &[u8], words: &mut [u64]) {
+    say_words(words, words.len());
+    say(b": ");
+    let answer = marks::step(list, words, b'a');
+    say_answer(answer);
+    say(b", marks");
+    say_words(words, words.len());
+    say(b"\n");
+}
+
+// A line of its own: a step along `a` from these marks.
+pub fn step_from(expr: &[u8], words: &mut [u64]) {
+    say(expr);
+    say(b" stepped along a from");
+    let mut list = [0u8; 15360];
+    let bytes = list_of(expr, &mut list);
+    let n = io::count(bytes, &list);
+    say_step(&list[..n], words);
+}

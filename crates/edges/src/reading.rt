@@ -1,0 +1,76 @@
+// Expressions read: how many records and pieces, or the refusal.
+use crate::say::say;
+use crate::say::say_number;
+use crate::say::say_refused;
+use libc::STDOUT_FILENO;
+use reader::Answer;
+
+fn say_answer(answer: Answer) {
+    match answer {
+        Answer::Read { records, pieces } => {
+            say(b"records ");
+            say_number(records as u64);
+            say(b", pieces ");
+            say_number(pieces as u64);
+        }
+        Answer::Refused { number, place } => say_refused(number, place),
+    }
+}
+
+// A line of its own: the name, and what reading the expression into these bytes answers.
+pub fn read_into(name: &[u8], expr: &[u8], list: &mut [u8]) {
+    say(name);
+    say(b": ");
+    say_answer(reader::read(expr, list));
+    say(b"\n");
+}
+
+pub fn read_named(name: &[u8], expr: &[u8]) {
+    let mut list = [0u8; 15360];
+    read_into(name, expr, &mut list);
+}
+
+pub fn read_shown(expr: &[u8]) {
+    read_named(expr, expr);
+}
+
+// How many bytes the records that were read have: none after a refusal.
+fn bytes_of(answer: Answer) -> isize {
+    let Answer::Read { records, pieces: _ } = answer else {
+        return 0;
+    };
+    if records <= 1920 {
+        return (8 * records) as isize;
+    }
+    0
+}
+
+// Reads an expression into a list, and answers how many bytes its records have.
+pub fn list_of(expr: &[u8], list: &mut [u8]) -> isize {
+    bytes_of(reader::read(expr, list))
+}
+
+fn say_byte(byte: u8) {
+    say(b" ");
+    io::print_hex(STDOUT_FILENO, byte as u64, 2);
+}
+
+// The bytes of a list in hex.
+fn say_list(list: &[u8]) {
+    let mut i = 0;
+    while i < list.len() {
+        say_byte(list[i]);
+        i += 1;
+    }
+}
+
+// A line of its own: the bytes of an expression's records.
+pub fn list_shown(expr: &[u8]) {
+    say(expr);
+    say(b":");
+    let mut list = [0u8; 15360];
+    let bytes = list_of(expr, &mut list);
+    let n = io::count(bytes, &list);
+    say_list(&list[..n]);
+    say(b"\n");
+}
