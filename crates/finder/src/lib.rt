@@ -10,6 +10,9 @@ ghost use Rattle.finder.specs.Promise.{Match-answers, Search-answers};
 use tree::good::Decided;
 use tree::good::decide;
 
+// The most bytes that a text may have.
+const LONGEST: usize = 65536;
+
 // What a match answers.
 pub enum Matched {
     // The whole text is in the language.
@@ -45,7 +48,7 @@ pub fn is_match(list: &[u8], text: &[u8]) -> Matched
     else {
         return Matched::NotGood;
     };
-    if 65536 < text.len() {
+    if LONGEST < text.len() {
         return Matched::TooLong;
     }
     if good::matches_good(list, text) {
@@ -67,7 +70,7 @@ pub fn search(list: &[u8], text: &[u8]) -> Searched
     else {
         return Searched::NotGood;
     };
-    if 65536 < text.len() {
+    if LONGEST < text.len() {
         return Searched::TooLong;
     }
     let part = good::search_good(list, text);
