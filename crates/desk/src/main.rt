@@ -20,6 +20,7 @@ fn line_end(input: &[u8], start: usize) -> usize
     end
 }
 
+// Tries each line's expression; what the first picks is listed.
 fn each_line(input: &[u8]) {
     let mut start = 0;
     while start < input.len() {

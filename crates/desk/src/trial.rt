@@ -9,7 +9,7 @@ ghost use Prim.Native.Nat.{_+_, _≤_, _<_};
 ghost use mathlib.Core.Path.{_≡_};
 ghost use lib.ListN.{length};
 
-pub fn say(text: &[u8]) {
+fn say(text: &[u8]) {
     io::write_all(STDOUT_FILENO, text);
 }
 
@@ -27,13 +27,15 @@ fn picks(list: &[u8], date: usize) -> bool {
     true
 }
 
+// How many are picked, after one more date.
 fn one_more_if(yes: bool, picked: u64) -> u64
-    requires { ⌜ picked < 1000 ⌝ }
+    requires { ⌜ picked < 366 ⌝ }
     ensures { λ r. ⌜ r ≤ picked + 1 ⌝ }
 {
     if yes { picked + 1 } else { picked }
 }
 
+// The place of the date that was picked last; 0 for a date that is not picked.
 fn place_if(yes: bool, picked: u64) -> u64 {
     if yes { picked } else { 0 }
 }
@@ -67,6 +69,7 @@ fn say_date(place: u64, date: usize) {
     say(b"\n");
 }
 
+// A line for each date that was picked.
 fn list_dates(places: &[u64]) {
     let mut date = FIRST;
     let mut k = 0;
