@@ -6,7 +6,7 @@ use mathlib.Core.List.{List, [], _∷_}
 use native.Mathlib.Omega.{arith}
 use lib.ListN.{getD}
 use denote.Enum.Declared.{tagOf}
-use Rattle.reader.specs.Answer.{Numbers, refusing}
+use Rattle.reader.specs.Answer.{refusing}
 use Rattle.marks.specs.declared.Answer.{Answer}
 use Rattle.marks.specs.declared.Answer.the-variants.{Marked, NotGood, TooFewWords, NotMarks}
 use Rattle.marks.proofs.Answer.{the-type as marks-type}

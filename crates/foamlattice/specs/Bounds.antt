@@ -1,11 +1,10 @@
 -- The parts of every right answer are in range, so unpacking its number gives them back.
 -- Assumes nothing.
-use Prim.Native.Nat.{ℕ, _+_, _*_, _≤_, _<_}
+use Prim.Native.Nat.{ℕ, _+_, _*_, _≤_}
 use native.Mathlib.Omega.{arith}
-use mathlib.Core.Path.{_≡_, refl, sym}
-use mathlib.Core.Bool.{Bool, true, false, cond}
+use mathlib.Core.Path.{_≡_, refl}
+use mathlib.Core.Bool.{Bool, true, false}
 use mathlib.Core.List.{List}
-use lib.ListN.{length}
 use lib.Dec.{ltb}
 use borrow.Author.Tests.{ltb-false}
 use Rattle.language.specs.Tree.{Tree, nodes}
@@ -24,7 +23,7 @@ use Rattle.finder.specs.declared.Matched.the-variants.{Yes, No, NotGood as Matc
 use Rattle.finder.specs.declared.Searched.{Searched}
 use Rattle.finder.specs.declared.Searched.the-variants.{Found, Nothing, NotGood as Search-not-good, TooLong as Search-too-long}
 use Rattle.finder.specs.Promise.{match-number, search-number, Search-answers}
-use Rattle.foamlattice.specs.Packed.{packed, Ranges, Unpacks, unpacks}
+use Rattle.foamlattice.specs.Packed.{packed, Unpacks, unpacks}
 use Rattle.foamlattice.specs.Promise.{read-packed, match-flag, search-flag, search-start, search-end, marks-flag, Matching, Searching, Starting, Stepping}
 
 -- the numbers that reading can answer
@@ -35,10 +34,10 @@ pub record Read-ranges (n : Numbers) : Type 0 where
   pub pieces-small : n .pieces ≤ 128
 
 -- by the two tests of an expression that is read: the records have at most 15 nodes for each of at most 128 pieces
-picked-ranges : (t : Tree ℕ) (room : ℕ) (many short : Bool) → ltb 128 (piece-count t) ≡ many → Read-ranges (pick many (refusing 8 0) (pick short (refusing 9 0) (reading t)))
-picked-ranges t room true short e = record { refusal-small = omega arith; place-small = omega arith; records-small = omega arith; pieces-small = omega arith }
-picked-ranges t room false true e = record { refusal-small = omega arith; place-small = omega arith; records-small = omega arith; pieces-small = omega arith }
-picked-ranges t room false false e =
+picked-ranges : (t : Tree ℕ) (many short : Bool) → ltb 128 (piece-count t) ≡ many → Read-ranges (pick many (refusing 8 0) (pick short (refusing 9 0) (reading t)))
+picked-ranges t true short e = record { refusal-small = omega arith; place-small = omega arith; records-small = omega arith; pieces-small = omega arith }
+picked-ranges t false true e = record { refusal-small = omega arith; place-small = omega arith; records-small = omega arith; pieces-small = omega arith }
+picked-ranges t false false e =
     let few : piece-count t ≤ 128 = ltb-false 128 (piece-count t) e in
     record { refusal-small = omega arith; place-small = omega arith; records-small = omega (arith, few, nodes-at-most t (wanted t) (wanted-fits t)); pieces-small = few }
 
@@ -46,7 +45,7 @@ outcome-ranges : (bytes : List ℕ) (room : ℕ) (outcome : Outcome) → scanned
 outcome-ranges bytes room (refused number place) e =
     let known = scanned-refusal bytes number place e in
     record { refusal-small = omega (arith, known .most); place-small = known .inside; records-small = omega arith; pieces-small = omega arith }
-outcome-ranges bytes room (tree t) e = picked-ranges t room (ltb 128 (piece-count t)) (ltb room (8 * nodes t)) refl
+outcome-ranges bytes room (tree t) e = picked-ranges t (ltb 128 (piece-count t)) (ltb room (8 * nodes t)) refl
 
 -- what is answered for any bytes and any buffer
 pub answered-ranges : (bytes : List ℕ) (room : ℕ) → Read-ranges (answered bytes room)
