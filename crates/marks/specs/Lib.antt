@@ -1,6 +1,7 @@
 -- How start and step on words hold the marks of the plain simulation.
 pub mod Promise
 pub mod Bits
+pub mod LowestBit
 pub mod Joining
 pub mod Parts
 pub mod Numbers
