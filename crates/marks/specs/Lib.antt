@@ -8,6 +8,7 @@ pub mod Numbers
 pub mod Rows
 pub mod Closing
 pub mod Transitions
+pub mod Ahead
 pub mod Reaching
 pub mod Reached
 pub mod Table

@@ -2,7 +2,7 @@
 -- So the set bits of a word are gone over one by one: the lowest, then the lowest of what is left, until nothing is left.
 -- Assumes nothing.
 use Prim.Native.Nat.{ℕ, zero, suc, _+_, _-_, _*_, _/_, _%_, _^_, _<_, min}
-use mathlib.Core.Path.{_≡_, refl, sym, ap, ap₂, _∙_, subst}
+use mathlib.Core.Path.{_≡_, refl, sym, ap₂, _∙_, subst}
 use mathlib.Core.Logic.{_↔_}
 use native.Mathlib.Nat.{mod-lt, pow-suc}
 use native.Mathlib.Decide.{ℕ-discrete}

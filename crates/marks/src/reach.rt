@@ -1,33 +1,38 @@
 // Document 002's table: one word for each state of each piece, with the bits of the states that empty transitions reach from it.
-// It is made in place from the words of the empty transitions themselves, by Warshall's way.
+// It is made in place from the words of the empty transitions themselves, by Warshall's way, from the last state down: nearly all lead ahead.
 use crate::bits::has_bit;
 use crate::bits::with_bit;
 ghost use Prim.Native.Nat.{ℕ, _+_, _*_, _≤_, _<_};
 ghost use lib.ListN.{length, getD};
 ghost use Rattle.marks.specs.Rows.{Rows};
+ghost use Rattle.marks.specs.Ahead.{Joined};
 ghost use Rattle.marks.specs.Reaching.{Let-in};
-ghost use Rattle.marks.specs.Reached.{With-own, Closed-rows};
+ghost use Rattle.marks.specs.Reached.{Closed-rows};
 ghost use Rattle.marks.specs.Table.{Closed-all};
 
-// Sets each state's own bit in its row.
-fn set_own_bits(reach: &mut [u64], base: usize, states: usize)
-    requires { ⌜ (base + states ≤ length (now reach)) × (states ≤ 64) ⌝ }
-    ensures { λ _. ⌜ Rows (With-own (now (reach .entry)) base) (now (reach .entry)) (now (reach .exit)) base states ⌝ }
+// The row of a state: its word and its own bit, and the rows of the states ahead that its transitions lead to.
+fn join_ahead(reach: &[u64], base: usize, state: usize) -> u64
+    requires { ⌜ (base + 64 ≤ length (now reach)) × (state < 64) ⌝ }
+    ensures { λ r. ⌜ Joined (now (reach .entry)) base state 0 r ⌝ }
 {
-    let mut state = 0;
-    while state < states {
-        let at = base + state;
-        reach[at] = with_bit(reach[at], state);
-        state += 1;
+    let at = base + state;
+    let word = reach[at];
+    let mut row = with_bit(word, state);
+    let mut left = word >> state;
+    while left != 0 {
+        let next = base + (state + u64::trailing_zeros(left) as usize);
+        row = row | reach[next];
+        left = left & (left - 1);
     }
+    row
 }
 
-// Lets the state `via` in between: where a row has its bit, its row is joined to that row.
+// Lets the state `via` in between: where a row after its own has its bit, its row is joined to that row.
 fn let_in(reach: &mut [u64], base: usize, states: usize, via: usize)
     requires { ⌜ (base + states ≤ length (now reach)) × (states ≤ 64) × (via < states) ⌝ }
     ensures { λ _. ⌜ Rows (Let-in (now (reach .entry)) base via) (now (reach .entry)) (now (reach .exit)) base states ⌝ }
 {
-    let mut state = 0;
+    let mut state = via + 1;
     while state < states {
         let at = base + state;
         let word = reach[at];
@@ -45,11 +50,18 @@ fn close_rows(reach: &mut [u64], piece: usize, states: usize)
     ensures { λ _. ⌜ Closed-rows (now (reach .entry)) (now (reach .exit)) piece states ⌝ }
 {
     let base = 64 * piece;
-    set_own_bits(reach, base, states);
-    let mut via = 0;
-    while via < states {
-        let_in(reach, base, states, via);
-        via += 1;
+    let mut state = states;
+    let mut seen: u64 = 0;
+    while state > 0 {
+        state -= 1;
+        let row = join_ahead(reach, base, state);
+        let at = base + state;
+        reach[at] = row;
+        // Only a star leads back to a state, so this is rare.
+        if has_bit(seen, state) {
+            let_in(reach, base, states, state);
+        }
+        seen = seen | row;
     }
 }
 

@@ -1,20 +1,23 @@
--- `marks::reach::let_in` meets its contract. The loop's invariant: the rows passed have let the state in. Assumes nothing.
-use Prim.Native.Nat.{_≤_, _-_}
+-- `marks::reach::let_in` meets its contract. The loop's invariant: the rows passed have let the state in, and its own is passed. Assumes nothing.
+use Prim.Native.Nat.{_≤_, _<_, _-_}
 use mathlib.Core.Logic.{⊎-elim}
 use native.Mathlib.Omega.{arith}
-use Rattle.marks.specs.Rows.{Rows, rows-none, rows-all}
-use Rattle.marks.specs.Reaching.{Let-in, let-in-joined, let-in-kept}
+use Rattle.marks.specs.Rows.{Rows, rows-all}
+use Rattle.marks.specs.Reaching.{Let-in, let-in-begun, let-in-joined, let-in-kept}
 use Rattle.marks.proofs.reach.let_in.Statement.{statement}
 use Rattle.marks.proofs.reach.let_in.Tie as tie
 
 abbrev Inv-loop : tie.InvT-loop
-Inv-loop reach₀ base states via state₀ reach state = (state ≤ states) × Rows (Let-in reach₀ base via) reach₀ reach base state
+Inv-loop reach₀ base states via state₀ reach state = (state ≤ states) × (via < state) × Rows (Let-in reach₀ base via) reach₀ reach base state
 
 abbrev μ-loop : tie.MeasureT-loop
 μ-loop reach₀ base states via state₀ reach state = states - state
 
+add-state : tie.Need-add-state Inv-loop μ-loop
+add-state c = omega arith
+
 loop-holds : tie.Need-loop-holds Inv-loop μ-loop
-loop-holds c = (omega arith, rows-none _ _ _)
+loop-holds c = (omega arith, omega arith, let-in-begun _ _ _)
 
 add-at : tie.Need-add-at Inv-loop μ-loop
 add-at c = omega arith
@@ -43,8 +46,8 @@ mul-reach-2 c = omega arith
 slice-write-reach : tie.Need-slice-write-reach Inv-loop μ-loop
 slice-write-reach c = omega arith
 
-add-state : tie.Need-add-state Inv-loop μ-loop
-add-state c = omega arith
+add-state-2 : tie.Need-add-state-2 Inv-loop μ-loop
+add-state-2 c = omega arith
 
 loop-less : tie.Need-loop-less Inv-loop μ-loop
 loop-less c = omega arith
@@ -52,9 +55,10 @@ loop-less c = omega arith
 loop-again : tie.Need-loop-again Inv-loop μ-loop
 loop-again c = (
   omega arith,
+  omega arith,
   ⊎-elim
-      (λ w. let-in-joined (c .before .before .before .before .loop .inv .1) (omega arith) (c .before .has-bit .ensures .holds (w .0 .taken)) (w .2))
-      (λ w. let-in-kept (c .before .before .before .before .loop .inv .1) (c .before .has-bit .ensures .fails (w .0 .left)) (w .1))
+      (λ w. let-in-joined (omega arith) (c .before .before .before .before .loop .inv .2) (omega arith) (c .before .has-bit .ensures .holds (w .0 .taken)) (w .2))
+      (λ w. let-in-kept (omega arith) (c .before .before .before .before .loop .inv .2) (c .before .has-bit .ensures .fails (w .0 .left)) (w .1))
       (c .if1 .came),
 )
 
@@ -62,7 +66,7 @@ same-length : tie.Need-same-length Inv-loop μ-loop
 same-length c = omega arith
 
 returns : tie.Need-returns Inv-loop μ-loop
-returns c = rows-all (c .before .loop .inv .1) (omega arith)
+returns c = rows-all (c .before .loop .inv .2) (omega arith)
 
 pub let-in-spec : {M : Type 1} → statement M
 let-in-spec =
@@ -70,6 +74,7 @@ let-in-spec =
     (tie.spec
     Inv-loop
     μ-loop
+    add-state
     loop-holds
     add-at
     mul-word
@@ -80,7 +85,7 @@ let-in-spec =
     slice-read-reach
     mul-reach-2
     slice-write-reach
-    add-state
+    add-state-2
     loop-less
     loop-again
     same-length

@@ -1,0 +1,91 @@
+-- `marks::reach::join_ahead` meets its contract. The loop's invariant: of the states ahead that the transitions lead to, all but those left are
+-- joined. Assumes nothing.
+use Prim.Native.Nat.{_+_, _^_, _<_}
+use native.Mathlib.Nat.{lt-of-le-of-lt}
+use native.Mathlib.Omega.{arith}
+use borrow.Author.Needs.{needs}
+use lib.Count.{trailing-le}
+use lib.Pow.{shr-le}
+use Rattle.marks.specs.LowestBit.{lowest-bit, left-smaller}
+use Rattle.marks.specs.Ahead.{Joined, joined-none, joined-more, joined-below, joined-ended}
+use Rattle.marks.proofs.reach.join_ahead.Statement.{statement}
+use Rattle.marks.proofs.reach.join_ahead.Tie as tie
+
+abbrev Inv-loop : tie.InvT-loop
+Inv-loop reach base state at word row₀ left₀ row left = (word < 2 ^ 64) × (left < 2 ^ 64) × Joined reach base state left row
+
+abbrev μ-loop : tie.MeasureT-loop
+μ-loop reach base state at word row₀ left₀ row left = left
+
+add-at : tie.Need-add-at Inv-loop μ-loop
+add-at c = omega arith
+
+mul-word : tie.Need-mul-word Inv-loop μ-loop
+mul-word c = omega arith
+
+shared-slice-read-word : tie.Need-shared-slice-read-word Inv-loop μ-loop
+shared-slice-read-word c = omega arith
+
+with-bit-requires : tie.Need-with-bit-requires Inv-loop μ-loop
+with-bit-requires c κs = omega arith
+
+shr-left : tie.Need-shr-left Inv-loop μ-loop
+shr-left c = search needs
+
+loop-holds : tie.Need-loop-holds Inv-loop μ-loop
+loop-holds c =
+    let s = c .before .before .before in
+    let word-fits = c .before .shared-slice-known2 .given (s .args .base + s .args .state) .fits in
+    (word-fits, lt-of-le-of-lt (shr-le _ (s .args .state)) word-fits, joined-none _ _ _ _ (c .with-bit .ensures))
+
+cast-next : tie.Need-cast-next Inv-loop μ-loop
+cast-next c = omega (arith, trailing-le 64 (c .before .loop .left))
+
+add-next : tie.Need-add-next Inv-loop μ-loop
+add-next c = omega (arith, trailing-le 64 (c .before .loop .left))
+
+add-next-2 : tie.Need-add-next-2 Inv-loop μ-loop
+add-next-2 c = omega (arith, trailing-le 64 (c .before .loop .left))
+
+mul-row : tie.Need-mul-row Inv-loop μ-loop
+mul-row c = omega (arith, joined-below {n = 64} (c .before .loop .inv .2) (lowest-bit 64 _ (omega arith) (omega arith)) (c .before .loop .inv .0))
+
+shared-slice-read-row : tie.Need-shared-slice-read-row Inv-loop μ-loop
+shared-slice-read-row c =
+    omega (arith, joined-below {n = 64} (c .before .before .loop .inv .2) (lowest-bit 64 _ (omega arith) (omega arith)) (c .before .before .loop .inv .0))
+
+sub-left : tie.Need-sub-left Inv-loop μ-loop
+sub-left c = omega arith
+
+loop-less : tie.Need-loop-less Inv-loop μ-loop
+loop-less c = left-smaller (lowest-bit 64 _ (omega arith) (omega arith))
+
+loop-again : tie.Need-loop-again Inv-loop μ-loop
+loop-again c =
+    let lowest = lowest-bit 64 (c .before .before .loop .left) (omega arith) (omega arith) in
+    (c .before .before .loop .inv .0, omega (arith, left-smaller lowest), joined-more (c .before .before .loop .inv .2) lowest)
+
+returns : tie.Need-returns Inv-loop μ-loop
+returns c = joined-ended (omega arith) (c .before .loop .inv .2)
+
+pub join-ahead-spec : {M : Type 1} → statement M
+join-ahead-spec =
+    tie.close
+    (tie.spec
+    Inv-loop
+    μ-loop
+    add-at
+    mul-word
+    shared-slice-read-word
+    with-bit-requires
+    shr-left
+    loop-holds
+    cast-next
+    add-next
+    add-next-2
+    mul-row
+    shared-slice-read-row
+    sub-left
+    loop-less
+    loop-again
+    returns)
