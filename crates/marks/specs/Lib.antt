@@ -6,6 +6,7 @@ pub mod Joining
 pub mod Parts
 pub mod Numbers
 pub mod Rows
+pub mod EachClosed
 pub mod Closing
 pub mod Transitions
 pub mod Ahead
