@@ -7,6 +7,7 @@ pub mod Parts
 pub mod Numbers
 pub mod Rows
 pub mod EachClosed
+pub mod Rejoining
 pub mod Closing
 pub mod Transitions
 pub mod Ahead
