@@ -1,59 +1,39 @@
 -- Words joined: the word that has the bits of those words of a table whose numbers are bits of a given word.
 -- Assumes nothing.
-use Prim.Native.Nat.{ℕ, _+_, _/_, _^_, _<_}
-use mathlib.Core.Path.{_≡_, sym, subst}
+use Prim.Native.Nat.{ℕ, _+_, _-_}
+use mathlib.Core.Path.{_≡_, refl, sym, subst, subst₂}
 use mathlib.Core.Logic.{inl, inr, _↔_, ⊎-elim}
 use mathlib.Core.List.{List}
 use native.Mathlib.Decide.{ℕ-discrete}
-use native.Mathlib.Omega.{arith}
-use lib.Bits.{bitOr}
+use lib.Bits.{bitOr, bitAnd}
 use lib.ListN.{getD}
 use Rattle.tables.specs.Words.{Bit}
-use Rattle.marks.specs.Bits.{bit-zero, bit-or, bit-below, below-of-nothing}
+use Rattle.marks.specs.Bits.{bit-zero, bit-or}
+use Rattle.marks.specs.LowestBit.{Lowest}
 
--- of the words of the table from base on, those numbered by the bits of w below n are joined in r
-pub record Joined (table : List ℕ) (base w n r : ℕ) : Type 0 where
-  pub exactly : (j : ℕ) → Bit r j ↔ ((i : ℕ) × (i < n) × Bit w i × Bit (getD table (base + i) 0) j)
+-- of the words of the table from base on, those numbered by the bits of w that are no longer in rest are joined in r
+pub record Joined (table : List ℕ) (base w rest r : ℕ) : Type 0 where
+  pub among : (i : ℕ) → Bit rest i → Bit w i
+  pub exactly : (j : ℕ) → Bit r j ↔ ((i : ℕ) × Bit w i × (Bit rest i → ⊥) × Bit (getD table (base + i) 0) j)
 
 -- at first none are
-pub joined-none : (table : List ℕ) (base w : ℕ) → Joined table base w 0 0
-joined-none table base w = record { exactly = λ j. (λ b. absurd (bit-zero j b), λ m. absurd (omega (arith, m .1))) }
+pub joined-none : (table : List ℕ) (base w : ℕ) → Joined table base w w 0
+joined-none table base w = record { among = λ i b. b; exactly = λ j. (λ b. absurd (bit-zero j b), λ (i, b, gone, _). absurd (gone b)) }
 
-module _ {table : List ℕ} {base w n r : ℕ} (so-far : Joined table base w n r) where
-  -- the word of a bit that is set is joined
-  pub joined-more : {r′ : ℕ} → Bit w n → r′ ≡ bitOr r (getD table (base + n) 0) → Joined table base w (n + 1) r′
-  joined-more b e = subst (λ (v : ℕ). Joined table base w (n + 1) v) (sym e) record {
-    exactly = λ j. (
-      λ c. ⊎-elim
-          (λ d. let m = so-far .exactly j .0 d in (m .0, omega (arith, m .1), m .2, m .3))
-          (λ d. (n, omega arith, b, d))
-          (bit-or r (getD table (base + n) 0) j .0 c),
-      λ m. bit-or r (getD table (base + n) 0) j .1 (
-          elim (ℕ-discrete (m .0) n) [
-            | yes e ↦ inr (subst (λ (i : ℕ). Bit (getD table (base + i) 0) j) e (m .3))
-            | no l ↦ inl (so-far .exactly j .1 (m .0, omega (arith, m .1, l), m .2, m .3))
-          ]),
-    );
-  }
-
-  -- that of a bit that is not set is left out
-  pub joined-same : {r′ : ℕ} → (Bit w n → ⊥) → r′ ≡ r → Joined table base w (n + 1) r′
-  joined-same b e = subst (λ (v : ℕ). Joined table base w (n + 1) v) (sym e) record {
-    exactly = λ j. (
-      λ c. let m = so-far .exactly j .0 c in (m .0, omega (arith, m .1), m .2, m .3),
-      λ m. so-far .exactly j .1 (
-          elim (ℕ-discrete (m .0) n) [
-            | yes e ↦ absurd (b (subst (λ (i : ℕ). Bit w i) e (m .2)))
-            | no l ↦ (m .0, omega (arith, m .1, l), m .2, m .3)
-          ]),
-    );
-  }
-
-  -- where no bit is left, all are joined
-  pub joined-all : w / 2 ^ n ≡ 0 → (m : ℕ) → w < 2 ^ m → Joined table base w m r
-  joined-all e m h = record {
-    exactly = λ j. (
-      λ c. let k = so-far .exactly j .0 c in (k .0, bit-below h (k .2), k .2, k .3),
-      λ k. so-far .exactly j .1 (k .0, bit-below (below-of-nothing w n e) (k .2), k .2, k .3),
-    );
-  }
+-- the word of the lowest bit that is left is joined
+pub joined-more : {table : List ℕ} {base w rest rest′ r r′ s : ℕ} → Joined table base w rest r → Lowest rest s → r′ ≡ bitOr r (getD table (base + s) 0)
+    → rest′ ≡ bitAnd rest (rest - 1) → Joined table base w rest′ r′
+joined-more {table} {base} {w} {rest} {r = r} {s = s} so-far lowest joins takes =
+    subst₂ (λ (m v : ℕ). Joined table base w m v) (sym takes) (sym joins) record {
+      among = λ i b. so-far .among i (lowest .left i .0 b .0);
+      exactly = λ j. (
+        λ c. ⊎-elim
+            (λ d. let (i, b, gone, at) = so-far .exactly j .0 d in (i, b, λ l. gone (lowest .left i .0 l .0), at))
+            (λ d. (s, so-far .among s (lowest .is-set), λ l. lowest .left s .0 l .1 refl, d))
+            (bit-or r (getD table (base + s) 0) j .0 c),
+        λ (i, b, gone, at). bit-or r (getD table (base + s) 0) j .1 (elim (ℕ-discrete i s) [
+          | yes e ↦ inr (subst (λ (n : ℕ). Bit (getD table (base + n) 0) j) e at)
+          | no other ↦ inl (so-far .exactly j .1 (i, b, λ l. gone (lowest .left i .1 (l, other)), at))
+        ]),
+      );
+    }

@@ -1,57 +1,65 @@
 -- Moving the word of one piece along a byte: the bits of the states with the byte's label, each one place up.
 -- Assumes nothing.
-use Prim.Native.Nat.{ℕ, zero, suc, _+_, _*_, _/_, _%_, _^_, _≤_, _<_}
-use mathlib.Core.Path.{_≡_, refl, sym, ap, _∙_, subst}
+use Prim.Native.Nat.{ℕ, zero, suc, _+_, _-_, _*_, _/_, _%_, _^_, _≤_, _<_}
+use mathlib.Core.Path.{_≡_, refl, sym, ap, _∙_, subst, subst₂}
 use mathlib.Core.Logic.{inl, inr, _↔_, ⊎-elim}
 use mathlib.Core.List.{List}
 use native.Mathlib.Decide.{ℕ-discrete}
 use native.Mathlib.Nat.{mod-eq-of-lt, lt-of-lt-of-le}
 use native.Mathlib.Omega.{arith}
-use lib.Bits.{bitOr}
+use lib.Bits.{bitOr, bitAnd}
 use lib.Pow.{pow-mono}
 use lib.ListN.{getD}
 use Rattle.language.specs.Automaton.{State, Reads}
 use Rattle.language.specs.Nested.{Nested, own}
 use Rattle.tables.specs.Words.{Bit, width, Own, number}
 use Rattle.tables.specs.Plan.{row, takes, Is-own, Moves}
-use Rattle.marks.specs.Bits.{bit-zero, bit-with, bit-below, bit-low, bit-suc, below-of-nothing, below-of-bits}
+use Rattle.marks.specs.Bits.{bit-zero, bit-with, bit-below, bit-low, bit-suc, below-of-bits}
+use Rattle.marks.specs.LowestBit.{Lowest}
 use Rattle.marks.specs.Numbers.{number-below, number-onto, number-injective}
 use Rattle.marks.specs.Rows.{row-at}
 use Rattle.marks.specs.Labels.{reads-on, reads-from}
 
--- of the bits of w below n, those whose states have the label are the bits of r
-pub record Picked (labels : List ℕ) (base label w n r : ℕ) : Type 0 where
-  pub exactly : (j : ℕ) → Bit r j ↔ ((j < n) × Bit w j × (getD labels (base + j) 0 ≡ label))
+-- of the bits of w that are no longer in rest, those whose states have the label are the bits of r
+pub record Picked (labels : List ℕ) (base label w rest r : ℕ) : Type 0 where
+  pub among : (i : ℕ) → Bit rest i → Bit w i
+  pub exactly : (j : ℕ) → Bit r j ↔ (Bit w j × (Bit rest j → ⊥) × (getD labels (base + j) 0 ≡ label))
 
 -- at first none are picked
-pub picked-none : (labels : List ℕ) (base label w : ℕ) → Picked labels base label w 0 0
-picked-none labels base label w = record { exactly = λ j. (λ b. absurd (bit-zero j b), λ m. absurd (omega (arith, m .0))) }
+pub picked-none : (labels : List ℕ) (base label w : ℕ) → Picked labels base label w w 0
+picked-none labels base label w = record { among = λ i b. b; exactly = λ j. (λ b. absurd (bit-zero j b), λ (b, gone, _). absurd (gone b)) }
 
-module _ {labels : List ℕ} {base label w n r : ℕ} (so-far : Picked labels base label w n r) where
-  -- a set bit with the label is picked
-  pub picked-more : {r′ : ℕ} → Bit w n → getD labels (base + n) 0 ≡ label → r′ ≡ bitOr r (2 ^ n) → Picked labels base label w (n + 1) r′
-  picked-more b l e = subst (λ (v : ℕ). Picked labels base label w (n + 1) v) (sym e) record {
+module _ {labels : List ℕ} {base label w rest r s : ℕ} (so-far : Picked labels base label w rest r) (lowest : Lowest rest s) where
+  -- the lowest bit that is left is picked where its state has the label
+  pub picked-more : {rest′ r′ : ℕ} → getD labels (base + s) 0 ≡ label → r′ ≡ bitOr r (2 ^ s) → rest′ ≡ bitAnd rest (rest - 1) → Picked labels base label w rest′ r′
+  picked-more has picks takes = subst₂ (λ (m v : ℕ). Picked labels base label w m v) (sym takes) (sym picks) record {
+    among = λ i b. so-far .among i (lowest .left i .0 b .0);
     exactly = λ j. (
       λ c. ⊎-elim
-          (λ d. let m = so-far .exactly j .0 d in (omega (arith, m .0), m .1, m .2))
-          (λ d. (omega arith, subst (λ (i : ℕ). Bit w i) (sym d) b, ap (λ (i : ℕ). getD labels (base + i) 0) d ∙ l))
-          (bit-with r n j .0 c),
-      λ m. bit-with r n j .1 (elim (ℕ-discrete j n) [
-        | yes d ↦ inr d
-        | no d ↦ inl (so-far .exactly j .1 (omega (arith, m .0), m .1, m .2))
+          (λ d. let (b, gone, at) = so-far .exactly j .0 d in (b, λ l. gone (lowest .left j .0 l .0), at))
+          (λ e. (
+            subst (λ (i : ℕ). Bit w i) (sym e) (so-far .among s (lowest .is-set)),
+            λ l. lowest .left j .0 l .1 e,
+            ap (λ (i : ℕ). getD labels (base + i) 0) e ∙ has,
+          ))
+          (bit-with r s j .0 c),
+      λ (b, gone, at). bit-with r s j .1 (elim (ℕ-discrete j s) [
+        | yes e ↦ inr e
+        | no other ↦ inl (so-far .exactly j .1 (b, λ l. gone (lowest .left j .1 (l, other)), at))
       ]),
     );
   }
 
-  -- any other is not
-  pub picked-same : {r′ : ℕ} → (Bit w n → getD labels (base + n) 0 ≡ label → ⊥) → r′ ≡ r → Picked labels base label w (n + 1) r′
-  picked-same b e = subst (λ (v : ℕ). Picked labels base label w (n + 1) v) (sym e) record {
+  -- and is not where it has another
+  pub picked-same : {rest′ r′ : ℕ} → (getD labels (base + s) 0 ≡ label → ⊥) → r′ ≡ r → rest′ ≡ bitAnd rest (rest - 1) → Picked labels base label w rest′ r′
+  picked-same lacks keeps takes = subst₂ (λ (m v : ℕ). Picked labels base label w m v) (sym takes) (sym keeps) record {
+    among = λ i b. so-far .among i (lowest .left i .0 b .0);
     exactly = λ j. (
-      λ c. let m = so-far .exactly j .0 c in (omega (arith, m .0), m .1, m .2),
-      λ m. so-far .exactly j .1 (elim (ℕ-discrete j n) [
-        | yes d ↦ absurd (b (subst (λ (i : ℕ). Bit w i) d (m .1)) (ap (λ (i : ℕ). getD labels (base + i) 0) (sym d) ∙ m .2))
-        | no d ↦ (omega (arith, m .0), m .1, m .2)
-      ]),
+      λ c. let (b, gone, at) = so-far .exactly j .0 c in (b, λ l. gone (lowest .left j .0 l .0), at),
+      λ (b, gone, at). elim (ℕ-discrete j s) [
+        | yes e ↦ absurd (lacks (ap (λ (i : ℕ). getD labels (base + i) 0) (sym e) ∙ at))
+        | no other ↦ so-far .exactly j .1 (b, λ l. gone (lowest .left j .1 (l, other)), at)
+      ],
     );
   }
 
@@ -91,16 +99,16 @@ comes-to {x} {b} q o m = (
 )
 
 -- the picked bits, one place up, are the word moved
-pub moves-by-picking : (labels : List ℕ) (piece b w n r : ℕ) (x : Nested ℕ) → width x ≤ 62 → row labels piece (width x) ≡ takes x → w < 2 ^ width x
-    → w / 2 ^ n ≡ 0 → Picked labels (64 * piece) (b + 1) w n r → Moves x b w (r * 2 % 2 ^ 64)
-moves-by-picking labels piece b w n r x narrow labelled small nothing picked =
+pub moves-by-picking : (labels : List ℕ) (piece b w rest r : ℕ) (x : Nested ℕ) → width x ≤ 62 → row labels piece (width x) ≡ takes x → w < 2 ^ width x
+    → rest ≡ 0 → Picked labels (64 * piece) (b + 1) w rest r → Moves x b w (r * 2 % 2 ^ 64)
+moves-by-picking labels piece b w rest r x narrow labelled small nothing picked =
     subst (λ (v : ℕ). Moves x b w v) (sym (mod-eq-of-lt fits)) record {
       exactly = λ q o. (λ c. comes-to q o (up (number x q) c), forth q o);
       clean = below-of-bits (width x) (r * 2) (λ j c. comes-below (up j c));
     }
   where
     picked-small : r < 2 ^ 62
-    picked-small = lt-of-lt-of-le (below-of-bits (width x) r (λ j c. bit-below small (picked .exactly j .0 c .1))) (pow-mono narrow)
+    picked-small = lt-of-lt-of-le (below-of-bits (width x) r (λ j c. bit-below small (picked .exactly j .0 c .0))) (pow-mono narrow)
 
     fits : r * 2 < 2 ^ 64
     fits = omega (arith, picked-small)
@@ -113,13 +121,13 @@ moves-by-picking labels piece b w n r x narrow labelled small nothing picked =
     up zero c = absurd (no-bit-up r c)
     up (suc j) c =
         let m = picked .exactly j .0 (bit-up r j .0 c) in
-        let s = number-onto x j (bit-below small (m .1)) in
-        let t = reads-from b x (s .0) (s .1) (label-at (s .0) j (s .2) (bit-below small (m .1)) ∙ m .2) in
+        let s = number-onto x j (bit-below small (m .0)) in
+        let t = reads-from b x (s .0) (s .1) (label-at (s .0) j (s .2) (bit-below small (m .0)) ∙ m .2) in
         record {
           from = s .0;
           to = t .0;
           from-own = s .1;
-          marked = subst (λ (i : ℕ). Bit w i) (sym (s .2)) (m .1);
+          marked = subst (λ (i : ℕ). Bit w i) (sym (s .2)) (m .0);
           numbered = omega (arith, reads-on b x (t .1) .next, s .2);
           reads = t .1;
         }
@@ -129,7 +137,7 @@ moves-by-picking labels piece b w n r x narrow labelled small nothing picked =
         let s = reads-on b x (m .3) in
         subst (λ (i : ℕ). Bit (r * 2) i) (omega (arith, s .next))
         (bit-up r (number x (m .0)) .1 (picked .exactly (number x (m .0)) .1 (
-          bit-below (below-of-nothing w n nothing) (m .2),
           m .2,
+          λ l. bit-zero (number x (m .0)) (subst (λ (v : ℕ). Bit v (number x (m .0))) nothing l),
           sym (label-at (m .0) (number x (m .0)) refl (number-below x (m .0) (m .1))) ∙ s .label,
         )))

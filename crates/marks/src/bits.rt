@@ -1,9 +1,10 @@
-// One bit of a word: whether it is set, and setting it.
+// One bit of a word: whether it is set, setting it, and which is the lowest that is set.
 ghost use Prim.Native.Nat.{_^_, _<_};
 ghost use mathlib.Core.Path.{_≡_};
 ghost use lib.Bits.{bitOr};
 ghost use Rattle.tables.specs.Words.{Bit};
 ghost use Rattle.marks.specs.Bits.{Told};
+ghost use Rattle.marks.specs.LowestBit.{Lowest};
 
 // Whether bit i is set.
 pub fn has_bit(word: u64, i: usize) -> bool
@@ -19,4 +20,12 @@ pub fn with_bit(word: u64, i: usize) -> u64
     ensures { λ r. ⌜ r ≡ bitOr word (2 ^ i) ⌝ }
 {
     word | (1 << i)
+}
+
+// The number of the lowest bit that is set.
+pub fn lowest(word: u64) -> usize
+    requires { ⌜ 0 < word ⌝ }
+    ensures { λ r. ⌜ Lowest word r × (r < 64) ⌝ }
+{
+    u64::trailing_zeros(word) as usize
 }

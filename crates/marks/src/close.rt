@@ -1,25 +1,23 @@
 // Closing inside one piece, by the table of the states that empty transitions reach.
+use crate::bits::lowest;
 ghost use Prim.Native.Nat.{ℕ, _+_, _*_, _^_, _≤_, _<_};
 ghost use lib.ListN.{length};
 ghost use Rattle.language.specs.Nested.{Nested};
 ghost use Rattle.tables.specs.Words.{width};
 ghost use Rattle.tables.specs.Plan.{row, Reaches, Closes};
 
-// The word of a piece, closed: the rows of its set bits, joined. A word with few bits set is quick.
+// The word of a piece, closed: the rows of its set bits, joined. Only the set bits are looked at.
 pub fn close(reach: &[u64], piece: usize, word: u64) -> u64
     requires { ⌜ 64 * piece + 64 ≤ length (now reach) ⌝ }
     ensures { λ r. ⌜ ((x : Nested ℕ) → width x ≤ 62 → Reaches x (row (now (reach .entry)) piece (width x)) → word < 2 ^ width x → Closes x word r) ⌝ }
 {
     let base = 64 * piece;
     let mut rest = word;
-    let mut state: usize = 0;
     let mut closed: u64 = 0;
     while rest != 0 {
-        if rest % 2 == 1 {
-            closed = closed | reach[base + state];
-        }
-        rest = rest / 2;
-        state += 1;
+        let state = lowest(rest);
+        closed = closed | reach[base + state];
+        rest = rest & (rest - 1);
     }
     closed
 }

@@ -1,4 +1,5 @@
 // Moving along a byte: from each marked start of a leaf that is that byte to the leaf's accepting state.
+use crate::bits::lowest;
 use crate::bits::with_bit;
 ghost use mathlib.Core.Path.{_≡_};
 ghost use Prim.Native.Nat.{ℕ, _+_, _*_, _^_, _≤_, _<_};
@@ -16,16 +17,13 @@ pub fn moved(labels: &[u16], piece: usize, word: u64, byte: u8) -> u64
     let base = 64 * piece;
     let label = byte as u16 + 1;
     let mut rest = word;
-    let mut state: usize = 0;
     let mut picked: u64 = 0;
     while rest != 0 {
-        if rest % 2 == 1 {
-            if labels[base + state] == label {
-                picked = with_bit(picked, state);
-            }
+        let state = lowest(rest);
+        if labels[base + state] == label {
+            picked = with_bit(picked, state);
         }
-        rest = rest / 2;
-        state += 1;
+        rest = rest & (rest - 1);
     }
     picked << 1
 }
