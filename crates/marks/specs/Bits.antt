@@ -47,10 +47,6 @@ bit-or a b i = (
     joined : bitOr a b / 2 ^ i % 2 ≡ max (a / 2 ^ i % 2) (b / 2 ^ i % 2)
     joined = ap (λ (n : ℕ). n % 2) (or-shr a b i) ∙ parity-or (a / 2 ^ i) (b / 2 ^ i)
 
--- a word shifted once more is the half of what was left
-pub bit-next : (w i : ℕ) → w / 2 ^ (i + 1) ≡ w / 2 ^ i / 2
-bit-next w i = sym (shr-shr w i 1)
-
 -- shifted by n or more, nothing is left of a word below 2 ^ n
 pub nothing-left : {w n i : ℕ} → w < 2 ^ n → n ≤ i → w / 2 ^ i ≡ 0
 nothing-left h l = div-eq-of-lt (lt-of-lt-of-le h (pow-mono l))

@@ -33,7 +33,7 @@ use Rattle.tables.specs.Given.{width-own}
 use Rattle.marks.specs.Table.{Closed-all}
 use Rattle.marks.specs.Low.{low-tops, checkable}
 use Rattle.marks.specs.Checked.{Checkable}
-use Rattle.marks.specs.Moved.{Moved-all}
+use Rattle.marks.specs.MovedClosed.{Moved-closed, moved-length, moved-others, moved-keeps, moved-within, moved-clean}
 use Rattle.marks.specs.Twice.{Run-of, Closable, Closed-twice, front-holds, front-clean}
 use Rattle.marks.specs.Simulated.{laid-whole, Start-marked, start-holds, start-clean, closed-start, closed-step, accepting-bit}
 use Rattle.marks.specs.Texts.{all-words, holding-first, holding-next, accepting-answer}
@@ -172,22 +172,25 @@ module _ {t : Tree ℕ} {reach labels runs stands tops : List ℕ} {count : ℕ}
       }
 
   -- from words moved along the byte, and closed twice
-  pub advanced : (byte : ℕ) (before moved after : List ℕ) (yes' : Bool) → Marks-of t before → Moved-all labels before moved byte count → Closed-twice reach runs stands tops count moved after
+  pub advanced : (byte : ℕ) (before moved after : List ℕ) (yes' : Bool) → Marks-of t before → Moved-closed reach labels before moved byte count → Closed-twice reach runs stands tops count moved after
       → length after ≡ length moved → Told (Bit (getD after 0 0) (getD tops 0 0)) yes' → Advanced t byte before after yes'
-  advanced byte before moved after yes' marks moves twice long told =
+  advanced byte before moved after yes' marks went twice long told =
       let x = cut-up t in
-      let went = moves .marks (record { labels = labels; runs = runs; stands = stands; tops = tops }) x refl (prepared .planned) (omega (arith, prepared-count)) (narrow t) (all-narrow t) (marks .clean) in
-      let on = prepared-run (went .clean) in
+      let tables : Pieces = record { labels = labels; runs = runs; stands = stands; tops = tops } in
+      let room : 1 + run x ≤ count = omega (arith, prepared-count) in
+      let on = prepared-run (moved-clean went tables x refl (prepared .planned) (prepared .reached) room (narrow t) (all-narrow t) (marks .clean)) in
       let models : Models x (Holds x after) (Stepped Is t byte (Set-of x before)) =
       subst (λ (s : Tree ℕ). Models x (Holds x after) (Stepped Is s byte (Set-of x before))) (whole-nest t (wanted t))
-      (closed-step reach runs stands tops count x moved after twice on byte (Holds x before) (Set-of x before) (alike-models x (Holds x before) (marks .agreeing)) (went .holds))
+      (closed-step reach runs stands tops count x moved after twice on byte (Holds x before) (Set-of x before) (alike-models x (Holds x before) (marks .agreeing))
+      (moved-keeps went tables x refl (prepared .planned) (prepared .reached) room (narrow t) (all-narrow t) (marks .clean))
+      (moved-within went tables x refl (prepared .planned) (prepared .reached) room (narrow t) (all-narrow t) (marks .clean)))
       in
       record {
         hold = record {
           marks = models;
           clean = twice .clean x on;
-          others = subst (λ (n : ℕ). drop n after ≡ drop n before) (prepared .counted) (twice .others ∙ ext-drop count moved before (moves .same-length) (moves .others));
-          same-length = long ∙ moves .same-length;
+          others = subst (λ (n : ℕ). drop n after ≡ drop n before) (prepared .counted) (twice .others ∙ ext-drop count moved before (moved-length went) (moved-others went));
+          same-length = long ∙ moved-length went;
         };
         answer = answer-told after (Stepped Is t byte (Set-of x before)) yes' models told;
       }
@@ -219,13 +222,14 @@ answered-next {t} {w} {before} {after} {b} {yes'} holding went =
     }
 
 -- words that were moved can be closed
-pub moved-closable : {reach labels runs stands tops : List ℕ} {count byte : ℕ} {before moved : List ℕ} → Running reach labels runs stands tops count before → Moved-all labels before moved byte count
-    → Closable reach runs stands tops count moved
-moved-closable {labels = labels} {runs = runs} {stands = stands} {tops = tops} running moves =
+pub moved-closable : {reach labels runs stands tops : List ℕ} {count byte : ℕ} {before moved : List ℕ} → Running reach labels runs stands tops count before
+    → Moved-closed reach labels before moved byte count → Closable reach runs stands tops count moved
+moved-closable {labels = labels} {runs = runs} {stands = stands} {tops = tops} running went =
     let t = running .ready .of-tree .0 in
     let prepared = running .ready .of-tree .1 in
-    let went = moves .marks (record { labels = labels; runs = runs; stands = stands; tops = tops }) (cut-up t) refl (prepared .planned) (omega (arith, prepared-count prepared)) (narrow t) (all-narrow t) (running .clean) in
-    prepared-closable prepared (running .ready .roomy) (omega (arith, moves .same-length, running .enough)) (went .clean)
+    prepared-closable prepared (running .ready .roomy) (omega (arith, moved-length went, running .enough))
+    (moved-clean went (record { labels = labels; runs = runs; stands = stands; tops = tops }) (cut-up t) refl (prepared .planned) (prepared .reached) (omega (arith, prepared-count prepared))
+    (narrow t) (all-narrow t) (running .clean))
 
 -- 128 words of zero, then the root's start marked
 abbrev pub begins : List ℕ

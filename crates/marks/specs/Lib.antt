@@ -27,6 +27,8 @@ pub mod Sweeping
 pub mod Twice
 pub mod Simulated
 pub mod Moved
+pub mod ClosedWords
+pub mod MovedClosed
 pub mod Parents
 pub mod Agreed
 pub mod Checked

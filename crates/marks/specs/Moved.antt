@@ -276,7 +276,7 @@ pub record Moved-all (labels before after : List ℕ) (b n : ℕ) : Type 0 where
   pub others : (k : ℕ) → n ≤ k → getD after k 0 ≡ getD before k 0
 
 -- the word at the beginning of what is left of the words
-first-left : (l : List ℕ) (k : ℕ) → getD (drop k l) 0 0 ≡ getD l k 0
+pub first-left : (l : List ℕ) (k : ℕ) → getD (drop k l) 0 0 ≡ getD l k 0
 first-left l k = getD-drop k l 0 0 ∙ ap (λ (i : ℕ). getD l i 0) (add-zero k)
 
 module _ (tables : Pieces) (before after : List ℕ) (b n : ℕ) (rows : Rows (Word-moved (tables .labels) before b) before after 0 n) where

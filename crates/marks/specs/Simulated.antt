@@ -9,9 +9,10 @@ use lib.ListN.{getD}
 use lib.Pow.{pow-pos, pow-lt}
 use Rattle.language.specs.Language.{Is}
 use Rattle.language.specs.Automaton.{State, start, accepting, States, Started, Stepped}
-use Rattle.language.specs.Nested.{Nested, whole, Models, Move}
-use Rattle.language.specs.Same.{Agree, sweep-same, models-same}
-use Rattle.language.specs.Sweeps.{sweeps-start, sweeps-step}
+use Rattle.language.specs.Nested.{Nested, whole, Has, Models, Move}
+use Rattle.language.specs.Same.{More-in, Agree, sweep-same, models-same}
+use Rattle.language.specs.Settled.{Settled}
+use Rattle.language.specs.Sweeps.{sweeps-start, sweeps-step-closed}
 use Rattle.tables.specs.Words.{Bit, width, run, Holds, Clean}
 use Rattle.tables.specs.Plan.{Planned, Each, Reaches}
 use Rattle.marks.specs.Numbers.{width-two}
@@ -65,10 +66,11 @@ module _ (reach runs stands tops : List ℕ) (count : ℕ) (x : Nested ℕ) (bef
   closed-start begins =
       models-same x (Started (whole x)) (λ q h. Iff·trans (closed .marks x on q h) (sweep-same x (sweep-same x begins) q h)) (sweeps-start x)
 
-  -- after a move along the byte b, the closing is a step of the plain simulation
-  pub closed-step : (b : ℕ) (marks X : States) → Models x marks X → Agree x (Holds x before) (Move Is b x marks) → Models x (Holds x after) (Stepped Is (whole x) b X)
-  closed-step b marks X models moved =
-      models-same x (Stepped Is (whole x) b X) (λ q h. Iff·trans (closed .marks x on q h) (sweep-same x (sweep-same x moved) q h)) (sweeps-step Is b x marks X models)
+  -- after a move along the byte b, with some of the closing done already, the closing is a step of the plain simulation
+  pub closed-step : (b : ℕ) (marks X : States) → Models x marks X → More-in (Has x) (Move Is b x marks) (Holds x before)
+      → ((Z : States) → Settled x Z → More-in (Has x) (Move Is b x marks) Z → More-in (Has x) (Holds x before) Z) → Models x (Holds x after) (Stepped Is (whole x) b X)
+  closed-step b marks X models more within =
+      models-same x (Stepped Is (whole x) b X) (closed .marks x on) (sweeps-step-closed Is b x marks X (Holds x before) models more within)
 
 -- the bit of the top piece's last state says whether the accepting state is in the set that the words hold
 pub accepting-bit : (x : Nested ℕ) (words : List ℕ) (X : States) → Models x (Holds x words) X → Bit (getD words 0 0) (width x - 1) ↔ X accepting

@@ -84,7 +84,7 @@ pub fn advance(
     requires { ⌜ Running (now reach) (now labels) (now runs) (now stands) (now tops) count (now words) ⌝ }
     ensures { λ r. ⌜ ((t : Tree ℕ) → Prepared t (now (reach .entry)) (now (labels .entry)) (now (runs .entry)) (now (stands .entry)) (now (tops .entry)) count → Marks-of t (now (words .entry)) → Advanced t byte (now (words .entry)) (now (words .exit)) r) ⌝ }
 {
-    move_all(labels, words, byte, count);
+    move_all(reach, labels, words, byte, count);
     close_twice(reach, runs, stands, tops, count, words);
     let top = tops[0] as usize;
     has_bit(words[0], top)

@@ -1,13 +1,14 @@
-// Moving along a byte: from each marked start of a leaf that is that byte to the leaf's accepting state.
+// Moving along a byte: from each marked start of a leaf that is that byte to the leaf's accepting state, and from there inside the piece.
 use crate::bits::lowest;
 use crate::bits::with_bit;
+use crate::close::close;
 ghost use mathlib.Core.Path.{_≡_};
 ghost use Prim.Native.Nat.{ℕ, _+_, _*_, _^_, _≤_, _<_};
 ghost use lib.ListN.{length};
 ghost use Rattle.language.specs.Nested.{Nested};
 ghost use Rattle.tables.specs.Words.{width};
 ghost use Rattle.tables.specs.Plan.{row, takes, Moves};
-ghost use Rattle.marks.specs.Moved.{Moved-all};
+ghost use Rattle.marks.specs.MovedClosed.{Moved-closed};
 
 // The word of a piece, moved along the byte: a state that takes it has the label one above it, and leads to the next state.
 pub fn moved(labels: &[u16], piece: usize, word: u64, byte: u8) -> u64
@@ -28,14 +29,15 @@ pub fn moved(labels: &[u16], piece: usize, word: u64, byte: u8) -> u64
     picked << 1
 }
 
-// Moves the words of all pieces along the byte. A word of no marks is passed at once.
-pub fn move_all(labels: &[u16], words: &mut [u64], byte: u8, pieces: usize)
-    requires { ⌜ (64 * pieces ≤ length (now labels)) × (pieces ≤ length (now words)) ⌝ }
-    ensures { λ _. ⌜ Moved-all (now (labels .entry)) (now (words .entry)) (now (words .exit)) byte pieces ⌝ }
+// Moves the words of all pieces along the byte, and closes each piece in itself. A word of no marks is passed at once.
+pub fn move_all(reach: &[u64], labels: &[u16], words: &mut [u64], byte: u8, pieces: usize)
+    requires { ⌜ (64 * pieces ≤ length (now reach)) × (64 * pieces ≤ length (now labels)) × (pieces ≤ length (now words)) ⌝ }
+    ensures { λ _. ⌜ Moved-closed (now (reach .entry)) (now (labels .entry)) (now (words .entry)) (now (words .exit)) byte pieces ⌝ }
 {
     let mut piece = 0;
     while piece < pieces {
-        words[piece] = moved(labels, piece, words[piece], byte);
+        let word = moved(labels, piece, words[piece], byte);
+        words[piece] = close(reach, piece, word);
         piece += 1;
     }
 }

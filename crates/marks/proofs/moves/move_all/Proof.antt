@@ -1,19 +1,18 @@
--- `marks::moves::move_all` meets its contract. The loop's invariant: the words passed are moved. Assumes nothing.
+-- `marks::moves::move_all` meets its contract. The loop's invariant: the words passed are moved and closed. Assumes nothing.
 use Prim.Native.Nat.{_≤_, _-_}
 use native.Mathlib.Omega.{arith}
-use Rattle.marks.specs.Rows.{Rows, rows-none}
-use Rattle.marks.specs.Moved.{Word-moved, moved-more, moved-all}
+use Rattle.marks.specs.MovedClosed.{Moving-closing, moving-none, moving-more, moving-all}
 use Rattle.marks.proofs.moves.move_all.Statement.{statement}
 use Rattle.marks.proofs.moves.move_all.Tie as tie
 
 abbrev Inv-loop : tie.InvT-loop
-Inv-loop labels words₀ byte pieces piece₀ words piece = (piece ≤ pieces) × Rows (Word-moved labels words₀ byte) words₀ words 0 piece
+Inv-loop reach labels words₀ byte pieces piece₀ words piece = (piece ≤ pieces) × Moving-closing reach labels words₀ words byte piece
 
 abbrev μ-loop : tie.MeasureT-loop
-μ-loop labels words₀ byte pieces piece₀ words piece = pieces - piece
+μ-loop reach labels words₀ byte pieces piece₀ words piece = pieces - piece
 
 loop-holds : tie.Need-loop-holds Inv-loop μ-loop
-loop-holds c = (omega arith, rows-none _ _ _)
+loop-holds c = (omega arith, moving-none _ _ _ _)
 
 mul-moved : tie.Need-mul-moved Inv-loop μ-loop
 mul-moved c = omega arith
@@ -23,6 +22,9 @@ slice-read-moved c = omega arith
 
 moved-requires : tie.Need-moved-requires Inv-loop μ-loop
 moved-requires c κs = omega arith
+
+close-requires : tie.Need-close-requires Inv-loop μ-loop
+close-requires c κs = omega arith
 
 mul-words : tie.Need-mul-words Inv-loop μ-loop
 mul-words c = omega arith
@@ -37,13 +39,13 @@ loop-less : tie.Need-loop-less Inv-loop μ-loop
 loop-less c = omega arith
 
 loop-again : tie.Need-loop-again Inv-loop μ-loop
-loop-again c = (omega arith, moved-more (omega arith) (c .before .before .before .loop .inv .1) (c .moved .ensures))
+loop-again c = (omega arith, moving-more (omega arith) (c .before .before .before .before .loop .inv .1) (c .before .moved .ensures) (c .close .ensures))
 
 same-length : tie.Need-same-length Inv-loop μ-loop
 same-length c = omega arith
 
 returns : tie.Need-returns Inv-loop μ-loop
-returns c = moved-all (omega arith) (c .before .loop .inv .1)
+returns c = moving-all (omega arith) (c .before .loop .inv .1)
 
 pub move-all-spec : {M : Type 1} → statement M
 move-all-spec =
@@ -55,6 +57,7 @@ move-all-spec =
     mul-moved
     slice-read-moved
     moved-requires
+    close-requires
     mul-words
     slice-write-words
     add-piece

@@ -1,0 +1,87 @@
+-- Moving every word along a byte and closing each piece in itself: the marks are moved along the byte, and some of the closing is done.
+-- Assumes nothing.
+use Prim.Native.Nat.{ℕ, _+_, _^_, _≤_, _<_}
+use mathlib.Core.Path.{_≡_, refl, sym, subst}
+use mathlib.Core.List.{List}
+use native.Mathlib.Omega.{arith}
+use lib.ListN.{length, getD, set}
+use Rattle.language.specs.Language.{Is}
+use Rattle.language.specs.Automaton.{States}
+use Rattle.language.specs.Nested.{Nested, Has, Move}
+use Rattle.language.specs.Settled.{Settled}
+use Rattle.language.specs.Same.{More-in}
+use Rattle.tables.specs.Words.{width, run, Holds, Clean}
+use Rattle.tables.specs.Plan.{row, takes, Moves, Pieces, Planned, Reaches, Each, Closes}
+use Rattle.marks.specs.Rows.{Rows, rows-none}
+use Rattle.marks.specs.Swept.{Narrow-below}
+use Rattle.marks.specs.EachClosed.{Each-closed}
+use Rattle.marks.specs.Moved.{Word-moved, moved-more, Marks-moved, Moved-all, moved-all}
+use Rattle.marks.specs.ClosedWords.{Closed-words, closed-none, closed-more, closed-keeps, closed-within, closed-each, closed-clean}
+
+-- the first n words are moved along b, and each is closed in itself; the others are as before
+pub record Moved-closed (reach labels before after : List ℕ) (b n : ℕ) : Type 0 where
+  pub moved : List ℕ
+  pub moves : Moved-all labels before moved b n
+  pub closes : Closed-words reach moved after n
+
+-- so far, word by word
+pub record Moving-closing (reach labels before after : List ℕ) (b n : ℕ) : Type 0 where
+  pub moved : List ℕ
+  pub moves : Rows (Word-moved labels before b) before moved 0 n
+  pub closes : Closed-words reach moved after n
+
+-- at first none is
+pub moving-none : (reach labels words : List ℕ) (b : ℕ) → Moving-closing reach labels words words b 0
+moving-none reach labels words b = record { moved = words; moves = rows-none (Word-moved labels words b) words 0; closes = closed-none reach words }
+
+-- one word more: v is what it is now, moved, and w is v, closed
+pub moving-more : {reach labels before after : List ℕ} {b n v w : ℕ} → n < length before → Moving-closing reach labels before after b n
+    → ((x : Nested ℕ) → width x ≤ 62 → row labels n (width x) ≡ takes x → getD after n 0 < 2 ^ width x → Moves x b (getD after n 0) v)
+    → ((x : Nested ℕ) → width x ≤ 62 → Reaches x (row reach n (width x)) → v < 2 ^ width x → Closes x v w)
+    → Moving-closing reach labels before (set after n w) b (n + 1)
+moving-more {labels = labels} {after = after} {b = b} {n = n} {v = v} inside so-far moves closes = record {
+  moved = set (so-far .moved) n v;
+  moves = moved-more inside (so-far .moves)
+      (subst (λ (u : ℕ). (x : Nested ℕ) → width x ≤ 62 → row labels n (width x) ≡ takes x → u < 2 ^ width x → Moves x b u v)
+      (so-far .closes .others n (omega arith)) moves);
+  closes = closed-more (omega (arith, so-far .moves .same-length)) (so-far .closes) closes;
+}
+
+-- at last all are
+pub moving-all : {reach labels before after : List ℕ} {b n m : ℕ} → m ≡ n → Moving-closing reach labels before after b m → Moved-closed reach labels before after b n
+moving-all {reach} {after = after} e all = record {
+  moved = all .moved;
+  moves = moved-all e (all .moves);
+  closes = subst (λ (k : ℕ). Closed-words reach (all .moved) after k) e (all .closes);
+}
+
+module _ {reach labels before after : List ℕ} {b n : ℕ} (went : Moved-closed reach labels before after b n) where
+  -- no word is added or taken away
+  pub moved-length : length after ≡ length before
+  moved-length = omega (arith, went .moves .same-length, went .closes .same-length)
+
+  -- the words past the first n are as before
+  pub moved-others : (k : ℕ) → n ≤ k → getD after k 0 ≡ getD before k 0
+  moved-others k past = omega (arith, went .moves .others k past, went .closes .others k past)
+
+  module _ (tables : Pieces) (x : Nested ℕ) (same : tables .labels ≡ labels) (planned : Planned tables x) (reached : Each Reaches reach x) (room : 1 + run x ≤ n)
+      (narrow : width x ≤ 62) (narrow-below : Narrow-below x) (clean : Clean x before) where
+    alone : Marks-moved x b before (went .moved)
+    alone = went .moves .marks tables x same planned room narrow narrow-below clean
+
+    -- each moved mark is there
+    pub moved-keeps : More-in (Has x) (Move Is b x (Holds x before)) (Holds x after)
+    moved-keeps q has m = closed-keeps (went .closes) x reached room narrow narrow-below (alone .clean) q has (alone .holds q has .1 m)
+
+    -- the marks lie within each settled set that has the moved ones
+    pub moved-within : (Z : States) → Settled x Z → More-in (Has x) (Move Is b x (Holds x before)) Z → More-in (Has x) (Holds x after) Z
+    moved-within Z settled within =
+        closed-within (went .closes) x reached room narrow narrow-below (alone .clean) Z settled (λ q has m. within q has (alone .holds q has .0 m))
+
+    -- each piece is closed
+    pub moved-each-closed : Each-closed x after
+    moved-each-closed = closed-each (went .closes) x reached room narrow narrow-below (alone .clean)
+
+    -- and no bit past a last state is set
+    pub moved-clean : Clean x after
+    moved-clean = closed-clean (went .closes) x reached room narrow narrow-below (alone .clean)
