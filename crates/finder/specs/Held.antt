@@ -12,15 +12,14 @@ use Rattle.language.specs.Tree.{Tree}
 use Rattle.language.specs.Language.{Is}
 use Rattle.language.specs.Automaton.{State, start, accepting, left, right, States, Started, After}
 use Rattle.language.specs.Nested.{Nested, leaf, catenation, union, star, below, whole, Has, Models}
-use Rattle.tree.specs.Cut.{nest, wanted}
-use Rattle.tree.specs.Nesting.{whole-nest}
+use Rattle.tree.specs.Pieces.{cut-up, stated}
 use Rattle.tables.specs.Words.{Bit, width, run, Marked, Holds, Clean-below, Clean}
 use Rattle.finder.specs.Computed.{Test, Passing, start-test, after-test, computed-models}
 
--- the words hold the marks X of the tree's automaton, cut as wanted, and no bit past the last state is set
+-- the words hold the marks X of the tree's automaton, cut up, and no bit past the last state is set
 pub record Held (t : Tree ℕ) (words : List ℕ) (X : States) : Type 0 where
-  pub clean : Clean (nest t (wanted t)) words
-  pub models : Models (nest t (wanted t)) (Holds (nest t (wanted t)) words) X
+  pub clean : Clean (cut-up t) words
+  pub models : Models (cut-up t) (Holds (cut-up t) words) X
 
 -- bit i of w as a test
 abbrev bit : ℕ → ℕ → Bool
@@ -123,16 +122,16 @@ tidy-clean (below x) ws e = (ltb-true (getD ws 0 0) (2 ^ width x) (also-first _ 
 -- the words hold the marks of a tree after a text
 unfoldable pub holds-after : Tree ℕ → List ℕ → List ℕ → Bool
 holds-after t text words =
-    let x : Nested ℕ = nest t (wanted t) in
+    let x : Nested ℕ = cut-up t in
     also (tidy (below x) words) (agrees x (getD words 0 0) 0 (drop 1 words) (after-test eqb x text (start-test x)))
 
 -- they do where the test passes
 pub held-after : (t : Tree ℕ) (text words : List ℕ) → holds-after t text words ≡ true → Held t words (After Is t text (Started t))
 unfolding holds-after
 held-after t text words e =
-    let x : Nested ℕ = nest t (wanted t) in
+    let x : Nested ℕ = cut-up t in
     let computed = computed-models Is eqb (λ a b. (eqb-true a b, eq-eqb a b)) x text in
-    let same : whole x ≡ t = whole-nest t (wanted t) in
+    let same : whole x ≡ t = stated t .same-tree in
     record {
       clean = tidy-clean (below x) words (also-first _ _ e);
       models = λ q has. Iff·trans (agrees-exactly x (getD words 0 0) 0 (drop 1 words) _ (also-second _ _ e) q has) (rw same at (computed q has));

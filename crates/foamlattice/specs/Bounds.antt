@@ -8,10 +8,8 @@ use mathlib.Core.List.{List}
 use lib.Dec.{ltb}
 use borrow.Author.Tests.{ltb-false}
 use Rattle.language.specs.Tree.{Tree, nodes}
-use Rattle.tree.specs.Cut.{wanted}
-use Rattle.tree.specs.Least.{wanted-fits}
-use Rattle.tree.specs.Bounds.{nodes-at-most}
 use Rattle.tree.specs.Records.{piece-count}
+use Rattle.tree.specs.Pieces.{nodes-per-piece}
 use Rattle.reader.specs.Scanner.{Outcome, tree, refused, scanned}
 use Rattle.reader.specs.Agree.{scanned-refusal}
 use Rattle.reader.specs.Answer.{Numbers, refusing, reading, pick, answer-for, answered}
@@ -39,7 +37,7 @@ picked-ranges t true short e = record { refusal-small = omega arith; place-small
 picked-ranges t false true e = record { refusal-small = omega arith; place-small = omega arith; records-small = omega arith; pieces-small = omega arith }
 picked-ranges t false false e =
     let few : piece-count t ≤ 128 = ltb-false 128 (piece-count t) e in
-    record { refusal-small = omega arith; place-small = omega arith; records-small = omega (arith, few, nodes-at-most t (wanted t) (wanted-fits t)); pieces-small = few }
+    record { refusal-small = omega arith; place-small = omega arith; records-small = omega (arith, few, nodes-per-piece t); pieces-small = few }
 
 outcome-ranges : (bytes : List ℕ) (room : ℕ) (outcome : Outcome) → scanned bytes ≡ outcome → Read-ranges (answer-for outcome room)
 outcome-ranges bytes room (refused number place) e =

@@ -18,14 +18,13 @@ use Rattle.language.specs.Simulation.{_⊆_, stepped-more}
 use Rattle.language.specs.Acceptance.{accepts-exactly}
 use Rattle.language.specs.Models.{State-of, alike-models, models-alike, models-origins}
 use Rattle.language.specs.Along.{reached-state}
-use Rattle.tree.specs.Cut.{wanted, nest}
 use Rattle.tree.specs.Records.{Good, piece-count}
-use Rattle.tree.specs.Least.{wanted-fits}
-use Rattle.tree.specs.Nesting.{Small, Every-below, small-pieces, whole-nest}
+use Rattle.tree.specs.Nesting.{Small, Every-below}
+use Rattle.tree.specs.Pieces.{cut-up, stated}
 use Rattle.tables.specs.Words.{Bit, width, run, Holds, Clean, Agreeing, Set-of}
 use Rattle.tables.specs.Plan.{Pieces, Planned, Each, Reaches}
 use Rattle.marks.specs.Bits.{Told}
-use Rattle.tables.specs.Tables.{cut-up, Prepared, Roomy, Ready, Holding, Answered}
+use Rattle.tables.specs.Tables.{Prepared, Roomy, Ready, Holding, Answered}
 use Rattle.marks.specs.Promise.{Hold, Marks-of}
 use Rattle.marks.specs.Swept.{Narrow-below, Laid, Sized}
 use Rattle.tables.specs.Given
@@ -69,10 +68,10 @@ narrow-below (below x) h = (omega (arith, width-own x, h .0 .few-own-nodes), nar
 
 -- so it is with the pieces of every tree
 pub all-narrow : (t : Tree ℕ) → Narrow-below (cut-up t)
-all-narrow t = narrow-below (cut-up t) (small-pieces t (wanted t) (wanted-fits t) .1)
+all-narrow t = narrow-below (cut-up t) (stated t .every-small .1)
 
 pub narrow : (t : Tree ℕ) → width (cut-up t) ≤ 62
-narrow t = omega (arith, width-own (cut-up t), small-pieces t (wanted t) (wanted-fits t) .0 .few-own-nodes)
+narrow t = omega (arith, width-own (cut-up t), stated t .every-small .0 .few-own-nodes)
 
 -- the marks to start with, and whether the accepting state is among them
 pub record Begun (t : Tree ℕ) (before after : List ℕ) (yes' : Bool) : Type 0 where
@@ -158,7 +157,7 @@ module _ {t : Tree ℕ} {reach labels runs stands tops : List ℕ} {count : ℕ}
       let same : take count after ≡ take count closed = ap (take count) put ∙ take-at (take count closed) (drop count lent) count front in
       let agree : Agree x (Holds x after) (Holds x closed) = same-front x count after closed prepared-count same in
       let models : Models x (Holds x after) (Started t) =
-      subst (λ (s : Tree ℕ). Models x (Holds x after) (Started s)) (whole-nest t (wanted t))
+      subst (λ (s : Tree ℕ). Models x (Holds x after) (Started s)) (stated t .same-tree)
       (models-same x (Started (whole x)) agree (closed-start reach runs stands tops count x marked closed twice on (start-holds x marked starts)))
       in
       record {
@@ -180,7 +179,7 @@ module _ {t : Tree ℕ} {reach labels runs stands tops : List ℕ} {count : ℕ}
       let room : 1 + run x ≤ count = omega (arith, prepared-count) in
       let on = prepared-run (moved-clean went tables x refl (prepared .planned) (prepared .reached) room (narrow t) (all-narrow t) (marks .clean)) in
       let models : Models x (Holds x after) (Stepped Is t byte (Set-of x before)) =
-      subst (λ (s : Tree ℕ). Models x (Holds x after) (Stepped Is s byte (Set-of x before))) (whole-nest t (wanted t))
+      subst (λ (s : Tree ℕ). Models x (Holds x after) (Stepped Is s byte (Set-of x before))) (stated t .same-tree)
       (closed-step reach runs stands tops count x moved after twice on byte (Holds x before) (Set-of x before) (alike-models x (Holds x before) (marks .agreeing))
       (moved-keeps went tables x refl (prepared .planned) (prepared .reached) room (narrow t) (all-narrow t) (marks .clean))
       (moved-within went tables x refl (prepared .planned) (prepared .reached) room (narrow t) (all-narrow t) (marks .clean)))
@@ -212,7 +211,7 @@ pub answered-next : {t : Tree ℕ} {w before after : List ℕ} {b : ℕ} {yes' :
 answered-next {t} {w} {before} {after} {b} {yes'} holding went =
     let x = cut-up t in
     let X = After Is t w (Started t) in
-    let states : X ⊆ State-of (whole x) = subst (λ (s : Tree ℕ). X ⊆ State-of s) (sym (whole-nest t (wanted t))) (reached-state Is t w) in
+    let states : X ⊆ State-of (whole x) = subst (λ (s : Tree ℕ). X ⊆ State-of s) (sym (stated t .same-tree)) (reached-state Is t w) in
     let same : (p : State) → X p ↔ Set-of x before p = models-origins x (Holds x before) X (holding .modelled) states in
     let stepped : (p : State) → Stepped Is t b (Set-of x before) p ↔ Stepped Is t b X p = λ p. (stepped-more Is t b (λ q. same q .1) p, stepped-more Is t b (λ q. same q .0) p) in
     let held : Holding t (w ++ (b ∷ [])) after = holding-next holding (λ q has. Iff·trans (went .hold .marks q has) (stepped (origin x q))) (went .hold .clean) in

@@ -12,7 +12,7 @@ use Rattle.language.specs.Automaton.{States, accepting, Started, Stepped}
 use Rattle.language.specs.Nested.{Models}
 use Rattle.tree.specs.Records.{Good, piece-count}
 use Rattle.tables.specs.Words.{Holds, Clean, Agreeing, Set-of}
-use Rattle.tables.specs.Tables.{cut-up}
+use Rattle.tree.specs.Pieces.{cut-up}
 use Rattle.marks.specs.declared.Answer.{Answer}
 use Rattle.marks.specs.declared.Answer.the-variants.{Marked, NotGood, TooFewWords, NotMarks}
 

@@ -2,7 +2,7 @@
 -- language, and when they say that no longer text is.
 -- Assumes nothing.
 use Prim.Native.Nat.{ℕ, suc, _+_, _-_, _<_}
-use mathlib.Core.Path.{_≡_, refl, sym, ap, _∙_, subst}
+use mathlib.Core.Path.{_≡_, sym, subst}
 use mathlib.Core.Logic.{_↔_, Iff·trans as iff-trans}
 use mathlib.Core.List.{List, [], _∷_, _++_}
 use native.Mathlib.Omega.{arith}
@@ -10,31 +10,21 @@ use lib.ListN.{getD}
 use Rattle.language.specs.Tree.{Tree}
 use Rattle.language.specs.Language.{Is, Matches}
 use Rattle.language.specs.Automaton.{State, accepting, States, Started, Stepped, After}
-use Rattle.language.specs.Nested.{Nested, leaf, catenation, union, star, below, Has, Models}
+use Rattle.language.specs.Nested.{Nested, Has, Models}
 use Rattle.language.specs.Acceptance.{accepts-exactly}
 use Rattle.language.specs.Models.{origin-onto}
 use Rattle.language.specs.Along.{after-step, reached-state, none-longer}
-use Rattle.tree.specs.Cut.{wanted}
 use Rattle.tree.specs.Records.{piece-count}
-use Rattle.tree.specs.Nesting.{pieces-below, whole-nest}
-use Rattle.tree.specs.Pieces.{stated}
+use Rattle.tree.specs.Pieces.{cut-up, stated}
 use Rattle.tables.specs.Words.{Bit, width, run, Holds, Clean}
-use Rattle.tables.specs.Tables.{cut-up, Holding}
+use Rattle.tables.specs.Tables.{Holding}
 use Rattle.marks.specs.Bits.{bit-zero}
 use Rattle.marks.specs.Numbers.{number-accepting}
 use Rattle.marks.specs.Spots.{Spot, own, under, spot, Held, Within, bit-at, held-at, holds-held, spot-within, own-spot}
 
--- there is a word for each piece below the top piece
-pub run-pieces : {A : Type 0} (x : Nested A) → run x ≡ pieces-below x
-run-pieces (leaf a) = refl
-run-pieces (catenation x y) = omega (arith, run-pieces x, run-pieces y)
-run-pieces (union x y) = omega (arith, run-pieces x, run-pieces y)
-run-pieces (star x) = run-pieces x
-run-pieces (below x) = omega (arith, run-pieces x)
-
--- so there is a word for each piece of a tree
+-- there is a word for each piece of a tree
 pub all-words : (t : Tree ℕ) → 1 + run (cut-up t) ≡ piece-count t
-all-words t = ap (λ (n : ℕ). 1 + n) (run-pieces (cut-up t)) ∙ stated t .all-pieces
+all-words t = stated t .all-pieces
 
 -- the first so many words are 0
 abbrev pub All-zero : ℕ → List ℕ → Type 0
@@ -53,7 +43,7 @@ module _ {t : Tree ℕ} {w words : List ℕ} (holding : Holding t w words) where
   -- where the words of the pieces are 0, no state is marked after the text
   none-marked : All-zero (piece-count t) words → (p : State) → After Is t w (Started t) p → ⊥
   none-marked zeros p reached =
-      let (q, has, stands) = origin-onto (cut-up t) p (rw (whole-nest t (wanted t)) (reached-state Is t w p reached)) in
+      let (q, has, stands) = origin-onto (cut-up t) p (rw (stated t .same-tree) (reached-state Is t w p reached)) in
       zero-holds (cut-up t) words (rw (all-words t) zeros) q has (holding .modelled q has .1 (rw stands reached))
 
   -- and no text that begins with it is in the language

@@ -15,7 +15,7 @@ use Rattle.language.specs.Automaton.{accepting, States, Started, Stepped}
 use Rattle.tree.specs.Records.{Good, piece-count}
 use Rattle.tree.specs.Readback.{good-unique}
 use Rattle.tables.specs.Words.{run, Set-of}
-use Rattle.tables.specs.Tables.{cut-up}
+use Rattle.tree.specs.Pieces.{cut-up}
 use Rattle.marks.specs.Texts.{all-words}
 use Rattle.marks.specs.Alike.{same-words}
 use Rattle.marks.specs.Promise.{number-of, Hold, Marks-of, Refused, Made, Not-good, Too-few, Not-marks, Starts, Steps}

@@ -12,6 +12,7 @@ use Rattle.language.specs.Language.{Is, Matches}
 use Rattle.language.specs.Automaton.{Started, After, Accepts}
 use Rattle.language.specs.Acceptance.{accepts-exactly}
 use Rattle.tree.specs.Records.{piece-count}
+use Rattle.tree.specs.Pieces.{cut-up}
 use Rattle.reader.specs.Text.{bytes}
 use Rattle.reader.specs.Scanner.{Outcome, tree, refused, scan, scanned}
 use Rattle.finder.specs.Found.{Answer, at, nothing, Answers}
@@ -161,5 +162,5 @@ rows-hold (row ∷ rows) e = (row-holds row (also-first _ _ e), rows-hold rows (
 
 -- every row of the table holds
 pub edges-hold : Every Holds edges
-unfolding rows-test row-test is-refusal is-tree same-answer scan scanned any-split any-repeat one-byte matched latest-end answer-from walked moved also ends agrees tidy holds-after
+unfolding rows-test row-test is-refusal is-tree same-answer scan scanned any-split any-repeat one-byte matched latest-end answer-from walked moved also ends agrees tidy holds-after cut-up
 edges-hold = rows-hold edges refl

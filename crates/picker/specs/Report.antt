@@ -11,7 +11,7 @@ use borrow.Author.Tests.{ltb-true, ltb-false, le-ltb}
 use Rattle.language.specs.Tree.{Tree, nodes}
 use Rattle.tree.specs.Records.{piece-count}
 use Rattle.tree.specs.Lengths.{nodes-positive}
-use Rattle.tree.specs.Bounds.{good-small}
+use Rattle.tree.specs.Pieces.{nodes-per-piece}
 use Rattle.reader.specs.Scanner.{Outcome, tree, refused, pick-outcome, scanned}
 use Rattle.reader.specs.Agree.{scanned-exactly, scanned-refusal, written-size}
 use Rattle.reader.specs.Answer.{Numbers, refusing, reading, pick, answer-for, answered as answers, Kept}
@@ -31,7 +31,7 @@ pub record Told (bytes : List ℕ) (number place : ℕ) : Type 0 where
 
 -- a tree with at most 128 pieces has at most 1,920 nodes, so 15,360 bytes hold its records
 records-fit : (t : Tree ℕ) → ltb 128 (piece-count t) ≡ false → 8 * nodes t ≤ 15360
-records-fit t few = omega (arith, good-small _ t (record { of-tree = refl; few = ltb-false 128 (piece-count t) few }))
+records-fit t few = omega (arith, nodes-per-piece t, ltb-false 128 (piece-count t) few)
 
 -- for a tree: 8 where it has too many pieces, and never 9
 told-tree : (bytes : List ℕ) (room number place : ℕ) → 15360 ≤ room → (t : Tree ℕ) (many short : Bool) → ltb 128 (piece-count t) ≡ many → ltb room (8 * nodes t) ≡ short → few-pieces (scanned bytes) ≡ pick-outcome many (refused 8 0) (tree t) → refusing number place ≡ pick many (refusing 8 0) (pick short (refusing 9 0) (reading t)) → Told bytes number place

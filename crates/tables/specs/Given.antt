@@ -1,22 +1,20 @@
 -- A good list is that of a cut tree whose pieces are small, so its tables can be made.
 -- Assumes nothing.
-use Prim.Native.Nat.{ℕ, _+_, _*_, _-_, _/_, _≤_, _<_}
+use Prim.Native.Nat.{ℕ, _+_, _*_, _-_, _/_, _≤_}
 use mathlib.Core.Path.{_≡_, refl, sym, ap, _∙_}
-use mathlib.Core.Bool.{Bool, true, false}
 use mathlib.Core.List.{List, [], append-nil}
 use native.Mathlib.Omega.{arith}
 use lib.ListN.{length, getD}
-use Rattle.language.specs.Tree.{Tree, nodes, leaf as tree-leaf, catenation as tree-catenation, union as tree-union, star as tree-star}
+use Rattle.language.specs.Tree.{Tree, nodes}
 use Rattle.language.specs.Nested.{Nested, leaf, catenation, union, star, below, own}
-use Rattle.tree.specs.Cut.{Cut, edge, nest, wanted}
 use Rattle.tree.specs.Records.{Good, piece-count}
-use Rattle.tree.specs.Least.{wanted-fits}
-use Rattle.tree.specs.Bounds.{good-small}
-use Rattle.tree.specs.Nesting.{Small, Every-below, small-pieces}
+use Rattle.tree.specs.Nesting.{Small, Every-below}
+use Rattle.tree.specs.Stored.{stored}
+use Rattle.tree.specs.Pieces.{cut-up, stated, good-small, good-tells}
 use Rattle.tables.specs.Words.{width}
 use Rattle.tables.specs.Plan.{Planned, Each, Nexts}
-use Rattle.tables.specs.Tables.{cut-up, Roomy}
-use Rattle.tables.specs.Standing.{size, size-positive, size-nest, run-nest, records-listed, listed, length-listed, Plain, Sound}
+use Rattle.tables.specs.Tables.{Roomy}
+use Rattle.tables.specs.Standing.{size, size-positive, length-stored, Plain, Sound}
 use Rattle.tables.specs.Filling.{tables}
 use Rattle.tables.specs.Counting.{Top, Listed, Counted}
 use Rattle.tables.specs.Making.{whole-spot, made-none, made-planned, made-nexts, Making, making-at, Total}
@@ -33,44 +31,39 @@ width-own (below x) = refl
 pub small-narrow : (x : Nested ℕ) → Small x → width x ≤ 62
 small-narrow x small = omega (arith, width-own x, small .few-own-nodes)
 
--- the root of a tree that is cut is a node
-plain-nest : (t : Tree ℕ) (c : Cut t) → Plain (nest t c)
-plain-nest (tree-leaf a) c = tt
-plain-nest (tree-catenation s t) c = tt
-plain-nest (tree-union s t) c = tt
-plain-nest (tree-star s) c = tt
+-- its root is a node
+small-plain : (x : Nested ℕ) → Small x → Plain x
+small-plain (leaf a) small = tt
+small-plain (catenation x y) small = tt
+small-plain (union x y) small = tt
+small-plain (star x) small = tt
+small-plain (below x) small = omega (arith, small .some-node)
 
--- below a cut edge stands a small piece
-sound-edge : (b : Bool) (x : Nested ℕ) → Plain x → (Every-below Small x → Sound x) → Every-below Small (edge b x) → Sound (edge b x)
-sound-edge true x plain sound h = (plain, small-narrow x (h .0), sound (h .1))
-sound-edge false x plain sound h = sound h
+-- below each stand-in stands a small piece
+small-sound : (x : Nested ℕ) → Every-below Small x → Sound x
+small-sound (leaf a) h = tt
+small-sound (catenation x y) h = (small-sound x (h .0), small-sound y (h .1))
+small-sound (union x y) h = (small-sound x (h .0), small-sound y (h .1))
+small-sound (star x) h = small-sound x h
+small-sound (below x) h = (small-plain x (h .0), small-narrow x (h .0), small-sound x (h .1))
 
--- and so below each
-sound-nest : (t : Tree ℕ) (c : Cut t) → Every-below Small (nest t c) → Sound (nest t c)
-sound-nest (tree-leaf a) c h = tt
-sound-nest (tree-catenation s t) c h =
-    (sound-edge (c .0) _ (plain-nest s (c .1)) (sound-nest s (c .1)) (h .0), sound-edge (c .2) _ (plain-nest t (c .3)) (sound-nest t (c .3)) (h .1))
-sound-nest (tree-union s t) c h =
-    (sound-edge (c .0) _ (plain-nest s (c .1)) (sound-nest s (c .1)) (h .0), sound-edge (c .2) _ (plain-nest t (c .3)) (sound-nest t (c .3)) (h .1))
-sound-nest (tree-star s) c h = sound-edge (c .0) _ (plain-nest s (c .1)) (sound-nest s (c .1)) h
-
--- the list of a good list's tree, cut as wanted
-pub good-top : {list : List ℕ} {t : Tree ℕ} → Good list t → Top list (nest t (wanted t))
+-- the list of a good list's tree, cut up
+pub good-top : {list : List ℕ} {t : Tree ℕ} → Good list t → Top list (cut-up t)
 good-top {list} {t} good =
-    let x = nest t (wanted t) in
-    let small = small-pieces t (wanted t) (wanted-fits t) in
-    let is : list ≡ listed x 0 0 1 = good .of-tree ∙ records-listed t (wanted t) 0 0 1 in
+    let x = cut-up t in
+    let told = good-tells list t good in
+    let small = told .cut .every-small in
     record {
       fine = record {
-        written = record { before = []; after = []; parts = is ∙ sym (append-nil (listed x 0 0 1)); begins = refl };
+        written = record { before = []; after = []; parts = told .bytes-stored ∙ sym (append-nil (stored x 0 0 1)); begins = refl };
         later = omega arith;
-        few = omega (arith, run-nest t (wanted t), good .few);
+        few = omega (arith, told .few-pieces);
         narrow = omega (arith, small-narrow x (small .0));
-        short = omega (arith, size-nest t (wanted t), good-small list t good);
-        sound = sound-nest t (wanted t) (small .1);
+        short = omega (arith, ap nodes (told .cut .same-tree), good-small list t good);
+        sound = small-sound x (small .1);
       };
-      plain = plain-nest t (wanted t);
-      all = ap length is ∙ length-listed x 0 0 1;
+      plain = small-plain x (small .0);
+      all = ap length (told .bytes-stored) ∙ length-stored x 0 0 1;
     }
 
 -- the list is good
@@ -124,4 +117,4 @@ laid making all t good =
     let top = good-top good in
     let count = all .counts-all (cut-up t) top in
     let made = making-at making count .so-far (cut-up t) top in
-    record { planned = made-planned top (making .room) made; words = made-nexts top (making .room) made; counted = count ∙ ap (λ (n : ℕ). 1 + n) (run-nest t (wanted t)) }
+    record { planned = made-planned top (making .room) made; words = made-nexts top (making .room) made; counted = count ∙ stated t .all-pieces }

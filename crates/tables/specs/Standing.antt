@@ -2,17 +2,15 @@
 -- Assumes nothing.
 use Prim.Native.Nat.{ℕ, _+_, _*_, _-_, _≤_, _<_}
 use mathlib.Core.Path.{_≡_, refl, sym, ap, subst, _∙_}
-use mathlib.Core.Bool.{Bool, true, false}
 use mathlib.Core.List.{List, [], _++_, append-assoc}
 use native.Mathlib.Omega.{arith}
 use native.Mathlib.Decide.{decLt}
 use lib.ListN.{length, getD, length-append}
 use lib.Seq.{getD-append-add}
-use Rattle.language.specs.Tree.{Tree, nodes, leaf as tree-leaf, catenation as tree-catenation, union as tree-union, star as tree-star}
+use Rattle.language.specs.Tree.{nodes}
 use Rattle.language.specs.Nested.{Nested, leaf, catenation, union, star, below, whole}
-use Rattle.tree.specs.Cut.{Cut, cuts, one, edge, nest}
-use Rattle.tree.specs.Nesting.{whole-edge, whole-nest}
-use Rattle.tree.specs.Records.{record-of, child-piece, records}
+use Rattle.tree.specs.Records.{record-of}
+use Rattle.tree.specs.Stored.{stored}
 use Rattle.tables.specs.Words.{width, run}
 
 -- how many nodes there are, in all pieces
@@ -27,67 +25,6 @@ root-record (union x y) f p n = record-of 3 0 (f + size x - 1) (f + size x + siz
 root-record (star x) f p n = record-of 4 0 (f + size x - 1) 65535 p
 root-record (below x) f p n = root-record x f n (n + 1)
 
--- the records of x: its first record has the number f, its root is in the piece p, and the child pieces below it are numbered from n
-abbrev pub listed : Nested ℕ → (first piece new : ℕ) → List ℕ
-listed (leaf a) f p n = root-record (leaf a) f p n
-listed (catenation x y) f p n = listed x f p n ++ listed y (f + size x) p (n + run x) ++ root-record (catenation x y) f p n
-listed (union x y) f p n = listed x f p n ++ listed y (f + size x) p (n + run x) ++ root-record (union x y) f p n
-listed (star x) f p n = listed x f p n ++ root-record (star x) f p n
-listed (below x) f p n = listed x f n (n + 1)
-
--- cutting an edge leaves all nodes
-size-edge : (b : Bool) (x : Nested ℕ) → size (edge b x) ≡ size x
-size-edge b x = ap nodes (whole-edge b x)
-
--- a tree that is cut has its nodes
-pub size-nest : (t : Tree ℕ) (c : Cut t) → size (nest t c) ≡ nodes t
-size-nest t c = ap nodes (whole-nest t c)
-
--- a cut edge has one piece more below it
-run-edge : (b : Bool) (x : Nested ℕ) → run (edge b x) ≡ one b + run x
-run-edge true x = refl
-run-edge false x = omega arith
-
--- there is one piece below each cut edge
-pub run-nest : (t : Tree ℕ) (c : Cut t) → run (nest t c) ≡ cuts t c
-run-nest (tree-leaf a) c = refl
-run-nest (tree-catenation s t) c = omega (arith, run-edge (c .0) (nest s (c .1)), run-edge (c .2) (nest t (c .3)), run-nest s (c .1), run-nest t (c .3))
-run-nest (tree-union s t) c = omega (arith, run-edge (c .0) (nest s (c .1)), run-edge (c .2) (nest t (c .3)), run-nest s (c .1), run-nest t (c .3))
-run-nest (tree-star s) c = omega (arith, run-edge (c .0) (nest s (c .1)), run-nest s (c .1))
-
--- s, cut by c, has the same records told as a tree and told as the pieces that it is cut into
-Same : (s : Tree ℕ) → Cut s → Type 0
-Same s c = (f p n : ℕ) → records s c f p n ≡ listed (nest s c) f p n
-
--- so has a child: a cut edge gives it a new piece
-child-same : (b : Bool) (s : Tree ℕ) (c : Cut s) → Same s c → (f p n m : ℕ) → m ≡ n → records s c f (child-piece b p m) (one b + m) ≡ listed (edge b (nest s c)) f p n
-unfolding Same
-child-same true s c same f p n m e = same f m (1 + m) ∙ ap (λ (k : ℕ). listed (nest s c) f k (1 + m)) e ∙ ap (λ (k : ℕ). listed (nest s c) f n k) (omega arith)
-child-same false s c same f p n m e = same f p (0 + m) ∙ ap (λ (k : ℕ). listed (nest s c) f p k) (omega arith)
-
--- the records of two children and of their parent of the kind k
-two-same : (b d : Bool) (s t : Tree ℕ) (c : Cut s) (e : Cut t) → Same s c → Same t e → (k f p n : ℕ)
-    → records s c f (child-piece b p n) (one b + n)
-    ++ records t e (f + nodes s) (child-piece d p (one b + cuts s c + n)) (one d + (one b + cuts s c + n))
-    ++ record-of k 0 (f + nodes s - 1) (f + nodes s + nodes t - 1) p
-    ≡ listed (edge b (nest s c)) f p n
-    ++ listed (edge d (nest t e)) (f + size (edge b (nest s c))) p (n + run (edge b (nest s c)))
-    ++ record-of k 0 (f + size (edge b (nest s c)) - 1) (f + size (edge b (nest s c)) + size (edge d (nest t e)) - 1) p
-two-same b d s t c e same-s same-t k f p n =
-    let size-s : size (edge b (nest s c)) ≡ nodes s = size-edge b (nest s c) ∙ size-nest s c in
-    let size-t : size (edge d (nest t e)) ≡ nodes t = size-edge d (nest t e) ∙ size-nest t e in
-    rw (size-s, size-t, child-same b s c same-s f p n n refl, child-same d t e same-t (f + nodes s) p (n + run (edge b (nest s c))) (one b + cuts s c + n) (omega (arith, run-edge b (nest s c), run-nest s c)))
-
--- the records of a tree are those of the pieces that it is cut into
-pub records-listed : (s : Tree ℕ) (c : Cut s) (f p n : ℕ) → records s c f p n ≡ listed (nest s c) f p n
-unfolding Same
-records-listed (tree-leaf a) c f p n = refl
-records-listed (tree-catenation s t) c f p n = two-same (c .0) (c .2) s t (c .1) (c .3) (records-listed s (c .1)) (records-listed t (c .3)) 2 f p n
-records-listed (tree-union s t) c f p n = two-same (c .0) (c .2) s t (c .1) (c .3) (records-listed s (c .1)) (records-listed t (c .3)) 3 f p n
-records-listed (tree-star s) c f p n =
-    let size-s : size (edge (c .0) (nest s (c .1))) ≡ nodes s = size-edge (c .0) (nest s (c .1)) ∙ size-nest s (c .1) in
-    rw (size-s, child-same (c .0) s (c .1) (records-listed s (c .1)) f p n n refl)
-
 -- there is a node at least: the root
 pub size-positive : (x : Nested ℕ) → 1 ≤ size x
 size-positive (leaf a) = omega arith
@@ -99,33 +36,33 @@ size-positive (below x) = size-positive x
 -- the records before x's root
 abbrev inner : Nested ℕ → (first piece new : ℕ) → List ℕ
 inner (leaf a) f p n = []
-inner (catenation x y) f p n = listed x f p n ++ listed y (f + size x) p (n + run x)
-inner (union x y) f p n = listed x f p n ++ listed y (f + size x) p (n + run x)
-inner (star x) f p n = listed x f p n
+inner (catenation x y) f p n = stored x f p n ++ stored y (f + size x) p (n + run x)
+inner (union x y) f p n = stored x f p n ++ stored y (f + size x) p (n + run x)
+inner (star x) f p n = stored x f p n
 inner (below x) f p n = inner x f n (n + 1)
 
--- x's root is listed last
-listed-inner : (x : Nested ℕ) (f p n : ℕ) → listed x f p n ≡ inner x f p n ++ root-record x f p n
-listed-inner (leaf a) f p n = refl
-listed-inner (catenation x y) f p n = refl
-listed-inner (union x y) f p n = refl
-listed-inner (star x) f p n = refl
-listed-inner (below x) f p n = listed-inner x f n (n + 1)
+-- x's root is stored last
+stored-inner : (x : Nested ℕ) (f p n : ℕ) → stored x f p n ≡ inner x f p n ++ root-record x f p n
+stored-inner (leaf a) f p n = refl
+stored-inner (catenation x y) f p n = refl
+stored-inner (union x y) f p n = refl
+stored-inner (star x) f p n = refl
+stored-inner (below x) f p n = stored-inner x f n (n + 1)
 
 -- 8 bytes for each node
-pub length-listed : (x : Nested ℕ) (f p n : ℕ) → length (listed x f p n) ≡ 8 * size x
-length-listed (leaf a) f p n = refl
-length-listed (catenation x y) f p n = let e = length-listed x in let g = length-listed y in simp (length-append, e, g) (omega arith)
-length-listed (union x y) f p n = let e = length-listed x in let g = length-listed y in simp (length-append, e, g) (omega arith)
-length-listed (star x) f p n = let e = length-listed x in simp (length-append, e) (omega arith)
-length-listed (below x) f p n = length-listed x f n (n + 1)
+pub length-stored : (x : Nested ℕ) (f p n : ℕ) → length (stored x f p n) ≡ 8 * size x
+length-stored (leaf a) f p n = refl
+length-stored (catenation x y) f p n = let e = length-stored x in let g = length-stored y in simp (length-append, e, g) (omega arith)
+length-stored (union x y) f p n = let e = length-stored x in let g = length-stored y in simp (length-append, e, g) (omega arith)
+length-stored (star x) f p n = let e = length-stored x in simp (length-append, e) (omega arith)
+length-stored (below x) f p n = length-stored x f n (n + 1)
 
 -- 8 bytes for each node but the root
 length-inner : (x : Nested ℕ) (f p n : ℕ) → length (inner x f p n) + 8 ≡ 8 * size x
 length-inner (leaf a) f p n = refl
-length-inner (catenation x y) f p n = let e = length-listed x in let g = length-listed y in simp (length-append, e, g) (omega arith)
-length-inner (union x y) f p n = let e = length-listed x in let g = length-listed y in simp (length-append, e, g) (omega arith)
-length-inner (star x) f p n = let e = length-listed x in simp e (omega arith)
+length-inner (catenation x y) f p n = let e = length-stored x in let g = length-stored y in simp (length-append, e, g) (omega arith)
+length-inner (union x y) f p n = let e = length-stored x in let g = length-stored y in simp (length-append, e, g) (omega arith)
+length-inner (star x) f p n = let e = length-stored x in simp e (omega arith)
 length-inner (below x) f p n = length-inner x f n (n + 1)
 
 -- the number in two bytes of a list
@@ -222,7 +159,7 @@ Sound (below x) = Plain x × (width x ≤ 62) × Sound x
 pub record Written (list : List ℕ) (s : Spot) : Type 0 where
   pub before : List ℕ
   pub after : List ℕ
-  pub parts : list ≡ before ++ (listed (tree s) (first s) (piece s) (new s) ++ after)
+  pub parts : list ≡ before ++ (stored (tree s) (first s) (piece s) (new s) ++ after)
   pub begins : length before ≡ 8 * first s
 
 -- the spot stands in the list, and its numbers are within bounds
@@ -248,25 +185,25 @@ written-right xs ys zs before after e = e ∙ regroup before xs ys zs after ∙ 
 -- a child's records stand within its parent's
 child-written : {list : List ℕ} {s t : Spot} → Child s t → Written list s → Written list t
 child-written (catenation-left {x = x} {y = y} {f = f} {p = p} {n = n}) w =
-    record { before = w .before; after = _; parts = written-left (listed x f p n) _ _ (w .before) (w .after) (w .parts); begins = w .begins }
+    record { before = w .before; after = _; parts = written-left (stored x f p n) _ _ (w .before) (w .after) (w .parts); begins = w .begins }
 child-written (catenation-right {x = x} {y = y} {f = f} {p = p} {n = n}) w =
     record {
-      before = w .before ++ listed x f p n;
+      before = w .before ++ stored x f p n;
       after = _;
-      parts = written-right (listed x f p n) _ _ (w .before) (w .after) (w .parts);
-      begins = let e = w .begins in let g = length-listed x f p n in simp length-append (omega arith);
+      parts = written-right (stored x f p n) _ _ (w .before) (w .after) (w .parts);
+      begins = let e = w .begins in let g = length-stored x f p n in simp length-append (omega arith);
     }
 child-written (union-left {x = x} {y = y} {f = f} {p = p} {n = n}) w =
-    record { before = w .before; after = _; parts = written-left (listed x f p n) _ _ (w .before) (w .after) (w .parts); begins = w .begins }
+    record { before = w .before; after = _; parts = written-left (stored x f p n) _ _ (w .before) (w .after) (w .parts); begins = w .begins }
 child-written (union-right {x = x} {y = y} {f = f} {p = p} {n = n}) w =
     record {
-      before = w .before ++ listed x f p n;
+      before = w .before ++ stored x f p n;
       after = _;
-      parts = written-right (listed x f p n) _ _ (w .before) (w .after) (w .parts);
-      begins = let e = w .begins in let g = length-listed x f p n in simp length-append (omega arith);
+      parts = written-right (stored x f p n) _ _ (w .before) (w .after) (w .parts);
+      begins = let e = w .begins in let g = length-stored x f p n in simp length-append (omega arith);
     }
 child-written (operand {x = x} {f = f} {p = p} {n = n}) w =
-    record { before = w .before; after = _; parts = w .parts ∙ ap (λ (l : List ℕ). w .before ++ l) (append-assoc (listed x f p n) _ (w .after)); begins = w .begins }
+    record { before = w .before; after = _; parts = w .parts ∙ ap (λ (l : List ℕ). w .before ++ l) (append-assoc (stored x f p n) _ (w .after)); begins = w .begins }
 child-written under w = record { before = w .before; after = w .after; parts = w .parts; begins = w .begins }
 
 -- the children of a spot within bounds are so too
@@ -295,7 +232,7 @@ root-shows : {list : List ℕ} {s : Spot} → Written list s → (r kind charact
     → Shows list r kind character left right own
 root-shows {list} {s = spot x f p n i} w r kind character left right own at e small-left small-right small-piece =
     let split : list ≡ (w .before ++ inner x f p n) ++ (record-of kind character left right own ++ w .after) =
-    w .parts ∙ ap (λ (l : List ℕ). w .before ++ (l ++ w .after)) (listed-inner x f p n ∙ ap (λ (l : List ℕ). inner x f p n ++ l) e) ∙ simp append-assoc in
+    w .parts ∙ ap (λ (l : List ℕ). w .before ++ (l ++ w .after)) (stored-inner x f p n ∙ ap (λ (l : List ℕ). inner x f p n ++ l) e) ∙ simp append-assoc in
     let begins = w .begins in
     let long = length-inner x f p n in
     rw split (shows (w .before ++ inner x f p n) (w .after) r kind character left right own (simp length-append (omega arith)) small-left small-right small-piece)
@@ -327,7 +264,7 @@ pub within : {list : List ℕ} {s : Spot} → Fine list s → 8 * (first s + siz
 within {list} {s = spot x f p n i} h =
     let w = h .written in
     let e = w .begins in
-    omega (arith, simp length-append at (ap length (w .parts)), length-listed x f p n)
+    omega (arith, simp length-append at (ap length (w .parts)), length-stored x f p n)
 
 -- k is the number of a child piece below the spot
 abbrev pub Reaches-piece : Spot → ℕ → Type 0

@@ -8,16 +8,12 @@ use mathlib.Core.List.{List}
 use lib.ListN.{length}
 use Rattle.language.specs.Tree.{Tree}
 use Rattle.language.specs.Language.{Is, Matches}
-use Rattle.language.specs.Automaton.{States, Started, After}
-use Rattle.language.specs.Nested.{Nested, Models}
-use Rattle.tree.specs.Cut.{wanted, nest}
+use Rattle.language.specs.Automaton.{Started, After}
+use Rattle.language.specs.Nested.{Models}
 use Rattle.tree.specs.Records.{piece-count}
+use Rattle.tree.specs.Pieces.{cut-up}
 use Rattle.tables.specs.Words.{Holds, Clean}
 use Rattle.tables.specs.Plan.{Planned, Each, Reaches}
-
--- the tree cut into its pieces, as its records say
-abbrev pub cut-up : Tree ℕ → Nested ℕ
-cut-up t = nest t (wanted t)
 
 -- the tables are those of t: of its pieces, and document 002's table of each
 pub record Prepared (t : Tree ℕ) (reach labels runs stands tops : List ℕ) (count : ℕ) : Type 0 where

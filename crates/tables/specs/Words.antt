@@ -2,11 +2,12 @@
 -- Assumes nothing.
 use Prim.Native.Nat.{ℕ, _+_, _/_, _%_, _^_, _<_}
 use mathlib.Core.Path.{_≡_}
-use mathlib.Core.Logic.{_↔_}
 use mathlib.Core.List.{List}
 use lib.ListN.{getD, drop}
 use Rattle.language.specs.Automaton.{State, start, accepting, left, right, States}
 use Rattle.language.specs.Nested.{Nested, leaf, catenation, union, star, below, Has, origin}
+-- how long the run of words below the top piece's word is: one word for each piece
+pub use Rattle.tree.specs.Nesting.{pieces-below as run}
 
 -- bit i of w, counted from the low end, is set
 abbrev pub Bit : ℕ → ℕ → Type 0
@@ -19,14 +20,6 @@ width (catenation x y) = 1 + width x + width y + 1
 width (union x y) = 1 + width x + width y + 1
 width (star x) = 1 + width x + 1
 width (below x) = 2
-
--- how many pieces there are below the top piece
-abbrev pub run : {A : Type 0} → Nested A → ℕ
-run (leaf a) = 0
-run (catenation x y) = run x + run y
-run (union x y) = run x + run y
-run (star x) = run x
-run (below x) = 1 + run x
 
 -- which states are the top piece's own
 abbrev pub Own : {A : Type 0} → Nested A → State → Type 0

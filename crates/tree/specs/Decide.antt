@@ -12,7 +12,7 @@ use Rattle.language.specs.Tree.{Tree, nodes}
 use Rattle.tree.specs.Records.{encode, labels, label-of, piece-count, Good}
 use Rattle.tree.specs.Lengths.{length-encode, length-labels}
 use Rattle.tree.specs.Readback.{labels-of-bytes, labels-of-more, labels-of-encode, good-unique}
-use Rattle.tree.specs.Bounds.{good-small}
+use Rattle.tree.specs.Pieces.{good-small}
 use Rattle.tree.specs.Measured.{Postorder, Counted}
 use Rattle.tree.specs.Recording.{Recorded}
 use Rattle.tree.specs.declared.good.Decided.{Decided}

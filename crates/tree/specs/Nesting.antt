@@ -1,6 +1,6 @@
 -- The pieces of a tree that is cut: how many there are, and that each is small.
 -- Assumes nothing.
-use Prim.Native.Nat.{ℕ, _+_, _≤_}
+use Prim.Native.Nat.{ℕ, _+_, _*_, _≤_}
 use mathlib.Core.Path.{_≡_, refl}
 use mathlib.Core.Bool.{Bool, true, false}
 use native.Mathlib.Omega.{arith}
@@ -106,19 +106,27 @@ child-pieces-at-most (nested-union x y) = omega (arith, child-pieces-at-most x, 
 child-pieces-at-most (nested-star x) = omega (arith, child-pieces-at-most x)
 child-pieces-at-most (below x) = omega arith
 
--- a piece is small: at most 15 nodes and 16 child pieces, so its own tree has at most 31 nodes and 62 states
+-- a piece is small: 1 to 15 nodes and at most 16 child pieces, so its own tree has at most 31 nodes and 62 states
 pub record Small {A : Type 0} (x : Nested A) : Type 0 where
+  pub some-node : 1 ≤ top-nodes x
   pub few-nodes : top-nodes x ≤ 15
   pub few-child-pieces : child-pieces x ≤ 16
   pub few-own-nodes : nodes (own x) ≤ 31
 
--- a piece of at most 15 nodes is small
-small : {A : Type 0} (x : Nested A) → top-nodes x ≤ 15 → Small x
-small x h = record { few-nodes = h; few-child-pieces = omega (arith, child-pieces-at-most x); few-own-nodes = omega (arith, child-pieces-at-most x, nodes-own x) }
+-- a piece of 1 to 15 nodes is small
+small : {A : Type 0} (x : Nested A) → 1 ≤ top-nodes x → top-nodes x ≤ 15 → Small x
+small x g h = record { some-node = g; few-nodes = h; few-child-pieces = omega (arith, child-pieces-at-most x); few-own-nodes = omega (arith, child-pieces-at-most x, nodes-own x) }
+
+-- the root is in the root's piece
+top-nodes-positive : {A : Type 0} (t : Tree A) (c : Cut t) → 1 ≤ top-nodes (nest t c)
+top-nodes-positive (leaf a) c = omega arith
+top-nodes-positive (catenation s t) c = omega arith
+top-nodes-positive (union s t) c = omega arith
+top-nodes-positive (star s) c = omega arith
 
 -- the root's piece of a cut that fits is small
 small-top : {A : Type 0} (t : Tree A) (c : Cut t) → Fits t c → Small (nest t c)
-small-top t c h = small (nest t c) (rw (top-nodes-nest t c) (part-at-most t c h))
+small-top t c h = small (nest t c) (top-nodes-positive t c) (rw (top-nodes-nest t c) (part-at-most t c h))
 
 -- so is the piece below an edge that is cut
 small-edge : {A : Type 0} (b : Bool) (s : Tree A) (d : Cut s) → Fits s d → Every-below Small (nest s d) → Every-below Small (edge b (nest s d))
@@ -135,6 +143,18 @@ small-below (star s) c h = small-edge (c .0) s (c .1) (h .1) (small-below s (c .
 -- in a cut that fits, every piece is small
 pub small-pieces : {A : Type 0} (t : Tree A) (c : Cut t) → Fits t c → Every-piece Small (nest t c)
 small-pieces t c h = (small-top t c h, small-below t c h)
+
+-- every node is in the top piece, or one of at most 15 in a piece below it
+nodes-of-pieces : {A : Type 0} (x : Nested A) → Every-below Small x → nodes (whole x) ≤ top-nodes x + 15 * pieces-below x
+nodes-of-pieces (nested-leaf a) h = omega arith
+nodes-of-pieces (nested-catenation x y) h = omega (arith, nodes-of-pieces x (h .0), nodes-of-pieces y (h .1))
+nodes-of-pieces (nested-union x y) h = omega (arith, nodes-of-pieces x (h .0), nodes-of-pieces y (h .1))
+nodes-of-pieces (nested-star x) h = omega (arith, nodes-of-pieces x h)
+nodes-of-pieces (below x) h = omega (arith, nodes-of-pieces x (h .1), h .0 .few-nodes)
+
+-- where every piece is small there are at most 15 nodes for each
+pub nodes-at-most : {A : Type 0} (x : Nested A) → Every-piece Small x → nodes (whole x) ≤ 15 * (1 + pieces-below x)
+nodes-at-most x h = omega (arith, nodes-of-pieces x (h .1), h .0 .few-nodes)
 
 -- a piece has at least 8 nodes
 abbrev pub Large : {A : Type 0} → Nested A → Type 0

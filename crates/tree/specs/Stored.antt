@@ -1,13 +1,14 @@
 -- The records of a tree, told by its pieces: what the layer above sees of a list is the cut tree alone.
 -- Assumes nothing.
 use Prim.Native.Nat.{ℕ, _+_, _-_}
-use mathlib.Core.Path.{_≡_, refl}
+use mathlib.Core.Path.{_≡_, refl, ap}
 use mathlib.Core.Bool.{Bool, true, false}
 use mathlib.Core.List.{List, _++_}
+use native.Mathlib.Omega.{arith}
 use native.Mathlib.Nat.{zero-add}
 use Rattle.language.specs.Tree.{Tree, leaf, catenation, union, star, nodes}
 use Rattle.language.specs.Nested.{Nested, below, whole, leaf as nested-leaf, catenation as nested-catenation, union as nested-union, star as nested-star}
-use Rattle.tree.specs.Cut.{Cut, one, edge, nest}
+use Rattle.tree.specs.Cut.{Cut, cuts, one, edge, nest}
 use Rattle.tree.specs.Records.{record-of, child-piece, records}
 use Rattle.tree.specs.Nesting.{pieces-below, pieces-below-edge, pieces-below-nest, whole-edge, whole-nest}
 
@@ -17,18 +18,18 @@ abbrev pub stored : Nested ℕ → (first piece new : ℕ) → List ℕ
 stored (nested-leaf a) first piece new = record-of 1 a 65535 65535 piece
 stored (nested-catenation x y) first piece new =
     stored x first piece new
-    ++ stored y (first + nodes (whole x)) piece (pieces-below x + new)
+    ++ stored y (first + nodes (whole x)) piece (new + pieces-below x)
     ++ record-of 2 0 (first + nodes (whole x) - 1) (first + nodes (whole x) + nodes (whole y) - 1) piece
 stored (nested-union x y) first piece new =
     stored x first piece new
-    ++ stored y (first + nodes (whole x)) piece (pieces-below x + new)
+    ++ stored y (first + nodes (whole x)) piece (new + pieces-below x)
     ++ record-of 3 0 (first + nodes (whole x) - 1) (first + nodes (whole x) + nodes (whole y) - 1) piece
 stored (nested-star x) first piece new = stored x first piece new ++ record-of 4 0 (first + nodes (whole x) - 1) 65535 piece
-stored (below x) first piece new = stored x first new (1 + new)
+stored (below x) first piece new = stored x first new (new + 1)
 
 -- below a cut edge the next piece begins
 stored-edge : (b : Bool) (x : Nested ℕ) (first piece new : ℕ) → stored (edge b x) first piece new ≡ stored x first (child-piece b piece new) (one b + new)
-stored-edge true x first piece new = refl
+stored-edge true x first piece new = ap (stored x first new) (omega arith)
 stored-edge false x first piece new = rw (zero-add new)
 
 -- the records of a tree that is cut are those of its pieces
@@ -36,8 +37,10 @@ pub stored-nest : (t : Tree ℕ) (c : Cut t) (first piece new : ℕ) → stored 
 stored-nest (leaf a) c first piece new = refl
 stored-nest (catenation s t) c first piece new =
     let left = stored-nest s (c .1) in let right = stored-nest t (c .3) in
-    simp (stored-edge, whole-edge, pieces-below-edge, whole-nest s (c .1), whole-nest t (c .3), pieces-below-nest s (c .1), left, right)
+    let next : new + (one (c .0) + cuts s (c .1)) ≡ one (c .0) + cuts s (c .1) + new = omega arith in
+    simp (stored-edge, whole-edge, pieces-below-edge, whole-nest s (c .1), whole-nest t (c .3), pieces-below-nest s (c .1), next, left, right)
 stored-nest (union s t) c first piece new =
     let left = stored-nest s (c .1) in let right = stored-nest t (c .3) in
-    simp (stored-edge, whole-edge, pieces-below-edge, whole-nest s (c .1), whole-nest t (c .3), pieces-below-nest s (c .1), left, right)
+    let next : new + (one (c .0) + cuts s (c .1)) ≡ one (c .0) + cuts s (c .1) + new = omega arith in
+    simp (stored-edge, whole-edge, pieces-below-edge, whole-nest s (c .1), whole-nest t (c .3), pieces-below-nest s (c .1), next, left, right)
 stored-nest (star s) c first piece new = let only = stored-nest s (c .1) in simp (stored-edge, whole-edge, whole-nest s (c .1), only)

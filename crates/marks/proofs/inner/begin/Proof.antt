@@ -1,7 +1,7 @@
 -- `marks::inner::begin` meets its contract: the root's start alone is marked in 128 words of zero, these are closed by two sweeps, and the
 -- first of them, one for each piece, are put into the lent words. Assumes nothing.
 use native.Mathlib.Omega.{arith}
-use Rattle.tables.specs.Tables.{cut-up}
+use Rattle.tree.specs.Pieces.{cut-up}
 use Rattle.marks.specs.Inner.{begins, begins-marked, start-closable, top-low, begun}
 use borrow.Author.Needs.{needs}
 use Rattle.marks.proofs.inner.begin.Statement.{statement}
