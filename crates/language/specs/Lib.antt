@@ -13,6 +13,7 @@ pub mod TwoWalks
 pub mod Visits
 pub mod Copies
 pub mod Same
+pub mod Unmoved
 pub mod Sweeps
 pub mod Models
 pub mod Along

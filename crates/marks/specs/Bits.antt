@@ -1,15 +1,15 @@
 -- The laws of bits that marks in words rest on: of no bits, of one bit, of two words joined, and that a word is its bits.
 -- Nothing else of words is used.
 -- Assumes nothing.
-use Prim.Native.Nat.{ℕ, zero, suc, _+_, _*_, _/_, _%_, _^_, _≤_, _<_, max}
-use mathlib.Core.Path.{_≡_, refl, sym, ap, _∙_, subst}
+use Prim.Native.Nat.{ℕ, zero, suc, _+_, _*_, _/_, _%_, _^_, _≤_, _<_, min, max}
+use mathlib.Core.Path.{_≡_, refl, sym, ap, ap₂, _∙_, subst}
 use mathlib.Core.Logic.{_⊎_, inl, inr, _↔_, ⊎-elim}
 use mathlib.Core.Bool.{Bool, true, false}
 use native.Mathlib.Nat.{zero-div, div-eq-of-lt, mod-lt, pow-suc, one-mul, lt-of-lt-of-le}
 use native.Mathlib.Decide.{ℕ-discrete, decLt}
 use native.Mathlib.Omega.{arith}
 use lib.Arith.{bin-ind, digits-mod}
-use lib.Bits.{bitOr, or-step, or-shr}
+use lib.Bits.{bitOr, bitAnd, or-step, or-shr, and-step, and-shr}
 use lib.Pow.{pow-pos, pow-mono, shl-exact, shr-shr, split}
 use Rattle.tables.specs.Words.{Bit}
 
@@ -138,3 +138,12 @@ told-no h = record { holds = λ e. absurd (let z : _≡_ {A = ℕ} 0 1 = cc in o
 -- the answer yes, where P holds
 pub told-yes : {P : Type 0} → P → Told P true
 told-yes p = record { holds = λ _. p; fails = λ e. absurd (let z : _≡_ {A = ℕ} 0 1 = cc in omega arith) }
+
+-- words of which no bit is left in common have none
+pub none-common : (a b : ℕ) → bitAnd a b ≡ 0 → (i : ℕ) → Bit a i → Bit b i → ⊥
+none-common a b none i c d =
+    let shifted : bitAnd a b / 2 ^ i ≡ bitAnd (a / 2 ^ i / 2) (b / 2 ^ i / 2) * 2 + 1 =
+    and-shr a b i ∙ and-step (a / 2 ^ i) (b / 2 ^ i) ∙ ap₂ (λ (m n : ℕ). bitAnd (a / 2 ^ i / 2) (b / 2 ^ i / 2) * 2 + min m n) c d
+    in
+    let empty : bitAnd a b / 2 ^ i ≡ 0 = ap (λ (n : ℕ). n / 2 ^ i) none ∙ zero-div (2 ^ i) in
+    omega arith

@@ -4,11 +4,11 @@ use Prim.Native.Nat.{ℕ, zero, suc, _+_, _*_, _-_, _≤_, _<_}
 use native.Mathlib.Omega.{arith}
 use mathlib.Core.Path.{_≡_, refl, sym, ap, _∙_, subst}
 use mathlib.Core.Bool.{Bool, true, false}
-use mathlib.Core.Logic.{_↔_, Iff·trans, Iff·symm}
+use mathlib.Core.Logic.{_↔_, ⊎-elim, Iff·trans, Iff·symm}
 use mathlib.Core.List.{List, [], _∷_, _++_}
 use native.Mathlib.Numerals.{add-one}
 use lib.ListN.{length, getD, take, drop, set, replicate, length-append, length-drop, length-set}
-use lib.Seq.{getD-drop, ext-getD, length-take-le, take-at, drop-at, drop-cons, set-at, append-snoc, take-suc}
+use lib.Seq.{getD-take, getD-drop, ext-getD, length-take-le, take-at, drop-at, drop-cons, set-at, append-snoc, take-suc}
 use Rattle.language.specs.Tree.{Tree, nodes}
 use Rattle.language.specs.Language.{Is}
 use Rattle.language.specs.Automaton.{State, States, accepting, start, Started, Stepped, After}
@@ -26,15 +26,17 @@ use Rattle.tables.specs.Plan.{Pieces, Planned, Each, Reaches}
 use Rattle.marks.specs.Bits.{Told}
 use Rattle.tables.specs.Tables.{Prepared, Roomy, Ready, Holding, Answered}
 use Rattle.marks.specs.Promise.{Hold, Marks-of}
-use Rattle.marks.specs.Swept.{Narrow-below, Laid, Sized}
+use Rattle.marks.specs.EachClosed.{Each-closed-below}
+use Rattle.marks.specs.Swept.{Nearly-closed, Quiet, Narrow-below, Laid, Sized}
+use Rattle.marks.specs.Reclosing.{closed-nearly}
 use Rattle.tables.specs.Given
 use Rattle.tables.specs.Given.{width-own}
 use Rattle.marks.specs.Table.{Closed-all}
 use Rattle.marks.specs.Low.{low-tops, checkable}
 use Rattle.marks.specs.Checked.{Checkable}
-use Rattle.marks.specs.MovedClosed.{Moved-closed, moved-length, moved-others, moved-keeps, moved-within, moved-clean}
+use Rattle.marks.specs.MovedClosed.{Moved-closed, moved-length, moved-others, moved-keeps, moved-within, moved-each-closed, moved-clean}
 use Rattle.marks.specs.Twice.{Run-of, Closable, Closed-twice, front-holds, front-clean}
-use Rattle.marks.specs.Simulated.{laid-whole, Start-marked, start-holds, start-clean, closed-start, closed-step, accepting-bit}
+use Rattle.marks.specs.Simulated.{laid-whole, Start-marked, start-holds, start-clean, start-nearly, start-closed, closed-start, closed-step, accepting-bit}
 use Rattle.marks.specs.Texts.{all-words, holding-first, holding-next, accepting-answer}
 use Rattle.marks.specs.Visiting.{accepting-holds}
 
@@ -105,13 +107,15 @@ module _ {t : Tree ℕ} {reach labels runs stands tops : List ℕ} {count : ℕ}
   pub prepared-count : count ≡ 1 + run (cut-up t)
   prepared-count = prepared .counted ∙ sym (all-words t)
 
-  -- words that are clean are the run of the pieces
-  pub prepared-run : {words : List ℕ} → Clean (cut-up t) words → Run-of reach runs stands tops count (cut-up t) words
-  prepared-run clean = record { laid = prepared-laid; counted = prepared-count; clean = clean }
+  -- words that are clean, and closed piece by piece but for the root's start, are the run of the pieces
+  pub prepared-run : {words : List ℕ} → Clean (cut-up t) words → Nearly-closed (cut-up t) start (getD words 0 0) → Each-closed-below (cut-up t) (drop 1 words)
+      → Run-of reach runs stands tops count (cut-up t) words
+  prepared-run clean nearly closed = record { laid = prepared-laid; counted = prepared-count; clean = clean; nearly = nearly; closed-below = closed }
 
   -- and can be closed
-  pub prepared-closable : {words : List ℕ} → Roomy reach labels runs stands tops → count ≤ length words → Clean (cut-up t) words → Closable reach runs stands tops count words
-  prepared-closable {words} roomy enough clean = record {
+  pub prepared-closable : {words : List ℕ} {from to : ℕ} → Roomy reach labels runs stands tops → count ≤ length words → Run-of reach runs stands tops count (cut-up t) words
+      → Quiet 0 from to (take count words) → Closable reach runs stands tops count from to words
+  prepared-closable {words} roomy enough on quiet = record {
     sized = record {
       reach-sized = roomy .reach-room;
       runs-sized = roomy .runs-room;
@@ -121,7 +125,8 @@ module _ {t : Tree ℕ} {reach labels runs stands tops : List ℕ} {count : ℕ}
     };
     enough = enough;
     tree = cut-up t;
-    on-run = prepared-run clean;
+    on-run = on;
+    quiet = quiet;
   }
 
   -- the last state of the top piece is its accepting state, and its bit is one of the word
@@ -152,7 +157,7 @@ module _ {t : Tree ℕ} {reach labels runs stands tops : List ℕ} {count : ℕ}
       → count ≤ length closed → count ≤ length lent → after ≡ take count closed ++ drop count lent → Told (Bit (getD after 0 0) (getD tops 0 0)) yes' → Begun t lent after yes'
   begun marked closed lent after yes' starts twice enough room put told =
       let x = cut-up t in
-      let on = prepared-run (start-clean x marked starts) in
+      let on = prepared-run (start-clean x marked starts) (start-nearly x marked starts) (start-closed x marked starts) in
       let front : length (take count closed) ≡ count = length-take-le count closed enough in
       let same : take count after ≡ take count closed = ap (take count) put ∙ take-at (take count closed) (drop count lent) count front in
       let agree : Agree x (Holds x after) (Holds x closed) = same-front x count after closed prepared-count same in
@@ -170,6 +175,15 @@ module _ {t : Tree ℕ} {reach labels runs stands tops : List ℕ} {count : ℕ}
         answer = answer-told after (Started t) yes' models told;
       }
 
+  -- words that were moved are the run of the pieces
+  pub moved-run : {byte : ℕ} {before moved : List ℕ} → Moved-closed reach labels before moved byte count → Clean (cut-up t) before → Run-of reach runs stands tops count (cut-up t) moved
+  moved-run went clean =
+      let x = cut-up t in
+      let tables : Pieces = record { labels = labels; runs = runs; stands = stands; tops = tops } in
+      let room : 1 + run x ≤ count = omega (arith, prepared-count) in
+      let closed = moved-each-closed went tables x refl (prepared .planned) (prepared .reached) room (narrow t) (all-narrow t) clean in
+      prepared-run (moved-clean went tables x refl (prepared .planned) (prepared .reached) room (narrow t) (all-narrow t) clean) (closed-nearly (closed .0)) (closed .1)
+
   -- from words moved along the byte, and closed twice
   pub advanced : (byte : ℕ) (before moved after : List ℕ) (yes' : Bool) → Marks-of t before → Moved-closed reach labels before moved byte count → Closed-twice reach runs stands tops count moved after
       → length after ≡ length moved → Told (Bit (getD after 0 0) (getD tops 0 0)) yes' → Advanced t byte before after yes'
@@ -177,7 +191,7 @@ module _ {t : Tree ℕ} {reach labels runs stands tops : List ℕ} {count : ℕ}
       let x = cut-up t in
       let tables : Pieces = record { labels = labels; runs = runs; stands = stands; tops = tops } in
       let room : 1 + run x ≤ count = omega (arith, prepared-count) in
-      let on = prepared-run (moved-clean went tables x refl (prepared .planned) (prepared .reached) room (narrow t) (all-narrow t) (marks .clean)) in
+      let on = moved-run went (marks .clean) in
       let models : Models x (Holds x after) (Stepped Is t byte (Set-of x before)) =
       subst (λ (s : Tree ℕ). Models x (Holds x after) (Stepped Is s byte (Set-of x before))) (stated t .same-tree)
       (closed-step reach runs stands tops count x moved after twice on byte (Holds x before) (Set-of x before) (alike-models x (Holds x before) (marks .agreeing))
@@ -220,15 +234,16 @@ answered-next {t} {w} {before} {after} {b} {yes'} holding went =
       answer = Iff·trans (went .answer) (Iff·trans (Iff·symm (went .hold .marks accepting tt)) (Iff·trans (accepting-holds x after) (accepting-answer held)));
     }
 
--- words that were moved can be closed
-pub moved-closable : {reach labels runs stands tops : List ℕ} {count byte : ℕ} {before moved : List ℕ} → Running reach labels runs stands tops count before
-    → Moved-closed reach labels before moved byte count → Closable reach runs stands tops count moved
-moved-closable {labels = labels} {runs = runs} {stands = stands} {tops = tops} running went =
-    let t = running .ready .of-tree .0 in
+-- words that were moved can be closed, where the marks are from `from` up to `to`
+pub moved-closable : {reach labels runs stands tops : List ℕ} {count byte from to : ℕ} {before moved : List ℕ} → Running reach labels runs stands tops count before
+    → Moved-closed reach labels before moved byte count → ((o : ℕ) → o < from → getD moved o 0 ≡ 0) → ((o : ℕ) → to ≤ o → o < count → getD moved o 0 ≡ 0)
+    → Closable reach runs stands tops count from to moved
+moved-closable {count = count} {moved = moved} running went none-before none-after =
     let prepared = running .ready .of-tree .1 in
-    prepared-closable prepared (running .ready .roomy) (omega (arith, moved-length went, running .enough))
-    (moved-clean went (record { labels = labels; runs = runs; stands = stands; tops = tops }) (cut-up t) refl (prepared .planned) (prepared .reached) (omega (arith, prepared-count prepared))
-    (narrow t) (all-narrow t) (running .clean))
+    let enough : count ≤ length moved = omega (arith, moved-length went, running .enough) in
+    prepared-closable prepared (running .ready .roomy) enough (moved-run prepared went (running .clean))
+    (λ o l h out. let inside : o < count = omega (arith, length-take-le count moved enough) in
+    getD-take count moved o 0 inside ∙ ⊎-elim (λ g. none-before o (omega arith)) (λ g. none-after o (omega arith) inside) out)
 
 -- 128 words of zero, then the root's start marked
 abbrev pub begins : List ℕ
@@ -243,11 +258,18 @@ pub begins-marked : (x : Nested ℕ) → Start-marked x begins
 begins-marked x = record { first = refl; others = λ o inside. zeros 127 o }
 
 -- words with the root's start alone marked can be closed
-pub start-closable : {reach labels runs stands tops : List ℕ} {count : ℕ} → Ready reach labels runs stands tops count → Closable reach runs stands tops count begins
-start-closable ready =
-    let t = ready .of-tree .0 in
+pub start-closable : {reach labels runs stands tops : List ℕ} {count : ℕ} → Ready reach labels runs stands tops count → Closable reach runs stands tops count 0 0 begins
+start-closable {count = count} ready =
+    let x = cut-up (ready .of-tree .0) in
     let prepared = ready .of-tree .1 in
-    prepared-closable prepared (ready .roomy) (omega (arith, prepared .counted, prepared .few)) (start-clean (cut-up t) begins (begins-marked (cut-up t)))
+    let enough : count ≤ 128 = omega (arith, prepared .counted, prepared .few) in
+    prepared-closable prepared (ready .roomy) enough
+    (prepared-run prepared (start-clean x begins (begins-marked x)) (start-nearly x begins (begins-marked x)) (start-closed x begins (begins-marked x)))
+    (λ o l h out. getD-take count begins o 0 (omega (arith, length-take-le count begins enough)) ∙ later o l)
+  where
+    later : (o : ℕ) → 0 < o → getD begins o 0 ≡ 0
+    later zero l = absurd (omega arith)
+    later (suc o) l = zeros 127 o
 
 -- the tables that were made are those of t, once the table of the empty transitions is closed
 pub prepared-of : {list nexts reach labels runs stands tops : List ℕ} {count : ℕ} (t : Tree ℕ) → Good list t → Given.Laid t nexts labels runs stands tops count

@@ -21,8 +21,11 @@ pub mod Spots
 pub mod Within
 pub mod Places
 pub mod Passing
+pub mod Reclosing
 pub mod Visiting
+pub mod Settling
 pub mod Chains
+pub mod GoneThrough
 pub mod Sweeping
 pub mod Twice
 pub mod Simulated

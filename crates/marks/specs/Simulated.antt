@@ -2,22 +2,24 @@
 -- Assumes nothing.
 use Prim.Native.Nat.{ℕ, zero, suc, _+_, _-_, _≤_, _<_}
 use native.Mathlib.Omega.{arith}
-use mathlib.Core.Path.{_≡_, refl, sym, subst}
-use mathlib.Core.Logic.{_↔_, Iff·trans, Iff·symm}
+use mathlib.Core.Path.{_≡_, refl, sym, ap, _∙_, subst}
+use mathlib.Core.Logic.{_↔_, inr, Iff·trans, Iff·symm}
 use mathlib.Core.List.{List, _∷_}
-use lib.ListN.{getD}
+use lib.ListN.{getD, drop}
+use lib.Seq.{getD-drop}
 use lib.Pow.{pow-pos, pow-lt}
 use Rattle.language.specs.Language.{Is}
-use Rattle.language.specs.Automaton.{State, start, accepting, States, Started, Stepped}
-use Rattle.language.specs.Nested.{Nested, whole, Has, Models, Move}
+use Rattle.language.specs.Automaton.{State, start, accepting, States, Empty, Path-of, Started, Stepped}
+use Rattle.language.specs.Nested.{Nested, whole, own as own-tree, Has, Models, Move}
 use Rattle.language.specs.Same.{More-in, Agree, sweep-same, models-same}
 use Rattle.language.specs.Settled.{Settled}
 use Rattle.language.specs.Sweeps.{sweeps-start, sweeps-step-closed}
-use Rattle.tables.specs.Words.{Bit, width, run, Holds, Clean}
+use Rattle.tables.specs.Words.{Bit, width, run, number, Holds, Clean}
 use Rattle.tables.specs.Plan.{Planned, Each, Reaches}
-use Rattle.marks.specs.Numbers.{width-two}
+use Rattle.marks.specs.Numbers.{width-two, number-injective}
 use Rattle.marks.specs.Bits.{bit-zero, bit-power}
-use Rattle.marks.specs.Swept.{Narrow-below, tables, Laid}
+use Rattle.marks.specs.EachClosed.{Each-closed-below, zeros-closed}
+use Rattle.marks.specs.Swept.{Nearly-closed, Narrow-below, tables, Laid}
 use Rattle.marks.specs.Spots.{Spot, own, under, spot, Held, holds-held, Within, spot-within, First, first-start, Bounded, clean-words, below-power, widths}
 use Rattle.marks.specs.Visiting.{accepting-holds}
 use Rattle.marks.specs.Twice.{Run-of, Closed-twice}
@@ -58,6 +60,18 @@ module _ (x : Nested ℕ) (words : List ℕ) (marked : Start-marked x words) whe
       each : Bounded (1 + run x) words (width x ∷ widths x)
       each zero l = below-power (marked .first) refl (pow-lt {i = 0} {j = width x} (omega (arith, width-two x)))
       each (suc o) l = below-power (marked .others o (omega arith)) refl (pow-pos (getD (widths x) o 0))
+
+  -- the root's word is closed but for what the start reaches
+  pub start-nearly : Nearly-closed x start (getD words 0 0)
+  start-nearly = record {
+    reached = λ p q o o' b way.
+        let same : p ≡ start = number-injective x p start o tt (bit-power 0 (number x p) .0 (subst (λ (w : ℕ). Bit w (number x p)) (marked .first) b)) in
+        inr (subst (λ (s : State). Bit (getD words 0 0) (number x s)) same b, subst (λ (s : State). Path-of (Empty (own-tree x)) s q) same way);
+  }
+
+  -- and the words of the other pieces, which are 0, are closed
+  pub start-closed : Each-closed-below x (drop 1 words)
+  start-closed = zeros-closed x (drop 1 words) (λ o l. getD-drop 1 words o 0 ∙ ap (λ (k : ℕ). getD words k 0) (omega arith) ∙ marked .others o l)
 
 module _ (reach runs stands tops : List ℕ) (count : ℕ) (x : Nested ℕ) (before after : List ℕ)
     (closed : Closed-twice reach runs stands tops count before after) (on : Run-of reach runs stands tops count x before) where

@@ -2,20 +2,27 @@
 -- Assumes nothing.
 use Prim.Native.Nat.{ℕ, zero, suc, _+_, _*_, _-_, _^_, _≤_, _<_}
 use native.Mathlib.Omega.{arith}
+use mathlib.Core.Bool.{Bool, true, false}
 use mathlib.Core.Path.{_≡_, refl, sym, ap, _∙_, subst}
-use mathlib.Core.Logic.{_⊎_, ⊎-elim}
+use mathlib.Core.Logic.{_⊎_, inl, inr, ⊎-elim}
 use mathlib.Core.List.{List, _∷_, _++_}
 use lib.ListN.{length, getD, take, drop, set, length-set, length-drop, length-append, List·getD-append}
 use lib.Seq.{getD-take, getD-drop, getD-set-same, getD-set-other, length-take-le, take-at, drop-at, drop-set-lt, getD-append-add}
+use Rattle.language.specs.Automaton.{start}
 use Rattle.language.specs.Nested.{Nested}
-use Rattle.tables.specs.Words.{width, run, Clean}
+use Rattle.language.specs.Settled.{Settled}
+use Rattle.tables.specs.Words.{Bit, width, run, Holds, Clean}
 use Rattle.tables.specs.Plan.{row, Reaches, Closes}
-use Rattle.marks.specs.Numbers.{width-two}
+use Rattle.marks.specs.Numbers.{width-two, number-onto}
 use Rattle.marks.specs.Passing.{passed-below}
-use Rattle.marks.specs.Swept.{passed, Sweepable, Sized, Ready, Swept, Child, part, started, Visited}
+use Rattle.marks.specs.Swept.{passed, Nearly-closed, Missed, Apart, At-rest, Quiet, Sweepable, Sized, Ready, Swept, Child, part, started, Visited}
 use Rattle.marks.specs.Spots.{widths, Bounded, clean-words, below-power}
-use Rattle.marks.specs.Visiting.{started-own, started-below}
-use Rattle.marks.specs.Chains.{Visitable, Under-way, Waiting, under-way, waiting, closed-sweepable, swept}
+use Rattle.marks.specs.Visiting.{part-at, started-own, started-below}
+use Rattle.marks.specs.Rejoining.{closes-again}
+use Rattle.marks.specs.Reclosing.{Closes-from, passed-nearly}
+use Rattle.marks.specs.EachClosed.{Each-closed-below, closed-below-same}
+use Rattle.marks.specs.Chains.{Visitable, Under-way, Waiting, under-way, waiting-child, closed-sweepable, begun-closed, swept, all-settled}
+use Rattle.marks.specs.GoneThrough.{further, gone, visited-at-rest, settled-at-rest}
 
 -- the words with ys in the place of m words from a on
 abbrev put : ℕ → ℕ → List ℕ → List ℕ → List ℕ
@@ -82,10 +89,21 @@ module _ (reach runs stands tops : List ℕ) (k at : ℕ) (words : List ℕ) whe
             (passed-below (getD words 0 0) (c .stand) (getD (part c words) 0 0) 0 (width (c .tree)) (can .child-clean .0) (omega (arith, width-two (c .tree))))
         each (suc o) l = below-power (started-below c words o l) refl (clean-words (c .tree) (part c words) .0 (can .child-clean) (suc o) l)
 
+    started-later : (o : ℕ) → 0 < o → o < 1 + run (c .tree) → getD (started c words) o 0 ≡ getD (part c words) o 0
+    started-later zero l h = absurd (omega arith)
+    started-later (suc o) l h = started-below c words o h
+
     -- the child's run can be swept
     pub lent-sweepable : Sweepable reach runs stands tops (c .tree) (k + at) (take (next-run - at) (drop at (set words at given)))
-    lent-sweepable = subst (Sweepable reach runs stands tops (c .tree) (k + at)) (sym lent-is)
-        (record { laid = can .laid; whole-run = started-length; clean = started-clean })
+    lent-sweepable = subst (Sweepable reach runs stands tops (c .tree) (k + at)) (sym lent-is) (record {
+      laid = can .laid;
+      whole-run = started-length;
+      clean = started-clean;
+      nearly = subst (Nearly-closed (c .tree) start) (sym (started-own c words (omega (arith, within))))
+          (passed-nearly (getD words 0 0) (c .stand) tt (can .child-closed .0));
+      closed-below = closed-below-same (c .tree) (drop 1 (part c words)) (drop 1 (started c words))
+          (λ o l. getD-drop 1 (part c words) o 0 ∙ sym (started-later (1 + o) (omega arith) (omega arith)) ∙ sym (getD-drop 1 (started c words) o 0)) (can .child-closed .1);
+    })
 
     pub lent-length : length (take (next-run - at) (drop at (set words at given))) ≡ 1 + run (c .tree)
     lent-length = lent-sweepable .whole-run
@@ -94,8 +112,9 @@ module _ (reach runs stands tops : List ℕ) (k at : ℕ) (words : List ℕ) whe
     pub lent-shorter : length (take (next-run - at) (drop at (set words at given))) < length words
     lent-shorter = omega (arith, lent-length, can .room, can .after-own)
 
-    pub lent-ready : Sized reach runs stands tops k words → Ready reach runs stands tops (k + at) (take (next-run - at) (drop at (set words at given)))
-    lent-ready sized = record {
+    pub lent-ready : (from to : ℕ) → Sized reach runs stands tops k words → ((o : ℕ) → at ≤ o → o < length words → (k + o < from) ⊎ (to ≤ k + o) → getD words o 0 ≡ 0)
+        → Ready reach runs stands tops (k + at) from to (take (next-run - at) (drop at (set words at given)))
+    lent-ready from to sized ahead = record {
       sized = record {
         reach-sized = sized .reach-sized;
         runs-sized = sized .runs-sized;
@@ -105,6 +124,9 @@ module _ (reach runs stands tops : List ℕ) (k at : ℕ) (words : List ℕ) whe
       };
       tree = c .tree;
       sweepable = lent-sweepable;
+      quiet = λ o l h out. ap (λ (ws : List ℕ). getD ws o 0) lent-is ∙ started-later o l (omega (arith, lent-length))
+          ∙ part-at c words o (omega (arith, lent-length)) ∙ ap (λ (a : ℕ). getD words (a + o) 0) (can .here)
+          ∙ ahead (at + o) (omega arith) (omega (arith, lent-length, can .room)) (⊎-elim (λ g. inl (omega arith)) (λ g. inr (omega arith)) out);
     }
 
     -- the words after the child's sweep, after the own word is closed, and what was closed
@@ -132,7 +154,7 @@ module _ (reach runs stands tops : List ℕ) (k at : ℕ) (words : List ℕ) whe
 
       -- what is closed has no bit past the last state
       module _ (raised-is : raised ≡ passed (getD back at 0) (getD tops (k + at) 0) (getD back 0 0) (getD stands (k + at) 0 + 1))
-          (closes : (y : Nested ℕ) → width y ≤ 62 → Reaches y (row reach k (width y)) → raised < 2 ^ width y → Closes y raised closed) where
+          (closes : Closes-from reach k raised (getD stands (k + at) 0 + 1) closed) where
         raised-same : raised ≡ passed (getD back at 0) (width (c .tree) - 1) (getD words 0 0) (c .stand + 1)
         raised-same =
             raised-is ∙ ap (λ (i : ℕ). passed (getD back at 0) i (getD back 0 0) (getD stands (k + at) 0 + 1)) (can .laid .piece .topped)
@@ -143,10 +165,16 @@ module _ (reach runs stands tops : List ℕ) (k at : ℕ) (words : List ℕ) whe
         after-at o l = getD-set-other back 0 o closed 0 (λ e. omega arith)
 
         own-closes : Closes x raised closed
-        own-closes = closes x (can .narrow) (can .reaches) (subst (λ (v : ℕ). v < 2 ^ width x) (sym raised-same)
+        own-closes =
+            let (s, own-s, at-s) = number-onto x (c .stand + 1) (can .inside) in
+            closes .closes x s (can .narrow) (can .reaches)
+            (subst (λ (v : ℕ). v < 2 ^ width x) (sym raised-same)
             (passed-below (getD back at 0) (width (c .tree) - 1) (getD words 0 0) (c .stand + 1) (width x) (can .own-clean) (can .inside)))
+            own-s (at-s ∙ ap (λ (n : ℕ). n + 1) (sym (can .stood)))
+            (subst (Nearly-closed x s) (sym (raised-same ∙ ap (passed (getD back at 0) (width (c .tree) - 1) (getD words 0 0)) (sym at-s)))
+            (passed-nearly (getD back at 0) (width (c .tree) - 1) own-s (can .own-closed)))
 
-        after-part : part c (set back 0 closed) ≡ ys
+        pub after-part : part c (set back 0 closed) ≡ ys
         after-part =
             ap (take (1 + run (c .tree))) (drop-set-lt (c .from) back 0 closed (omega (arith, can .here, can .after-own)))
             ∙ ap (λ (a : ℕ). take (1 + run (c .tree)) (drop a back)) (can .here)
@@ -168,6 +196,14 @@ module _ (reach runs stands tops : List ℕ) (k at : ℕ) (words : List ℕ) whe
           others = λ o l out. after-at o l ∙ back-others o out;
         }
 
+-- all are settled after a child's sweep where all were before, and the child is
+pub still-settled : {settled settled' child : Bool} {P Q : Type 0} → (P → settled' ≡ false) → (Q → (child ≡ true) × (settled' ≡ settled)) → P ⊎ Q
+    → settled' ≡ true → (child ≡ true) × (settled ≡ true)
+still-settled lost kept came e = ⊎-elim (λ p. absurd (never (sym e ∙ lost p))) (λ q. (kept q .0, sym (kept q .1) ∙ e)) came
+  where
+    never : true ≡ false → ⊥
+    never e = let z : _≡_ {A = ℕ} 0 1 = cc in omega arith
+
 -- there is room for the child piece whose run begins at `at`, in the tables and in the words, and its numbers are those of bits
 pub record Room (reach runs stands tops : List ℕ) (k at : ℕ) (words : List ℕ) : Type 0 where
   pub own-before : 0 < at
@@ -183,33 +219,80 @@ pub record Room (reach runs stands tops : List ℕ) (k at : ℕ) (words : List �
 
 module _ (reach runs stands tops : List ℕ) (k : ℕ) where
   -- a sweep is under way, whatever tree the tables speak of
-  pub record Sweeping (begun words : List ℕ) (at : ℕ) : Type 0 where
+  pub record Sweeping (begun words : List ℕ) (at waiting : ℕ) (settled : Bool) : Type 0 where
     pub same-length : length words ≡ length begun
-    pub each : (x : Nested ℕ) → Sweepable reach runs stands tops x k begun → Under-way reach runs stands tops x k begun words at
+    pub ahead : (o : ℕ) → at ≤ o → getD words o 0 ≡ getD begun o 0
+    pub each : (x : Nested ℕ) → Sweepable reach runs stands tops x k begun → Closes x (getD begun 0 0) (getD begun 0 0)
+        → Under-way reach runs stands tops x k begun words at waiting settled
 
   -- where it begins
-  pub sweeping-begins : (begun : List ℕ) → Sweeping begun begun 1
-  sweeping-begins begun = record { same-length = refl; each = λ x can. under-way reach runs stands tops x k begun can }
+  pub sweeping-begins : (begun : List ℕ) (settled : Bool) → Sweeping begun begun 1 0 settled
+  sweeping-begins begun settled = record {
+    same-length = refl;
+    ahead = λ o l. refl;
+    each = λ x can closed. under-way reach runs stands tops x k begun can closed settled;
+  }
 
-  module _ (begun words : List ℕ) (at : ℕ) (sweeping : Sweeping begun words at) (before-end : at < length words) where
+  -- ahead there are still only the marks that there were
+  pub quiet-ahead : (entry words : List ℕ) (closed at waiting : ℕ) (settled : Bool) → Sweeping (set entry 0 closed) words at waiting settled → (from to : ℕ) → Quiet k from to entry
+      → 0 < at → (o : ℕ) → at ≤ o → o < length words → (k + o < from) ⊎ (to ≤ k + o) → getD words o 0 ≡ 0
+  quiet-ahead entry words closed at waiting settled sweeping from to quiet after-own o l h out =
+      sweeping .ahead o l ∙ getD-set-other entry 0 o closed 0 (λ e. omega arith)
+      ∙ quiet o (omega arith) (omega (arith, sweeping .same-length, length-set entry 0 closed)) out
+
+  module _ (begun words : List ℕ) (at waiting : ℕ) (settled : Bool) (sweeping : Sweeping begun words at waiting settled) (before-end : at < length words) where
     -- before the end a child piece waits for its visit
-    pub waits : (x : Nested ℕ) → Sweepable reach runs stands tops x k begun → Waiting reach runs stands tops x k begun words at
-    waits x can = waiting reach runs stands tops x k begun can words at (sweeping .same-length) (sweeping .each x can) before-end
+    pub waits : (x : Nested ℕ) → Sweepable reach runs stands tops x k begun → Closes x (getD begun 0 0) (getD begun 0 0)
+        → Waiting reach runs stands tops x k begun words at waiting settled
+    waits x can closed = waiting-child reach runs stands tops x k begun can words at waiting settled (sweeping .same-length) (sweeping .each x can closed) before-end
+
+    -- what going through a child piece has to tell
+    pub record Went (after : List ℕ) (settled' : Bool) (x : Nested ℕ) (c : Child) : Type 0 where
+      pub visited : Visited x c words after
+      pub rests : settled' ≡ true → Settled (c .tree) (Holds (c .tree) (part c after))
+
+    -- a child piece at rest is passed over
+    pub passed-over : (from to : ℕ) → At-rest (getD words 0 0) (getD stands (k + at) 0) (k + at) (k + (at + getD runs (k + at) 0)) from to
+        → ((o : ℕ) → at ≤ o → o < length words → (k + o < from) ⊎ (to ≤ k + o) → getD words o 0 ≡ 0)
+        → (x : Nested ℕ) (c : Child) → Visitable reach runs stands tops x c k at words → Went words settled x c
+    passed-over from to rest quiet x c can = record {
+      visited = visited-at-rest can unmarked zeros;
+      rests = λ _. settled-at-rest can unmarked zeros;
+    }
+      where
+        unmarked : Bit (getD words 0 0) (c .stand) → ⊥
+        unmarked b = rest .unmarked (subst (Bit (getD words 0 0)) (sym (can .stood)) b)
+
+        zeros : (o : ℕ) → o < 1 + run (c .tree) → getD words (at + o) 0 ≡ 0
+        zeros o l = quiet (at + o) (omega arith) (omega (arith, can .room))
+            (⊎-elim (λ h. inl (omega (arith, can .laid .piece .ran))) (λ h. inr (omega arith)) (rest .elsewhere))
 
     -- after the visit the sweep is under way
-    pub sweeping-on : (after : List ℕ) → length after ≡ length words
-        → ((x : Nested ℕ) (c : Child) → Visitable reach runs stands tops x c k at words → Visited x c words after)
-        → Sweeping begun after (at + getD runs (k + at) 0)
-    sweeping-on after same visited = record {
-      same-length = same ∙ sweeping .same-length;
-      each = λ x can. let w = waits x can in
-          subst (λ (r : ℕ). Under-way reach runs stands tops x k begun after (at + r)) (sym (w .visitable .laid .piece .ran))
-          (w .goes-on after (visited x (w .child) (w .visitable)));
-    }
+    pub sweeping-on : (after : List ℕ) (waiting' : ℕ) (settled' : Bool) → (tree : Nested ℕ) → Sweepable reach runs stands tops tree k begun → Closes tree (getD begun 0 0) (getD begun 0 0)
+        → Missed (getD words 0 0) (getD stands (k + at) 0) waiting waiting' → (settled' ≡ true → settled ≡ true)
+        → ((x : Nested ℕ) (c : Child) → Visitable reach runs stands tops x c k at words → Went after settled' x c)
+        → Sweeping begun after (at + getD runs (k + at) 0) waiting' settled'
+    sweeping-on after waiting' settled' tree able shut missed rest went =
+        let here = waits tree able shut in
+        let seen = went tree (here .child) (here .visitable) .visited in
+        record {
+          same-length = seen .same-length ∙ sweeping .same-length;
+          ahead = λ o l. seen .others o (omega (arith, here .visitable .after-own)) (inr (omega (arith, here .visitable .here, here .visitable .laid .piece .ran)))
+              ∙ sweeping .ahead o (omega arith);
+          each = λ x can closed.
+              let w = waits x can closed in
+              let told = went x (w .child) (w .visitable) in
+              let missed' = subst (λ (s : ℕ). Missed (getD words 0 0) s waiting waiting') (w .visitable .stood) missed in
+              subst (λ (r : ℕ). Under-way reach runs stands tops x k begun after (at + r) waiting' settled') (sym (w .visitable .laid .piece .ran))
+              (w .goes-on after waiting' settled' (told .visited)
+              (further (w .visitable) after (told .visited) waiting waiting' missed' settled settled' rest)
+              (gone (w .visitable) after (told .visited) waiting waiting' missed' settled settled' (told .rests)));
+        }
 
     -- there is room for the child piece, in the tables and in the words
-    pub room-for : (x : Nested ℕ) → Sweepable reach runs stands tops x k begun → Sized reach runs stands tops k words → Room reach runs stands tops k at words
-    room-for x can sized = let w = waits x can in record {
+    pub room-for : (x : Nested ℕ) → Sweepable reach runs stands tops x k begun → Closes x (getD begun 0 0) (getD begun 0 0)
+        → Sized reach runs stands tops k words → Room reach runs stands tops k at words
+    room-for x can closed sized = let w = waits x can closed in record {
       own-before = w .visitable .after-own;
       child-counted = omega (arith, w .visitable .laid .piece .ran);
       child-within = omega (arith, w .visitable .laid .piece .ran, w .visitable .room);
@@ -222,19 +305,26 @@ module _ (reach runs stands tops : List ℕ) (k : ℕ) where
       top-small = omega (arith, w .visitable .laid .piece .topped, w .visitable .laid .narrow);
     }
 
-  module _ (entry : List ℕ) (closed : ℕ)
-      (closes : (x : Nested ℕ) → width x ≤ 62 → Reaches x (row reach k (width x)) → getD entry 0 0 < 2 ^ width x → Closes x (getD entry 0 0) closed)
+  module _ (entry : List ℕ) (closed : ℕ) (closes : Closes-from reach k (getD entry 0 0) 0 closed)
       (x : Nested ℕ) (can : Sweepable reach runs stands tops x k entry) where
     own-closed : Closes x (getD entry 0 0) closed
-    own-closed = closes x (can .laid .narrow) (can .laid .reaches) (can .clean .0)
+    own-closed = closes .closes x start (can .laid .narrow) (can .laid .reaches) (can .clean .0) tt refl (can .nearly)
 
     -- with the own word closed, the words are still a run to be swept
     pub begun-sweepable : Sweepable reach runs stands tops x k (set entry 0 closed)
     begun-sweepable = closed-sweepable reach runs stands tops x k entry closed can own-closed
 
+    pub own-begun : Closes x (getD (set entry 0 closed) 0 0) (getD (set entry 0 closed) 0 0)
+    own-begun = begun-closed reach runs stands tops x k entry closed can own-closed
+
     -- at the end the words are swept
-    pub sweep-done : (words : List ℕ) (at : ℕ) → Sweeping (set entry 0 closed) words at → length words ≤ at → Swept x entry words
-    sweep-done words at sweeping past = swept reach runs stands tops x k entry closed can own-closed words at (sweeping .each x begun-sweepable) past
+    module _ (words : List ℕ) (at waiting : ℕ) (settled : Bool) (sweeping : Sweeping (set entry 0 closed) words at waiting settled) (past : length words ≤ at) where
+      pub sweep-done : Swept x entry words
+      sweep-done = swept reach runs stands tops x k entry closed can own-closed words at waiting settled (sweeping .each x begun-sweepable own-begun) past
+
+      -- and settled, where no start waits that is marked now
+      pub sweep-settled : settled ≡ true → Apart (getD words 0 0) waiting → Settled x (Holds x words)
+      sweep-settled = all-settled reach runs stands tops x k (set entry 0 closed) begun-sweepable words at waiting settled (sweeping .each x begun-sweepable own-begun) past
 
   -- the tables have room for words as many as before
   pub sized-same : (before after : List ℕ) → length after ≡ length before → Sized reach runs stands tops k before → Sized reach runs stands tops k after

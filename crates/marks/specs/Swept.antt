@@ -6,14 +6,38 @@ use mathlib.Core.Logic.{_⊎_, _↔_}
 use mathlib.Core.List.{List, [], _∷_, _++_}
 use lib.ListN.{length, getD, take, drop, set}
 use lib.Bits.{bitOr}
-use Rattle.language.specs.Automaton.{State}
-use Rattle.language.specs.Nested.{Nested, leaf, catenation, union, star, below, Has, Sweep}
-use Rattle.tables.specs.Words.{width, run, Holds, Clean}
+use Rattle.language.specs.Automaton.{State, start, Empty, Path-of}
+use Rattle.language.specs.Nested.{Nested, leaf, catenation, union, star, below, own, Has, Sweep}
+use Rattle.tables.specs.Words.{Bit, width, run, Own, number, Holds, Clean}
 use Rattle.tables.specs.Plan.{Pieces, Piece-at, Children-at, row, Reaches, Each-below, Closes}
+use Rattle.marks.specs.EachClosed.{Each-closed, Each-closed-below}
 
 -- the word with bit `to` set where bit `from` of the other is
 unfoldable pub passed : (other from word to : ℕ) → ℕ
 passed other from word to = bitOr word (other / 2 ^ from % 2 * 2 ^ to)
+
+-- r is the word with bit i set where that of the other is not
+pub record Missed (other i word r : ℕ) : Type 0 where
+  pub all : (j : ℕ) → Bit word j → Bit r j
+  pub one : (Bit other i → ⊥) → Bit r i
+
+-- no bit is set in both words
+abbrev pub Apart : ℕ → ℕ → Type 0
+Apart one other = (i : ℕ) → Bit one i → Bit other i → ⊥
+
+-- the stand-in's start is not marked, and the words from `child` up to `end` are none of those from `from` up to `to`
+pub record At-rest (word stand child end from to : ℕ) : Type 0 where
+  pub unmarked : Bit word stand → ⊥
+  pub elsewhere : (end ≤ from) ⊎ (to ≤ child)
+
+-- the word of x's top piece is closed but for what the state s reaches: what a marked state reaches is marked, or s is marked and reaches it
+pub record Nearly-closed (x : Nested ℕ) (s : State) (w : ℕ) : Type 0 where
+  pub reached : (p q : State) → Own x p → Own x q → Bit w (number x p) → Path-of (Empty (own x)) p q
+      → Bit w (number x q) ⊎ (Bit w (number x s) × Path-of (Empty (own x)) s q)
+
+-- of the words of the pieces from k on, those below the first are 0 outside of `from` up to `to`
+abbrev pub Quiet : (k from to : ℕ) → List ℕ → Type 0
+Quiet k from to words = (o : ℕ) → 0 < o → o < length words → (k + o < from) ⊎ (to ≤ k + o) → getD words o 0 ≡ 0
 
 -- each child piece below x, and each below that, has at most 62 states
 abbrev pub Narrow-below : Nested ℕ → Type 0
@@ -38,11 +62,14 @@ module _ (reach runs stands tops : List ℕ) where
     pub narrow : width x ≤ 62
     pub narrow-below : Narrow-below x
 
-  -- the words are the run of x's pieces, the first of which is piece k of the tables, and no bit past a last state is set
+  -- the words are the run of x's pieces, the first of which is piece k of the tables; no bit past a last state is set, and each piece is
+  -- closed in itself but for the first, whose start may have been marked since
   pub record Sweepable (x : Nested ℕ) (k : ℕ) (words : List ℕ) : Type 0 where
     pub laid : Laid x k
     pub whole-run : length words ≡ 1 + run x
     pub clean : Clean x words
+    pub nearly : Nearly-closed x start (getD words 0 0)
+    pub closed-below : Each-closed-below x (drop 1 words)
 
   -- the tables have room for the pieces from k on, one for each word
   pub record Sized (k : ℕ) (words : List ℕ) : Type 0 where
@@ -52,16 +79,18 @@ module _ (reach runs stands tops : List ℕ) where
     pub tops-sized : length tops ≡ 128
     pub within : k + length words ≤ 128
 
-  -- there are pieces that the words are the run of
-  pub record Ready (k : ℕ) (words : List ℕ) : Type 0 where
+  -- there are pieces that the words are the run of, and marks below the first only from `from` up to `to`
+  pub record Ready (k from to : ℕ) (words : List ℕ) : Type 0 where
     pub sized : Sized k words
     pub tree : Nested ℕ
     pub sweepable : Sweepable tree k words
+    pub quiet : Quiet k from to words
 
--- what a sweep makes of the words of x's pieces: the marks that they hold then are those of the sweep
+-- what a sweep makes of the words of x's pieces: the marks that they hold then are those of the sweep, and each piece is closed in itself
 pub record Swept (x : Nested ℕ) (before after : List ℕ) : Type 0 where
   pub marks : (q : State) → Has x q → Holds x after q ↔ Sweep x (Holds x before) q
   pub clean : Clean x after
+  pub each-closed : Each-closed x after
 
 -- a child piece: the number of its stand-in's start in the parent, the place of its run in the parent's, and its tree
 pub record Child : Type 0 where

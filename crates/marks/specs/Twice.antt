@@ -3,15 +3,19 @@
 use Prim.Native.Nat.{ℕ, suc, _+_, _≤_}
 use native.Mathlib.Omega.{arith}
 use mathlib.Core.Path.{_≡_, refl, sym, _∙_, subst}
-use mathlib.Core.Logic.{_↔_, Iff·trans, Iff·symm}
+use mathlib.Core.Logic.{_↔_, ⊎-elim, Iff·trans, Iff·symm}
 use mathlib.Core.List.{List, _++_}
-use lib.ListN.{length, take, drop}
-use lib.Seq.{getD-take, length-take-le, take-at, drop-at, length-front}
-use Rattle.language.specs.Automaton.{State}
+use lib.ListN.{length, getD, take, drop}
+use lib.Seq.{getD-take, getD-drop, length-take-le, take-at, drop-at, length-front}
+use Rattle.language.specs.Automaton.{State, start}
 use Rattle.language.specs.Nested.{Nested, Has, Sweep}
+use Rattle.language.specs.Settled.{Settled}
 use Rattle.language.specs.Same.{Agree, sweep-same}
+use Rattle.language.specs.Unmoved.{settled-agree, sweep-settled}
 use Rattle.tables.specs.Words.{width, run, Holds, Clean}
-use Rattle.marks.specs.Swept.{Laid, Sweepable, Sized, Ready, Swept}
+use Rattle.marks.specs.EachClosed.{Each-closed-below, closed-below-same, closed-same}
+use Rattle.marks.specs.Swept.{Nearly-closed, Quiet, Laid, Sweepable, Sized, Ready, Swept}
+use Rattle.marks.specs.Reclosing.{closed-nearly}
 use Rattle.marks.specs.Sweeping.{sized-same}
 use Rattle.marks.specs.Spots.{Spot, own, under, spot, Held, holds-held, Within, spot-within, clean-words, below-power, bit-of}
 
@@ -33,18 +37,21 @@ front-clean x n words e = (
 )
 
 module _ (reach runs stands tops : List ℕ) (count : ℕ) where
-  -- the first words, one for each piece, hold marks of the tree that the tables speak of
+  -- the first words, one for each piece, hold marks of the tree that the tables speak of; each piece is closed in itself, but for the root's start
   pub record Run-of (x : Nested ℕ) (words : List ℕ) : Type 0 where
     pub laid : Laid reach runs stands tops x 0
     pub counted : count ≡ 1 + run x
     pub clean : Clean x words
+    pub nearly : Nearly-closed x start (getD words 0 0)
+    pub closed-below : Each-closed-below x (drop 1 words)
 
-  -- the tables have room for each piece that there may be, and the words are enough
-  pub record Closable (words : List ℕ) : Type 0 where
+  -- the tables have room for each piece that there may be, the words are enough, and below the first of them there are marks only from `from` up to `to`
+  pub record Closable (from to : ℕ) (words : List ℕ) : Type 0 where
     pub sized : Sized reach runs stands tops 0 (take count words)
     pub enough : count ≤ length words
     pub tree : Nested ℕ
     pub on-run : Run-of tree words
+    pub quiet : Quiet 0 from to (take count words)
 
   -- what two sweeps make of the words
   pub record Closed-twice (before after : List ℕ) : Type 0 where
@@ -59,6 +66,9 @@ module _ (reach runs stands tops : List ℕ) (count : ℕ) where
       laid = on .laid;
       whole-run = length-take-le count words enough ∙ on .counted;
       clean = front-clean x count words (on .counted) .1 (on .clean);
+      nearly = subst (Nearly-closed x start) (sym (getD-take count words 0 0 (omega (arith, on .counted)))) (on .nearly);
+      closed-below = closed-below-same x (drop 1 words) (drop 1 (take count words))
+          (λ o l. getD-drop 1 words o 0 ∙ sym (getD-take count words (1 + o) 0 (omega (arith, on .counted))) ∙ sym (getD-drop 1 (take count words) o 0)) (on .closed-below);
     }
 
     module _ (ys : List ℕ) (same : length ys ≡ length (take count words))
@@ -87,20 +97,33 @@ module _ (reach runs stands tops : List ℕ) (count : ℕ) where
             marks = λ q h. Iff·trans (Iff·symm (front-holds x count after (on .counted) q h))
                 (Iff·trans (done .marks q h) (sweep-same x (front-holds x count words (on .counted)) q h));
             clean = front-clean x count after (on .counted) .0 (done .clean);
+            each-closed = closed-same x (take count after) after (λ o l. getD-take count after o 0 (omega (arith, on .counted))) (done .each-closed);
           }
 
       -- and a run again
       pub after-run : (x : Nested ℕ) → Run-of x words → Run-of x after
-      after-run x on = record { laid = on .laid; counted = on .counted; clean = after-swept x on .clean }
+      after-run x on = let done = after-swept x on in record {
+        laid = on .laid;
+        counted = on .counted;
+        clean = done .clean;
+        nearly = closed-nearly (done .each-closed .0);
+        closed-below = done .each-closed .1;
+      }
+
+      -- and settled, where the first words are
+      pub after-settled : (x : Nested ℕ) → Run-of x words → Settled x (Holds x ys) → Settled x (Holds x after)
+      after-settled x on settled =
+          settled-agree x (front-holds x count after (on .counted)) (subst (λ (l : List ℕ). Settled x (Holds x l)) (sym front) settled)
 
   -- the first words are ready to be swept
-  pub run-ready : (words : List ℕ) → Closable words → Ready reach runs stands tops 0 (take count words)
-  run-ready words can = record { sized = can .sized; tree = can .tree; sweepable = run-sweepable words (can .enough) (can .tree) (can .on-run) }
+  pub run-ready : (from to : ℕ) (words : List ℕ) → Closable from to words → Ready reach runs stands tops 0 from to (take count words)
+  run-ready from to words can =
+      record { sized = can .sized; tree = can .tree; sweepable = run-sweepable words (can .enough) (can .tree) (can .on-run); quiet = can .quiet }
 
-  module _ (words ys : List ℕ) (can : Closable words) (same : length ys ≡ length (take count words))
+  module _ (from to : ℕ) (words ys : List ℕ) (can : Closable from to words) (same : length ys ≡ length (take count words))
       (swept : (x : Nested ℕ) → Sweepable reach runs stands tops x 0 (take count words) → Swept x (take count words) ys) where
     -- once swept, the words can be swept again
-    pub closable-again : Closable (ys ++ drop count words)
+    pub closable-again : Closable 0 count (ys ++ drop count words)
     closable-again = record {
       sized = sized-same reach runs stands tops 0 (take count words) (take count (ys ++ drop count words))
           (length-take-le count (ys ++ drop count words) (omega (arith, can .enough, after-length words (can .enough) ys same swept)) ∙ sym (length-take-le count words (can .enough)))
@@ -108,7 +131,21 @@ module _ (reach runs stands tops : List ℕ) (count : ℕ) where
       enough = omega (arith, can .enough, after-length words (can .enough) ys same swept);
       tree = can .tree;
       on-run = after-run words (can .enough) ys same swept (can .tree) (can .on-run);
+      quiet = λ o l h out. absurd (⊎-elim (λ g. omega arith)
+          (λ g. omega (arith, length-take-le count (ys ++ drop count words) (omega (arith, can .enough, after-length words (can .enough) ys same swept)))) out);
     }
+
+    -- where one sweep settles the words, a second would change nothing
+    pub closed-once : ((x : Nested ℕ) → Sweepable reach runs stands tops x 0 (take count words) → Settled x (Holds x ys)) → Closed-twice words (ys ++ drop count words)
+    closed-once settled = record {
+      marks = λ x on q h. Iff·trans (Iff·symm (sweep-settled x (Holds x (ys ++ drop count words)) (rests x on) q))
+          (sweep-same x (after-swept words (can .enough) ys same swept x on .marks) q h);
+      clean = λ x on. after-swept words (can .enough) ys same swept x on .clean;
+      others = after-others words (can .enough) ys same swept;
+    }
+      where
+        rests : (x : Nested ℕ) → Run-of x words → Settled x (Holds x (ys ++ drop count words))
+        rests x on = after-settled words (can .enough) ys same swept x on (settled x (run-sweepable words (can .enough) x on))
 
     -- twice swept, the words are closed
     pub closed-twice : (zs : List ℕ) → length zs ≡ length (take count (ys ++ drop count words))

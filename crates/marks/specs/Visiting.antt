@@ -114,7 +114,7 @@ module _ (x : Nested ℕ) (e : State → State) (c : Child) (n : ℕ) (place : P
       (Iff·symm (holds-held (c .tree) (part c words) p h))))
 
   -- a state of the stand-in is marked exactly when its bit is set
-  stand-holds : (words : List ℕ) (q : State) (b : ℕ) → Has (below (c .tree)) q → spot (below (c .tree)) q ≡ own b → Holds x words (e q) ↔ Bit (getD words 0 0) (c .stand + b)
+  pub stand-holds : (words : List ℕ) (q : State) (b : ℕ) → Has (below (c .tree)) q → spot (below (c .tree)) q ≡ own b → Holds x words (e q) ↔ Bit (getD words 0 0) (c .stand + b)
   stand-holds words q b h at =
       Iff·trans (holds-held x words (e q) (place .has q .1 h)) (held-at words (place .spots q h ∙ ap (shift (c .stand) n) at))
 

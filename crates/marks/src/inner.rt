@@ -4,10 +4,10 @@ use crate::moves::move_all;
 use crate::reach::close_all;
 use crate::sweep::close_twice;
 use tables::plan::plan;
-ghost use Prim.Native.Nat.{ℕ, _≤_};
+ghost use Prim.Native.Nat.{ℕ, _≤_, _<_};
 ghost use mathlib.Core.Path.{_≡_};
 ghost use mathlib.Core.List.{_++_};
-ghost use lib.ListN.{length, take, drop};
+ghost use lib.ListN.{length, getD, take, drop};
 ghost use Rattle.language.specs.Tree.{Tree};
 ghost use Rattle.tree.specs.Records.{Good};
 ghost use Rattle.marks.specs.Bits.{Told};
@@ -64,10 +64,40 @@ pub fn begin(
 {
     let mut marks = [0u64; 128];
     marks[0] = 1;
-    close_twice(reach, runs, stands, tops, count, &mut marks);
+    close_twice(reach, runs, stands, tops, count, 0, 0, &mut marks);
     copy(&marks, count, words);
     let top = tops[0] as usize;
     has_bit(words[0], top)
+}
+
+// The first of the words that has a mark, or `count`.
+fn marked_from(words: &[u64], count: usize) -> usize
+    requires { ⌜ count ≤ length (now words) ⌝ }
+    ensures { λ r. ⌜ ((o : ℕ) → o < r → getD (now (words .entry)) o 0 ≡ 0) ⌝ }
+{
+    let mut i = 0;
+    while i < count {
+        if words[i] != 0 {
+            return i;
+        }
+        i += 1;
+    }
+    count
+}
+
+// One more than the last of the words that has a mark, or 0.
+fn marked_to(words: &[u64], count: usize) -> usize
+    requires { ⌜ count ≤ length (now words) ⌝ }
+    ensures { λ r. ⌜ ((o : ℕ) → r ≤ o → o < count → getD (now (words .entry)) o 0 ≡ 0) ⌝ }
+{
+    let mut i = count;
+    while 0 < i {
+        if words[i - 1] != 0 {
+            return i;
+        }
+        i -= 1;
+    }
+    0
 }
 
 // Moves the marks along the byte and closes. Answers whether the root's accepting state is now marked.
@@ -85,7 +115,9 @@ pub fn advance(
     ensures { λ r. ⌜ ((t : Tree ℕ) → Prepared t (now (reach .entry)) (now (labels .entry)) (now (runs .entry)) (now (stands .entry)) (now (tops .entry)) count → Marks-of t (now (words .entry)) → Advanced t byte (now (words .entry)) (now (words .exit)) r) ⌝ }
 {
     move_all(reach, labels, words, byte, count);
-    close_twice(reach, runs, stands, tops, count, words);
+    let from = marked_from(words, count);
+    let to = marked_to(words, count);
+    close_twice(reach, runs, stands, tops, count, from, to, words);
     let top = tops[0] as usize;
     has_bit(words[0], top)
 }

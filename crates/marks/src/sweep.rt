@@ -1,9 +1,16 @@
 // A sweep: the piece itself is closed, and its child pieces are gone through from left to right.
-use crate::close::close;
+use crate::bits::has_bit;
+use crate::bits::with_bit;
 ghost use mathlib.Core.Path.{_≡_};
-ghost use Prim.Native.Nat.{ℕ, _<_};
+ghost use mathlib.Core.Bool.{true};
+ghost use Prim.Native.Nat.{ℕ, _+_, _*_, _≤_, _<_};
+ghost use lib.ListN.{length};
 ghost use Rattle.language.specs.Nested.{Nested};
-ghost use Rattle.marks.specs.Swept.{passed, Ready, Sweepable, Swept};
+ghost use Rattle.language.specs.Settled.{Settled};
+ghost use Rattle.tables.specs.Words.{Bit, Holds};
+ghost use Rattle.marks.specs.Bits.{Told};
+ghost use Rattle.marks.specs.Swept.{passed, Ready, Sweepable, Swept, At-rest, Missed, Apart};
+ghost use Rattle.marks.specs.Reclosing.{Closes-from};
 ghost use Rattle.marks.specs.Twice.{Closable, Closed-twice};
 
 // The word with bit `to` set where bit `from` of the other is.
@@ -14,46 +21,109 @@ fn pass(other: u64, from: usize, word: u64, to: usize) -> u64
     word | (((other >> from) & 1) << to)
 }
 
+// The word of a piece, closed: it was closed but for what one state reaches, so the row of that state is all there is to join.
+fn close_from(reach: &[u64], piece: usize, word: u64, state: usize) -> u64
+    requires { ⌜ (64 * piece + 64 ≤ length (now reach)) × (state < 64) ⌝ }
+    ensures { λ r. ⌜ Closes-from (now (reach .entry)) piece word state r ⌝ }
+{
+    if has_bit(word, state) {
+        word | reach[64 * piece + state]
+    } else {
+        word
+    }
+}
+
+// The word with bit i set where that of the other is not.
+fn missed(other: u64, i: usize, word: u64) -> u64
+    requires { ⌜ i < 64 ⌝ }
+    ensures { λ r. ⌜ Missed other i word r ⌝ }
+{
+    if has_bit(other, i) {
+        word
+    } else {
+        with_bit(word, i)
+    }
+}
+
+// Whether no bit is set in both words.
+fn apart(one: u64, other: u64) -> bool
+    ensures { λ r. ⌜ (r ≡ true → Apart one other) ⌝ }
+{
+    one & other == 0
+}
+
+// Whether a child piece with the words up to `end` has nothing to do: its stand-in's start is not marked, and no mark is among its words.
+fn at_rest(word: u64, stand: usize, child: usize, end: usize, from: usize, to: usize) -> bool
+    requires { ⌜ stand < 64 ⌝ }
+    ensures { λ r. ⌜ (r ≡ true → At-rest word stand child end from to) ⌝ }
+{
+    if has_bit(word, stand) {
+        return false;
+    }
+    if child < to {
+        return end <= from;
+    }
+    true
+}
+
 // Sweeps the run of the piece: closes the piece itself, then goes through its child pieces from left to right, whose runs stand one after the
 // other behind its own word. A marked start is passed down, the child is swept, a marked accepting state is passed up, and the piece is closed again.
+// Marks of the child pieces are among the words `from` to `to` only, counted from piece 0: a run with none of them is passed over if its start is
+// not marked. Answers whether all starts were marked in time, so that another sweep would change nothing.
 pub fn sweep(
     reach: &[u64],
     runs: &[u8],
     stands: &[u8],
     tops: &[u8],
     piece: usize,
+    from: usize,
+    to: usize,
     words: &mut [u64],
-)
-    requires { ⌜ Ready (now reach) (now runs) (now stands) (now tops) piece (now words) ⌝ }
-    ensures { λ _. ⌜ ((x : Nested ℕ) → Sweepable (now (reach .entry)) (now (runs .entry)) (now (stands .entry)) (now (tops .entry)) x piece (now (words .entry)) → Swept x (now (words .entry)) (now (words .exit))) ⌝ }
+) -> bool
+    requires { ⌜ Ready (now reach) (now runs) (now stands) (now tops) piece from to (now words) ⌝ }
+    ensures { λ r. ⌜ ((x : Nested ℕ) → Sweepable (now (reach .entry)) (now (runs .entry)) (now (stands .entry)) (now (tops .entry)) x piece (now (words .entry)) → Swept x (now (words .entry)) (now (words .exit))) ⌝ }
+    ensures { λ r. ⌜ ((x : Nested ℕ) → Sweepable (now (reach .entry)) (now (runs .entry)) (now (stands .entry)) (now (tops .entry)) x piece (now (words .entry)) → r ≡ true → Settled x (Holds x (now (words .exit)))) ⌝ }
 {
-    words[0] = close(reach, piece, words[0]);
+    words[0] = close_from(reach, piece, words[0], 0);
+    let mut settled = true;
+    let mut waiting: u64 = 0;
     let mut at = 1;
     while at < words.len() {
         let child = piece + at;
         let stand = stands[child] as usize;
-        let top = tops[child] as usize;
         let next = at + runs[child] as usize;
-        words[at] = pass(words[0], stand, words[at], 0);
-        sweep(reach, runs, stands, tops, child, &mut words[at..next]);
-        let raised = pass(words[at], top, words[0], stand + 1);
-        words[0] = close(reach, piece, raised);
+        waiting = missed(words[0], stand, waiting);
+        if !at_rest(words[0], stand, child, piece + next, from, to) {
+            let top = tops[child] as usize;
+            words[at] = pass(words[0], stand, words[at], 0);
+            if !sweep(reach, runs, stands, tops, child, from, to, &mut words[at..next]) {
+                settled = false;
+            }
+            let raised = pass(words[at], top, words[0], stand + 1);
+            words[0] = close_from(reach, piece, raised, stand + 1);
+        }
         at = next;
     }
+    settled && apart(words[0], waiting)
 }
 
 // Closes the set of marks by two sweeps. The first `count` words are used, one for each piece.
+// The second sweep is left out where the first says that it would change nothing.
 pub fn close_twice(
     reach: &[u64],
     runs: &[u8],
     stands: &[u8],
     tops: &[u8],
     count: usize,
+    from: usize,
+    to: usize,
     words: &mut [u64],
 )
-    requires { ⌜ Closable (now reach) (now runs) (now stands) (now tops) count (now words) ⌝ }
+    requires { ⌜ Closable (now reach) (now runs) (now stands) (now tops) count from to (now words) ⌝ }
     ensures { λ _. ⌜ Closed-twice (now (reach .entry)) (now (runs .entry)) (now (stands .entry)) (now (tops .entry)) count (now (words .entry)) (now (words .exit)) ⌝ }
 {
-    sweep(reach, runs, stands, tops, 0, &mut words[..count]);
-    sweep(reach, runs, stands, tops, 0, &mut words[..count]);
+    if sweep(reach, runs, stands, tops, 0, from, to, &mut words[..count]) {
+        return;
+    }
+    sweep(reach, runs, stands, tops, 0, 0, count, &mut words[..count]);
 }

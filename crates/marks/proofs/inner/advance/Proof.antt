@@ -15,9 +15,17 @@ use Rattle.marks.proofs.sweep.close_twice.Reads as close-twice-reads
 move-all-requires : tie.Need-move-all-requires
 move-all-requires c κs = search needs
 
--- src/inner.rt:88:5
+-- src/inner.rt:118:16
+marked-from-requires : tie.Need-marked-from-requires
+marked-from-requires c κs = search needs
+
+-- src/inner.rt:119:14
+marked-to-requires : tie.Need-marked-to-requires
+marked-to-requires c κs = search needs
+
+-- src/inner.rt:120:5
 close-twice-requires : tie.Need-close-twice-requires
-close-twice-requires c κs = moved-closable (c .before .before .before .before .before .before .before .before .before .before .before .pre) (c .before .before .before .move-all .ensures)
+close-twice-requires c κs = moved-closable (c .before .before .before .before .before .before .before .before .before .before .before .before .before .before .before .pre) (c .before .before .before .before .before .before .before .move-all .ensures) (c .before .before .before .marked-from .ensures) (c .before .marked-to .ensures)
 
 -- src/inner.rt:89:15
 shared-slice-read-top : tie.Need-shared-slice-read-top
@@ -33,7 +41,7 @@ slice-read-has-bit c = search needs
 
 -- src/inner.rt:90:5
 has-bit-requires : tie.Need-has-bit-requires
-has-bit-requires c κs = top-low (c .before .before .before .before .before .before .before .before .before .before .before .before .before .before .before .before .pre .ready .of-tree .1)
+has-bit-requires c κs = top-low (c .before .before .before .before .before .before .before .before .before .before .before .before .before .before .before .before .before .before .before .before .pre .ready .of-tree .1)
 
 -- src/inner.rt:74:1
 same-length : tie.Need-same-length
@@ -42,13 +50,15 @@ same-length c = search needs
 -- src/inner.rt:74:1
 returns : tie.Need-returns
 returns c = λ t prepared marks.
-    advanced prepared _ _ _ _ _ marks (c .before .before .before .before .before .before .before .before .before .move-all .ensures) (c .before .before .before .before .before .close-twice .ensures) (c .before .before .before .before .before .close-twice .kept .1 .1 .1 .1 .1 .0) (c .has-bit .ensures)
+    advanced prepared _ _ _ _ _ marks (c .before .before .before .before .before .before .before .before .before .before .before .before .before .move-all .ensures) (c .before .before .before .before .before .close-twice .ensures) (c .before .before .before .before .before .close-twice .kept .1 .1 .1 .1 .1 .1 .1 .0) (c .has-bit .ensures)
 
 pub advance-spec : {M : Type 1} → statement M
 advance-spec =
     tie.close
     (tie.spec
     move-all-requires
+    marked-from-requires
+    marked-to-requires
     close-twice-requires
     shared-slice-read-top
     cast-top

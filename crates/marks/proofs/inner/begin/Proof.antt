@@ -56,7 +56,7 @@ same-length c = search needs
 returns : tie.Need-returns
 returns c = λ t prepared.
     begun prepared begins _ _ _ _ (begins-marked (cut-up t)) (c .before .before .before .before .before .before .before .before .before .close-twice .ensures)
-    (omega (arith, c .before .before .before .before .before .before .before .before .before .close-twice .kept .1 .1 .1 .1 .1 .0, prepared .counted, prepared .few)) (c .before .before .before .before .before .before .before .before .before .before .before .before .before .before .before .before .before .pre .1) (c .before .before .before .before .before .copy .ensures) (c .has-bit .ensures)
+    (omega (arith, c .before .before .before .before .before .before .before .before .before .close-twice .kept .1 .1 .1 .1 .1 .1 .1 .0, prepared .counted, prepared .few)) (c .before .before .before .before .before .before .before .before .before .before .before .before .before .before .before .before .before .pre .1) (c .before .before .before .before .before .copy .ensures) (c .has-bit .ensures)
 
 pub begin-spec : {M : Type 1} → statement M
 begin-spec =

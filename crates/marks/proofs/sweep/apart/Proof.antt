@@ -1,0 +1,11 @@
+-- `marks::sweep::apart` meets its contract: words whose common bits are none have no bit in common. Assumes nothing.
+use borrow.Author.Tests.{eqb-true}
+use Rattle.marks.specs.Bits.{none-common}
+use Rattle.marks.proofs.sweep.apart.Statement.{statement}
+use Rattle.marks.proofs.sweep.apart.Tie as tie
+
+returns : tie.Need-returns
+returns c = λ e. none-common _ _ (eqb-true _ _ e)
+
+pub apart-spec : {M : Type 1} → statement M
+apart-spec = tie.close (tie.spec returns)
