@@ -2,7 +2,7 @@
 -- Nothing else of words is used.
 -- Assumes nothing.
 use Prim.Native.Nat.{ℕ, zero, suc, _+_, _*_, _/_, _%_, _^_, _≤_, _<_, min, max}
-use mathlib.Core.Path.{_≡_, refl, sym, ap, ap₂, _∙_, subst}
+use mathlib.Core.Path.{_≡_, refl, sym, ap, _∙_, subst}
 use mathlib.Core.Logic.{_⊎_, inl, inr, _↔_, ⊎-elim}
 use mathlib.Core.Bool.{Bool, true, false}
 use native.Mathlib.Nat.{zero-div, div-eq-of-lt, mod-lt, pow-suc, one-mul, lt-of-lt-of-le}
@@ -46,6 +46,18 @@ bit-or a b i = (
   where
     joined : bitOr a b / 2 ^ i % 2 ≡ max (a / 2 ^ i % 2) (b / 2 ^ i % 2)
     joined = ap (λ (n : ℕ). n % 2) (or-shr a b i) ∙ parity-or (a / 2 ^ i) (b / 2 ^ i)
+
+-- a bit of what two words have in common is a bit of both
+pub bit-and : (a b i : ℕ) → Bit (bitAnd a b) i ↔ (Bit a i × Bit b i)
+bit-and a b i = (
+  λ h. (omega (arith, common, h), omega (arith, common, h)),
+  λ h. omega (arith, common, h .0, h .1),
+)
+  where
+    common : bitAnd a b / 2 ^ i % 2 ≡ min (a / 2 ^ i % 2) (b / 2 ^ i % 2)
+    common =
+        ap (λ (n : ℕ). n % 2) (and-shr a b i ∙ and-step (a / 2 ^ i) (b / 2 ^ i))
+        ∙ digits-mod (bitAnd (a / 2 ^ i / 2) (b / 2 ^ i / 2)) (omega arith)
 
 -- shifted by n or more, nothing is left of a word below 2 ^ n
 pub nothing-left : {w n i : ℕ} → w < 2 ^ n → n ≤ i → w / 2 ^ i ≡ 0
@@ -139,11 +151,6 @@ told-no h = record { holds = λ e. absurd (let z : _≡_ {A = ℕ} 0 1 = cc in o
 pub told-yes : {P : Type 0} → P → Told P true
 told-yes p = record { holds = λ _. p; fails = λ e. absurd (let z : _≡_ {A = ℕ} 0 1 = cc in omega arith) }
 
--- words of which no bit is left in common have none
+-- words whose meet is 0 have no bit in common
 pub none-common : (a b : ℕ) → bitAnd a b ≡ 0 → (i : ℕ) → Bit a i → Bit b i → ⊥
-none-common a b none i c d =
-    let shifted : bitAnd a b / 2 ^ i ≡ bitAnd (a / 2 ^ i / 2) (b / 2 ^ i / 2) * 2 + 1 =
-    and-shr a b i ∙ and-step (a / 2 ^ i) (b / 2 ^ i) ∙ ap₂ (λ (m n : ℕ). bitAnd (a / 2 ^ i / 2) (b / 2 ^ i / 2) * 2 + min m n) c d
-    in
-    let empty : bitAnd a b / 2 ^ i ≡ 0 = ap (λ (n : ℕ). n / 2 ^ i) none ∙ zero-div (2 ^ i) in
-    omega arith
+none-common a b none i c d = bit-zero i (subst (λ (w : ℕ). Bit w i) none (bit-and a b i .1 (c, d)))

@@ -32,6 +32,7 @@ use Rattle.marks.specs.Reclosing.{closed-nearly}
 use Rattle.tables.specs.Given
 use Rattle.tables.specs.Given.{width-own}
 use Rattle.marks.specs.Table.{Closed-all}
+use Rattle.marks.specs.Leaves.{Leaves-noted, kept-each}
 use Rattle.marks.specs.Low.{low-tops, checkable}
 use Rattle.marks.specs.Checked.{Checkable}
 use Rattle.marks.specs.MovedClosed.{Moved-closed, moved-length, moved-others, moved-keeps, moved-within, moved-each-closed, moved-clean}
@@ -271,12 +272,14 @@ start-closable {count = count} ready =
     later zero l = absurd (omega arith)
     later (suc o) l = zeros 127 o
 
--- the tables that were made are those of t, once the table of the empty transitions is closed
-pub prepared-of : {list nexts reach labels runs stands tops : List ℕ} {count : ℕ} (t : Tree ℕ) → Good list t → Given.Laid t nexts labels runs stands tops count
-    → Closed-all tops nexts reach count → Prepared t reach labels runs stands tops count
-prepared-of t good made closed = record {
+-- the tables that were made are those of t, once the table of the empty transitions is closed and the leaves are noted
+pub prepared-of : {list nexts closed reach labels runs stands tops : List ℕ} {count : ℕ} (t : Tree ℕ) → Good list t → Given.Laid t nexts labels runs stands tops count
+    → Closed-all tops nexts closed count → Leaves-noted labels closed reach count → Prepared t reach labels runs stands tops count
+prepared-of t good made closes notes = record {
   planned = made .planned;
-  reached = closed .reached (record { labels = _; runs = _; stands = _; tops = _ }) (cut-up t) refl (made .planned) (omega (arith, made .counted, all-words t)) (made .words);
+  reached = kept-each notes (cut-up t) (narrow t) (all-narrow t)
+      (closes .reached (record { labels = _; runs = _; stands = _; tops = _ }) (cut-up t) refl (made .planned) (omega (arith, made .counted, all-words t)) (made .words));
+  noted = notes .noted;
   counted = made .counted;
   few = good .few;
 }

@@ -30,6 +30,7 @@ pub mod Sweeping
 pub mod Twice
 pub mod Simulated
 pub mod Moved
+pub mod Leaves
 pub mod ClosedWords
 pub mod MovedClosed
 pub mod Parents

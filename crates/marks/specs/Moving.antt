@@ -14,7 +14,8 @@ use Rattle.language.specs.Automaton.{State, Reads}
 use Rattle.language.specs.Nested.{Nested, own}
 use Rattle.tables.specs.Words.{Bit, width, Own, number}
 use Rattle.tables.specs.Plan.{row, takes, Is-own, Moves}
-use Rattle.marks.specs.Bits.{bit-zero, bit-with, bit-below, bit-low, bit-suc, below-of-bits}
+use Rattle.tables.specs.Tables.{Noted}
+use Rattle.marks.specs.Bits.{bit-zero, bit-and, bit-with, bit-below, bit-low, bit-suc, below-of-bits}
 use Rattle.marks.specs.LowestBit.{Lowest}
 use Rattle.marks.specs.Numbers.{number-below, number-onto, number-injective}
 use Rattle.marks.specs.Rows.{row-at}
@@ -63,6 +64,21 @@ module _ {labels : List ℕ} {base label w rest r s : ℕ} (so-far : Picked labe
     );
   }
 
+-- where the picked ones are those among the leaves, they are those of the whole word: a state with the label of a byte is a leaf
+picked-leaves : (reach labels : List ℕ) (k b w : ℕ) {rest r : ℕ} → Noted reach labels k → w < 2 ^ 62 → rest ≡ 0
+    → Picked labels (64 * k) (b + 1) (bitAnd w (getD reach (64 * k + 63) 0)) rest r → Picked labels (64 * k) (b + 1) w 0 r
+picked-leaves reach labels k b w noted small nothing picked = record {
+  among = λ i c. absurd (bit-zero i c);
+  exactly = λ j. (
+    λ c. let (m, _, at) = picked .exactly j .0 c in (bit-and w (getD reach (64 * k + 63) 0) j .0 m .0, bit-zero j, at),
+    λ (m, _, at). picked .exactly j .1 (
+      bit-and w (getD reach (64 * k + 63) 0) j .1 (m, noted .leaves j (bit-below small m) (λ none. omega (arith, at, none))),
+      λ l. bit-zero j (subst (λ (v : ℕ). Bit v j) nothing l),
+      at,
+    ),
+  );
+}
+
 -- a word one place up
 bit-up : (w j : ℕ) → Bit (w * 2) (suc j) ↔ Bit w j
 bit-up w j =
@@ -99,9 +115,9 @@ comes-to {x} {b} q o m = (
 )
 
 -- the picked bits, one place up, are the word moved
-pub moves-by-picking : (labels : List ℕ) (piece b w rest r : ℕ) (x : Nested ℕ) → width x ≤ 62 → row labels piece (width x) ≡ takes x → w < 2 ^ width x
-    → rest ≡ 0 → Picked labels (64 * piece) (b + 1) w rest r → Moves x b w (r * 2 % 2 ^ 64)
-moves-by-picking labels piece b w rest r x narrow labelled small nothing picked =
+moves-by-picking : (labels : List ℕ) (piece b w r : ℕ) (x : Nested ℕ) → width x ≤ 62 → row labels piece (width x) ≡ takes x → w < 2 ^ width x
+    → Picked labels (64 * piece) (b + 1) w 0 r → Moves x b w (r * 2 % 2 ^ 64)
+moves-by-picking labels piece b w r x narrow labelled small picked =
     subst (λ (v : ℕ). Moves x b w v) (sym (mod-eq-of-lt fits)) record {
       exactly = λ q o. (λ c. comes-to q o (up (number x q) c), forth q o);
       clean = below-of-bits (width x) (r * 2) (λ j c. comes-below (up j c));
@@ -138,6 +154,13 @@ moves-by-picking labels piece b w rest r x narrow labelled small nothing picked 
         subst (λ (i : ℕ). Bit (r * 2) i) (omega (arith, s .next))
         (bit-up r (number x (m .0)) .1 (picked .exactly (number x (m .0)) .1 (
           m .2,
-          λ l. bit-zero (number x (m .0)) (subst (λ (v : ℕ). Bit v (number x (m .0))) nothing l),
+          bit-zero (number x (m .0)),
           sym (label-at (m .0) (number x (m .0)) refl (number-below x (m .0) (m .1))) ∙ s .label,
         )))
+
+-- so are those among the leaves
+pub moves-by-leaves : (reach labels : List ℕ) (piece b w rest r : ℕ) → Noted reach labels piece → rest ≡ 0
+    → Picked labels (64 * piece) (b + 1) (bitAnd w (getD reach (64 * piece + 63) 0)) rest r
+    → (x : Nested ℕ) → width x ≤ 62 → row labels piece (width x) ≡ takes x → w < 2 ^ width x → Moves x b w (r * 2 % 2 ^ 64)
+moves-by-leaves reach labels piece b w rest r noted nothing picked x narrow labelled small =
+    moves-by-picking labels piece b w r x narrow labelled small (picked-leaves reach labels piece b w noted (lt-of-lt-of-le small (pow-mono narrow)) nothing picked)

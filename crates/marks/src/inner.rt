@@ -1,5 +1,6 @@
 // The layer inside, for those who run many bytes or many texts over one list: its tables are made once.
 use crate::bits::has_bit;
+use crate::leaves::note_leaves;
 use crate::moves::move_all;
 use crate::reach::close_all;
 use crate::sweep::close_twice;
@@ -33,6 +34,7 @@ pub fn prepare(
 {
     let count = plan(list, reach, labels, runs, stands, tops);
     close_all(reach, tops, count);
+    note_leaves(reach, labels, count);
     count
 }
 

@@ -3,6 +3,7 @@ pub mod agree;
 pub mod bits;
 pub mod close;
 pub mod inner;
+pub mod leaves;
 pub mod moves;
 pub mod reach;
 pub mod sweep;

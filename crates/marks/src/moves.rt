@@ -8,16 +8,18 @@ ghost use lib.ListN.{length};
 ghost use Rattle.language.specs.Nested.{Nested};
 ghost use Rattle.tables.specs.Words.{width};
 ghost use Rattle.tables.specs.Plan.{row, takes, Moves};
+ghost use Rattle.tables.specs.Tables.{Noted};
 ghost use Rattle.marks.specs.MovedClosed.{Moved-closed};
 
-// The word of a piece, moved along the byte: a state that takes it has the label one above it, and leads to the next state.
-pub fn moved(labels: &[u16], piece: usize, word: u64, byte: u8) -> u64
-    requires { ⌜ 64 * piece + 64 ≤ length (now labels) ⌝ }
+// The word of a piece, moved along the byte: a state that takes it has the label one above it, and leads to the next state. Only leaves are
+// looked at.
+pub fn moved(reach: &[u64], labels: &[u16], piece: usize, word: u64, byte: u8) -> u64
+    requires { ⌜ (64 * piece + 64 ≤ length (now reach)) × (64 * piece + 64 ≤ length (now labels)) × Noted (now reach) (now labels) piece ⌝ }
     ensures { λ r. ⌜ ((x : Nested ℕ) → width x ≤ 62 → row (now (labels .entry)) piece (width x) ≡ takes x → word < 2 ^ width x → Moves x byte word r) ⌝ }
 {
     let base = 64 * piece;
     let label = byte as u16 + 1;
-    let mut rest = word;
+    let mut rest = word & reach[base + 63];
     let mut picked: u64 = 0;
     while rest != 0 {
         let state = lowest(rest);
@@ -32,11 +34,12 @@ pub fn moved(labels: &[u16], piece: usize, word: u64, byte: u8) -> u64
 // Moves the words of all pieces along the byte, and closes each piece in itself. A word of no marks is passed at once.
 pub fn move_all(reach: &[u64], labels: &[u16], words: &mut [u64], byte: u8, pieces: usize)
     requires { ⌜ (64 * pieces ≤ length (now reach)) × (64 * pieces ≤ length (now labels)) × (pieces ≤ length (now words)) ⌝ }
+    requires { ⌜ ((k : ℕ) → k < pieces → Noted (now reach) (now labels) k) ⌝ }
     ensures { λ _. ⌜ Moved-closed (now (reach .entry)) (now (labels .entry)) (now (words .entry)) (now (words .exit)) byte pieces ⌝ }
 {
     let mut piece = 0;
     while piece < pieces {
-        let word = moved(labels, piece, words[piece], byte);
+        let word = moved(reach, labels, piece, words[piece], byte);
         words[piece] = close(reach, piece, word);
         piece += 1;
     }

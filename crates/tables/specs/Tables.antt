@@ -1,24 +1,29 @@
 -- The tables of a list, made once for many bytes and many texts, and what the words hold after a text.
 -- Assumes nothing.
-use Prim.Native.Nat.{ℕ, _≤_}
+use Prim.Native.Nat.{ℕ, _+_, _*_, _≤_, _<_}
 use mathlib.Core.Path.{_≡_}
 use mathlib.Core.Bool.{Bool, true}
 use mathlib.Core.Logic.{_↔_}
 use mathlib.Core.List.{List}
-use lib.ListN.{length}
+use lib.ListN.{length, getD}
 use Rattle.language.specs.Tree.{Tree}
 use Rattle.language.specs.Language.{Is, Matches}
 use Rattle.language.specs.Automaton.{Started, After}
 use Rattle.language.specs.Nested.{Models}
 use Rattle.tree.specs.Records.{piece-count}
 use Rattle.tree.specs.Pieces.{cut-up}
-use Rattle.tables.specs.Words.{Holds, Clean}
+use Rattle.tables.specs.Words.{Bit, Holds, Clean}
 use Rattle.tables.specs.Plan.{Planned, Each, Reaches}
 
--- the tables are those of t: of its pieces, and document 002's table of each
+-- entry 63 of the piece k, which is no state's, has the bits of the states with a label
+pub record Noted (reach labels : List ℕ) (k : ℕ) : Type 0 where
+  pub leaves : (i : ℕ) → i < 62 → (getD labels (64 * k + i) 0 ≡ 0 → ⊥) → Bit (getD reach (64 * k + 63) 0) i
+
+-- the tables are those of t: of its pieces, and document 002's table of each, with its leaves noted
 pub record Prepared (t : Tree ℕ) (reach labels runs stands tops : List ℕ) (count : ℕ) : Type 0 where
   pub planned : Planned (record { labels = labels; runs = runs; stands = stands; tops = tops }) (cut-up t)
   pub reached : Each Reaches reach (cut-up t)
+  pub noted : (k : ℕ) → k < count → Noted reach labels k
   pub counted : count ≡ piece-count t
   pub few : piece-count t ≤ 128
 

@@ -21,7 +21,7 @@ slice-read-moved : tie.Need-slice-read-moved Inv-loop μ-loop
 slice-read-moved c = omega arith
 
 moved-requires : tie.Need-moved-requires Inv-loop μ-loop
-moved-requires c κs = omega arith
+moved-requires c κs = (omega arith, omega arith, c .before .before .before .before .before .before .pre .1 _ (omega arith))
 
 close-requires : tie.Need-close-requires Inv-loop μ-loop
 close-requires c κs = omega arith

@@ -1,24 +1,33 @@
--- `marks::moves::moved` meets its contract. The loop's invariant: of the bits of the word that are no longer in `rest`, the ones with the
--- byte's label are picked. The measure is `rest`, which loses its lowest bit. Assumes nothing.
+-- `marks::moves::moved` meets its contract. The loop's invariant: of the leaves in the word that are no longer in `rest`, the ones with
+-- the byte's label are picked. The measure is `rest`, which loses its lowest bit. Assumes nothing.
 use mathlib.Core.Path.{refl, _∙_}
 use mathlib.Core.Logic.{⊎-elim}
 use native.Mathlib.Omega.{arith}
 use Rattle.marks.specs.LowestBit.{left-smaller}
-use Rattle.marks.specs.Moving.{Picked, picked-none, picked-more, picked-same, moves-by-picking}
+use Rattle.marks.specs.Moving.{Picked, picked-none, picked-more, picked-same, moves-by-leaves}
 use Rattle.marks.proofs.moves.moved.Statement.{statement}
 use Rattle.marks.proofs.moves.moved.Tie as tie
 
 abbrev Inv-loop : tie.InvT-loop
-Inv-loop labels piece word byte base label rest₀ picked₀ rest picked = Picked labels base label word rest picked
+Inv-loop reach labels piece word byte base label rest₀ picked₀ rest picked = Picked labels base label rest₀ rest picked
 
 abbrev μ-loop : tie.MeasureT-loop
-μ-loop labels piece word byte base label rest₀ picked₀ rest picked = rest
+μ-loop reach labels piece word byte base label rest₀ picked₀ rest picked = rest
 
 mul-base : tie.Need-mul-base Inv-loop μ-loop
 mul-base c = omega arith
 
 add-label : tie.Need-add-label Inv-loop μ-loop
 add-label c = omega arith
+
+add-rest : tie.Need-add-rest Inv-loop μ-loop
+add-rest c = omega arith
+
+mul-rest : tie.Need-mul-rest Inv-loop μ-loop
+mul-rest c = omega arith
+
+shared-slice-read-rest : tie.Need-shared-slice-read-rest Inv-loop μ-loop
+shared-slice-read-rest c = omega arith
 
 loop-holds : tie.Need-loop-holds Inv-loop μ-loop
 loop-holds c = picked-none _ _ _ _
@@ -54,8 +63,7 @@ loop-again c =
     (c .if1 .came)
 
 returns : tie.Need-returns Inv-loop μ-loop
-returns c = λ x narrow labelled small.
-    moves-by-picking _ _ _ _ _ _ x narrow labelled small (c .loop-test .left) (c .before .loop .inv)
+returns c = moves-by-leaves _ _ _ _ _ _ _ (c .before .before .before .before .before .pre .2) (c .loop-test .left) (c .before .loop .inv)
 
 pub moved-spec : {M : Type 1} → statement M
 moved-spec =
@@ -65,6 +73,9 @@ moved-spec =
     μ-loop
     mul-base
     add-label
+    add-rest
+    mul-rest
+    shared-slice-read-rest
     loop-holds
     lowest-requires
     add-if1

@@ -1,0 +1,35 @@
+// Which states take a byte, noted once, so that a move looks at no others. A piece has at most 62 states: entry 63 of its 64 is free for it.
+use crate::bits::with_bit;
+ghost use Prim.Native.Nat.{_+_, _*_, _≤_};
+ghost use lib.ListN.{length};
+ghost use Rattle.marks.specs.Leaves.{Leaves, Leaves-noted};
+
+// The word with the bits of a piece's states that have a label.
+fn leaves(labels: &[u16], piece: usize) -> u64
+    requires { ⌜ 64 * piece + 64 ≤ length (now labels) ⌝ }
+    ensures { λ r. ⌜ Leaves (now (labels .entry)) piece 62 r ⌝ }
+{
+    let base = 64 * piece;
+    let mut state = 0;
+    let mut word: u64 = 0;
+    while state < 62 {
+        if labels[base + state] != 0 {
+            word = with_bit(word, state);
+        }
+        state += 1;
+    }
+    word
+}
+
+// Notes the leaves of every piece. The words of its states stay.
+pub fn note_leaves(reach: &mut [u64], labels: &[u16], pieces: usize)
+    requires { ⌜ (64 * pieces ≤ length (now reach)) × (64 * pieces ≤ length (now labels)) ⌝ }
+    ensures { λ _. ⌜ Leaves-noted (now (labels .entry)) (now (reach .entry)) (now (reach .exit)) pieces ⌝ }
+{
+    let mut piece = 0;
+    while piece < pieces {
+        let at = 64 * piece + 63;
+        reach[at] = leaves(labels, piece);
+        piece += 1;
+    }
+}
