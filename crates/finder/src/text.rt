@@ -1,6 +1,7 @@
 // Whole-text match over the tables of a list.
 use marks::inner::advance;
 use marks::inner::begin;
+use marks::inner::nothing_left;
 ghost use Prim.Native.Nat.{ℕ};
 ghost use mathlib.Core.Path.{_≡_};
 ghost use mathlib.Core.Bool.{true};
@@ -9,7 +10,7 @@ ghost use Rattle.language.specs.Tree.{Tree};
 ghost use Rattle.language.specs.Language.{Matches};
 ghost use Rattle.tables.specs.Tables.{Prepared, Ready};
 
-// Whether the text is in the language of the tree that the tables are of.
+// Whether the text is in the language of the tree that the tables are of. Where no mark is left, none comes back: the rest is not read.
 pub fn text_matches(
     reach: &[u64],
     labels: &[u16],
@@ -26,6 +27,9 @@ pub fn text_matches(
     let mut yes = begin(reach, labels, runs, stands, tops, count, &mut words);
     let mut i = 0;
     while i < text.len() {
+        if nothing_left(&words, count) {
+            return false;
+        }
         yes = advance(
             reach,
             labels,

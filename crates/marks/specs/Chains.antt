@@ -16,7 +16,7 @@ use Rattle.tables.specs.Words.{Bit, width, run, Holds, Clean}
 use Rattle.tables.specs.Plan.{Children-at, row, Reaches, Each-below, Closes}
 use Rattle.marks.specs.EachClosed.{Each-closed, Each-closed-below, closed-below-same, closed-same}
 use Rattle.marks.specs.Swept.{Apart, Narrow-below, tables, Laid, Sweepable, Swept, Child, children-of, part, Visited, Visits}
-use Rattle.marks.specs.Rejoining.{closes-again}
+use Rattle.marks.specs.Closing.{closes-again}
 use Rattle.marks.specs.Reclosing.{closed-nearly}
 use Rattle.marks.specs.Spots.{widths, Bounded, clean-words, below-power}
 use Rattle.marks.specs.Places.{Seat, seat-in, place-whole, catenation-left, catenation-right, union-left, union-right, star-inside}

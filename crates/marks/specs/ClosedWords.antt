@@ -20,7 +20,7 @@ use Rattle.marks.specs.Bits.{bit-below}
 use Rattle.marks.specs.Numbers.{number-onto}
 use Rattle.marks.specs.Swept.{Narrow-below}
 use Rattle.marks.specs.EachClosed.{Each-closed-below, Each-closed}
-use Rattle.marks.specs.Rejoining.{closes-again}
+use Rattle.marks.specs.Closing.{closes-again}
 use Rattle.marks.specs.Spots.{Spot, own-spot, Lit, marked-lit, bit-at}
 use Rattle.marks.specs.Within.{own-has}
 use Rattle.marks.specs.Moved.{first-left}

@@ -4,7 +4,9 @@ use Prim.Native.Nat.{ℕ, _*_, _^_, _<_}
 use mathlib.Core.Path.{_≡_, sym, ap, _∙_, subst}
 use mathlib.Core.List.{List}
 use lib.ListN.{getD}
+use Rattle.language.specs.Automaton.{here}
 use Rattle.language.specs.Nested.{Nested}
+use Rattle.language.specs.Simulation.{then}
 use Rattle.tables.specs.Words.{Bit, width, number}
 use Rattle.tables.specs.Plan.{row, Reaches, Closes}
 use Rattle.marks.specs.Bits.{bit-zero, bit-below, below-of-bits}
@@ -37,4 +39,14 @@ closed-by-joining reach piece w rest r x reaches small nothing joined = record {
   clean = below-of-bits (width x) r (λ j b. let (i, c, _, at) = joined .exactly j .0 b in
       let inside = bit-below small c in
       bit-below (subst (λ (v : ℕ). v < 2 ^ width x) (row-at reach piece (width x) i inside) (reaches .clean i inside)) at);
+}
+
+-- what was closed is closed
+pub closes-again : {x : Nested ℕ} {w r : ℕ} → Closes x w r → Closes x r r
+closes-again closes = record {
+  exactly = λ q o. (
+    λ b. (q, o, b, here),
+    λ (p, o', b, way). let (first, o'', c, begun) = closes .exactly p o' .0 b in closes .exactly q o .1 (first, o'', c, then begun way),
+  );
+  clean = closes .clean;
 }

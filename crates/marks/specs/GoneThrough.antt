@@ -17,7 +17,7 @@ use Rattle.marks.specs.Bits.{dec-bit, bit-zero, same-bits, bit-below}
 use Rattle.marks.specs.Numbers.{number-onto}
 use Rattle.marks.specs.Swept.{passed, Missed, Swept, Child, part, started, Visited}
 use Rattle.marks.specs.Passing.{bit-passed, passed-below}
-use Rattle.marks.specs.Spots.{Spot, own, under, spot, Held, holds-held, Within, spot-within}
+use Rattle.marks.specs.AllZero.{zero-holds}
 use Rattle.marks.specs.Within.{sweep-extends}
 use Rattle.marks.specs.Visiting.{own-holds, part-at, started-own, started-below}
 use Rattle.marks.specs.Reclosing.{closes-keeps}
@@ -69,14 +69,6 @@ module _ {reach runs stands tops : List ℕ} {x : Nested ℕ} {c : Child} {k at 
       closed = visited .swept .each-closed;
       at-rest = rests;
     }
-
--- words of zero hold no mark
-zero-held : (s : Spot) (n m : ℕ) (words : List ℕ) → ((o : ℕ) → o < 1 + m → getD words o 0 ≡ 0) → Within n m s → Held s words → ⊥
-zero-held (own b) n m words none l h = bit-zero b (subst (λ (w : ℕ). Bit w b) (none 0 (omega arith)) h)
-zero-held (under o b) n m words none l h = bit-zero b (subst (λ (w : ℕ). Bit w b) (none (suc o) (omega arith)) h)
-
-pub zero-holds : (x : Nested ℕ) (words : List ℕ) → ((o : ℕ) → o < 1 + run x → getD words o 0 ≡ 0) → (q : State) → Has x q → Holds x words q → ⊥
-zero-holds x words none q h m = zero-held (spot x q) (width x) (run x) words none (spot-within x q h) (holds-held x words q h .0 m)
 
 module _ {reach runs stands tops : List ℕ} {x : Nested ℕ} {c : Child} {k at : ℕ} {words : List ℕ} (can : Visitable reach runs stands tops x c k at words)
     (unmarked : Bit (getD words 0 0) (c .stand) → ⊥) (none : (o : ℕ) → o < 1 + run (c .tree) → getD words (at + o) 0 ≡ 0) where

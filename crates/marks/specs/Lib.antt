@@ -7,7 +7,6 @@ pub mod Parts
 pub mod Numbers
 pub mod Rows
 pub mod EachClosed
-pub mod Rejoining
 pub mod Closing
 pub mod Transitions
 pub mod Ahead
@@ -18,6 +17,7 @@ pub mod Labels
 pub mod Moving
 pub mod Swept
 pub mod Spots
+pub mod AllZero
 pub mod Within
 pub mod Places
 pub mod Passing

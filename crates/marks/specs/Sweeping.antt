@@ -18,7 +18,7 @@ use Rattle.marks.specs.Passing.{passed-below}
 use Rattle.marks.specs.Swept.{passed, Nearly-closed, Missed, Apart, At-rest, Quiet, Sweepable, Sized, Ready, Swept, Child, part, started, Visited}
 use Rattle.marks.specs.Spots.{widths, Bounded, clean-words, below-power}
 use Rattle.marks.specs.Visiting.{part-at, started-own, started-below}
-use Rattle.marks.specs.Rejoining.{closes-again}
+use Rattle.marks.specs.Closing.{closes-again}
 use Rattle.marks.specs.Reclosing.{Closes-from, passed-nearly}
 use Rattle.marks.specs.EachClosed.{Each-closed-below, closed-below-same}
 use Rattle.marks.specs.Chains.{Visitable, Under-way, Waiting, under-way, waiting-child, closed-sweepable, begun-closed, swept, all-settled}

@@ -20,24 +20,12 @@ use Rattle.tables.specs.Words.{Bit, width, run, Holds, Clean}
 use Rattle.tables.specs.Tables.{Holding}
 use Rattle.marks.specs.Bits.{bit-zero}
 use Rattle.marks.specs.Numbers.{number-accepting}
+use Rattle.marks.specs.AllZero.{All-zero, zero-holds}
 use Rattle.marks.specs.Spots.{Spot, own, under, spot, Held, Within, bit-at, held-at, holds-held, spot-within, own-spot}
 
 -- there is a word for each piece of a tree
 pub all-words : (t : Tree ℕ) → 1 + run (cut-up t) ≡ piece-count t
 all-words t = stated t .all-pieces
-
--- the first so many words are 0
-abbrev pub All-zero : ℕ → List ℕ → Type 0
-All-zero count words = (k : ℕ) → k < count → getD words k 0 ≡ 0
-
--- no bit is set in words that are 0
-unlit : (s : Spot) (k m : ℕ) (words : List ℕ) → All-zero (1 + m) words → Within k m s → Held s words → ⊥
-unlit (own b) k m words zeros within held = bit-zero b (subst (λ (n : ℕ). Bit n b) (zeros 0 (omega arith)) held)
-unlit (under o b) k m words zeros within held = bit-zero b (subst (λ (n : ℕ). Bit n b) (zeros (suc o) (omega arith)) held)
-
--- words that are 0 hold no mark
-pub zero-holds : {A : Type 0} (x : Nested A) (words : List ℕ) → All-zero (1 + run x) words → (q : State) → Has x q → Holds x words q → ⊥
-zero-holds x words zeros q has held = unlit (spot x q) (width x) (run x) words zeros (spot-within x q has) (holds-held x words q has .0 held)
 
 module _ {t : Tree ℕ} {w words : List ℕ} (holding : Holding t w words) where
   -- where the words of the pieces are 0, no state is marked after the text

@@ -15,7 +15,7 @@ ghost use Rattle.marks.specs.Bits.{Told};
 ghost use Rattle.tables.specs.Given.{Good-list};
 ghost use Rattle.marks.specs.Promise.{Marks-of};
 ghost use Rattle.tables.specs.Tables.{Prepared, Roomy, Ready};
-ghost use Rattle.marks.specs.Texts.{All-zero};
+ghost use Rattle.marks.specs.AllZero.{All-zero};
 ghost use Rattle.marks.specs.Inner.{Running, Begun, Advanced};
 
 // Makes the tables of a good list, and answers how many pieces it has.
