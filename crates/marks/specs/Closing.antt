@@ -4,6 +4,7 @@ use Prim.Native.Nat.{ℕ, _*_, _^_, _<_}
 use mathlib.Core.Path.{_≡_, sym, ap, _∙_, subst}
 use mathlib.Core.List.{List}
 use lib.ListN.{getD}
+use lib.Pow.{pow-pos}
 use Rattle.language.specs.Automaton.{here}
 use Rattle.language.specs.Nested.{Nested}
 use Rattle.language.specs.Simulation.{then}
@@ -49,4 +50,11 @@ closes-again closes = record {
     λ (p, o', b, way). let (first, o'', c, begun) = closes .exactly p o' .0 b in closes .exactly q o .1 (first, o'', c, then begun way),
   );
   clean = closes .clean;
+}
+
+-- no marks are closed
+pub closes-none : (x : Nested ℕ) → Closes x 0 0
+closes-none x = record {
+  exactly = λ q o. (λ b. absurd (bit-zero (number x q) b), λ (p, o', b, way). absurd (bit-zero (number x p) b));
+  clean = pow-pos (width x);
 }

@@ -8,10 +8,9 @@ use mathlib.Core.List.{List}
 use lib.ListN.{getD, drop}
 use lib.Seq.{getD-drop}
 use Rattle.language.specs.Nested.{Nested, leaf, catenation, union, star, below}
-use Rattle.tables.specs.Words.{width, run, number}
+use Rattle.tables.specs.Words.{run}
 use Rattle.tables.specs.Plan.{Closes}
-use lib.Pow.{pow-pos}
-use Rattle.marks.specs.Bits.{bit-zero}
+use Rattle.marks.specs.Closing.{closes-none}
 
 -- in the words of the child pieces below x each is closed
 abbrev pub Each-closed-below : Nested ℕ → List ℕ → Type 0
@@ -58,9 +57,6 @@ zeros-closed (union x y) ws none =
     (zeros-closed x ws (λ o l. none o (omega arith)), zeros-closed y (drop (run x) ws) (λ o l. getD-drop (run x) ws o 0 ∙ none (run x + o) (omega arith)))
 zeros-closed (star x) ws none = zeros-closed x ws none
 zeros-closed (below x) ws none = (
-  subst (λ (w : ℕ). Closes x w w) (sym (none 0 (omega arith))) record {
-    exactly = λ q o. (λ b. absurd (bit-zero (number x q) b), λ (p, o', b, way). absurd (bit-zero (number x p) b));
-    clean = pow-pos (width x);
-  },
+  subst (λ (w : ℕ). Closes x w w) (sym (none 0 (omega arith))) (closes-none x),
   zeros-closed x (drop 1 ws) (λ o l. getD-drop 1 ws o 0 ∙ none (1 + o) (omega arith)),
 )

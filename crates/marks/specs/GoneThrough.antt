@@ -63,7 +63,7 @@ module _ {reach runs stands tops : List ℕ} {x : Nested ℕ} {c : Child} {k at 
     gone rests = record {
       behind = omega (arith, can .here);
       after-own = omega (arith, can .here, can .after-own);
-      started = elim (dec-bit (getD words 0 0) (c .stand)) [ | yes b ↦ inl (started-down b) | no b ↦ inr (missed .one b) ];
+      started = elim (dec-bit (getD words 0 0) (c .stand)) [ yes b ↦ inl (started-down b) | no b ↦ inr (missed .one b) ];
       raised = λ b. closes-keeps (visited .closed) (raised-small after) (c .stand + 1)
           (bit-passed (getD after (c .from) 0) (width (c .tree) - 1) (getD words 0 0) (c .stand + 1) (c .stand + 1) .1 (inr (refl, b)));
       closed = visited .swept .each-closed;

@@ -6,8 +6,8 @@ pub mod Joining
 pub mod Parts
 pub mod Numbers
 pub mod Rows
-pub mod EachClosed
 pub mod Closing
+pub mod EachClosed
 pub mod Transitions
 pub mod Ahead
 pub mod Reaching

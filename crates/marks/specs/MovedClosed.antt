@@ -1,7 +1,7 @@
 -- Moving every word along a byte and closing each piece in itself: the marks are moved along the byte, and some of the closing is done.
 -- Assumes nothing.
 use Prim.Native.Nat.{ℕ, _+_, _^_, _≤_, _<_}
-use mathlib.Core.Path.{_≡_, subst}
+use mathlib.Core.Path.{_≡_, sym, subst}
 use mathlib.Core.List.{List}
 use native.Mathlib.Omega.{arith}
 use lib.ListN.{length, getD, set}
@@ -10,8 +10,10 @@ use Rattle.language.specs.Automaton.{States}
 use Rattle.language.specs.Nested.{Nested, Has, Move}
 use Rattle.language.specs.Settled.{Settled}
 use Rattle.language.specs.Same.{More-in}
-use Rattle.tables.specs.Words.{width, run, Holds, Clean}
+use Rattle.tables.specs.Words.{width, run, number, Holds, Clean}
 use Rattle.tables.specs.Plan.{row, takes, Moves, Pieces, Planned, Reaches, Each, Closes}
+use Rattle.marks.specs.Bits.{bit-zero}
+use Rattle.marks.specs.Closing.{closes-none}
 use Rattle.marks.specs.Rows.{Rows, rows-none}
 use Rattle.marks.specs.Swept.{Narrow-below}
 use Rattle.marks.specs.EachClosed.{Each-closed}
@@ -34,17 +36,32 @@ pub record Moving-closing (reach labels before after : List ℕ) (b n : ℕ) : T
 pub moving-none : (reach labels words : List ℕ) (b : ℕ) → Moving-closing reach labels words words b 0
 moving-none reach labels words b = record { moved = words; moves = rows-none (Word-moved labels words b) words 0; closes = closed-none reach words }
 
--- one word more: v is what it is now, moved, and w is v, closed
-pub moving-more : {reach labels before after : List ℕ} {b n v w : ℕ} → n < length before → Moving-closing reach labels before after b n
-    → ((x : Nested ℕ) → width x ≤ 62 → row labels n (width x) ≡ takes x → getD after n 0 < 2 ^ width x → Moves x b (getD after n 0) v)
-    → ((x : Nested ℕ) → width x ≤ 62 → Reaches x (row reach n (width x)) → v < 2 ^ width x → Closes x v w)
-    → Moving-closing reach labels before (set after n w) b (n + 1)
-moving-more {labels = labels} {after = after} {b = b} {n = n} {v = v} inside so-far moves closes = record {
-  moved = set (so-far .moved) n v;
+-- r is the word of the piece after the byte b: moved, and closed in the piece
+pub record Word-after (reach labels : List ℕ) (piece word b r : ℕ) : Type 0 where
+  pub moved : ℕ
+  pub moves : (x : Nested ℕ) → width x ≤ 62 → row labels piece (width x) ≡ takes x → word < 2 ^ width x → Moves x b word moved
+  pub closes : (x : Nested ℕ) → width x ≤ 62 → Reaches x (row reach piece (width x)) → moved < 2 ^ width x → Closes x moved r
+
+-- a word of no marks stays one
+pub none-after : (reach labels : List ℕ) (piece word b : ℕ) → word ≡ 0 → Word-after reach labels piece word b 0
+none-after reach labels piece word b none = subst (λ (w : ℕ). Word-after reach labels piece w b 0) (sym none) record {
+  moved = 0;
+  moves = λ x narrow labelled small. record {
+    exactly = λ q o. (λ m. absurd (bit-zero (number x q) m), λ (p, o', m, way). absurd (bit-zero (number x p) m));
+    clean = small;
+  };
+  closes = λ x narrow reaches small. closes-none x;
+}
+
+-- one word more
+pub moving-more : {reach labels before after : List ℕ} {b n w : ℕ} → n < length before → Moving-closing reach labels before after b n
+    → Word-after reach labels n (getD after n 0) b w → Moving-closing reach labels before (set after n w) b (n + 1)
+moving-more {labels = labels} {after = after} {b = b} {n = n} inside so-far next = record {
+  moved = set (so-far .moved) n (next .moved);
   moves = moved-more inside (so-far .moves)
-      (subst (λ (u : ℕ). (x : Nested ℕ) → width x ≤ 62 → row labels n (width x) ≡ takes x → u < 2 ^ width x → Moves x b u v)
-      (so-far .closes .others n (omega arith)) moves);
-  closes = closed-more (omega (arith, so-far .moves .same-length)) (so-far .closes) closes;
+      (subst (λ (u : ℕ). (x : Nested ℕ) → width x ≤ 62 → row labels n (width x) ≡ takes x → u < 2 ^ width x → Moves x b u (next .moved))
+      (so-far .closes .others n (omega arith)) (next .moves));
+  closes = closed-more (omega (arith, so-far .moves .same-length)) (so-far .closes) (next .closes);
 }
 
 -- at last all are

@@ -252,7 +252,7 @@ module _ (reach runs stands tops : List ℕ) (k : ℕ) where
       pub rests : settled' ≡ true → Settled (c .tree) (Holds (c .tree) (part c after))
 
     -- a child piece at rest is passed over
-    pub passed-over : (from to : ℕ) → At-rest (getD words 0 0) (getD stands (k + at) 0) (k + at) (k + (at + getD runs (k + at) 0)) from to
+    pub passed-over : (from to : ℕ) → At-rest (getD words 0 0) (getD stands (k + at) 0) (getD words at 0) (k + at) (k + (at + getD runs (k + at) 0)) from to
         → ((o : ℕ) → at ≤ o → o < length words → (k + o < from) ⊎ (to ≤ k + o) → getD words o 0 ≡ 0)
         → (x : Nested ℕ) (c : Child) → Visitable reach runs stands tops x c k at words → Went words settled x c
     passed-over from to rest quiet x c can = record {
@@ -264,8 +264,10 @@ module _ (reach runs stands tops : List ℕ) (k : ℕ) where
         unmarked b = rest .unmarked (subst (Bit (getD words 0 0)) (sym (can .stood)) b)
 
         zeros : (o : ℕ) → o < 1 + run (c .tree) → getD words (at + o) 0 ≡ 0
-        zeros o l = quiet (at + o) (omega arith) (omega (arith, can .room))
-            (⊎-elim (λ h. inl (omega (arith, can .laid .piece .ran))) (λ h. inr (omega arith)) (rest .elsewhere))
+        zeros o l = ⊎-elim
+            (λ h. ap (λ (i : ℕ). getD words i 0) (omega (arith, h .1, can .laid .piece .ran)) ∙ h .0)
+            (λ out. quiet (at + o) (omega arith) (omega (arith, can .room)) (⊎-elim (λ h. inl (omega (arith, can .laid .piece .ran))) (λ h. inr (omega arith)) out))
+            (rest .elsewhere)
 
     -- after the visit the sweep is under way
     pub sweeping-on : (after : List ℕ) (waiting' : ℕ) (settled' : Bool) → (tree : Nested ℕ) → Sweepable reach runs stands tops tree k begun → Closes tree (getD begun 0 0) (getD begun 0 0)

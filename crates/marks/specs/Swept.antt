@@ -25,10 +25,10 @@ pub record Missed (other i word r : ℕ) : Type 0 where
 abbrev pub Apart : ℕ → ℕ → Type 0
 Apart one other = (i : ℕ) → Bit one i → Bit other i → ⊥
 
--- the stand-in's start is not marked, and the words from `child` up to `end` are none of those from `from` up to `to`
-pub record At-rest (word stand child end from to : ℕ) : Type 0 where
+-- the stand-in's start is not marked, and the words from `child` up to `end` are none of those from `from` up to `to`, or a single one that is 0
+pub record At-rest (word stand first child end from to : ℕ) : Type 0 where
   pub unmarked : Bit word stand → ⊥
-  pub elsewhere : (end ≤ from) ⊎ (to ≤ child)
+  pub elsewhere : ((first ≡ 0) × (end ≡ child + 1)) ⊎ ((end ≤ from) ⊎ (to ≤ child))
 
 -- the word of x's top piece is closed but for what the state s reaches: what a marked state reaches is marked, or s is marked and reaches it
 pub record Nearly-closed (x : Nested ℕ) (s : State) (w : ℕ) : Type 0 where

@@ -9,7 +9,7 @@ ghost use Rattle.language.specs.Nested.{Nested};
 ghost use Rattle.tables.specs.Words.{width};
 ghost use Rattle.tables.specs.Plan.{row, takes, Moves};
 ghost use Rattle.tables.specs.Tables.{Noted};
-ghost use Rattle.marks.specs.MovedClosed.{Moved-closed};
+ghost use Rattle.marks.specs.MovedClosed.{Word-after, Moved-closed};
 
 // The word of a piece, moved along the byte: a state that takes it has the label one above it, and leads to the next state. Only leaves are
 // looked at.
@@ -31,7 +31,19 @@ pub fn moved(reach: &[u64], labels: &[u16], piece: usize, word: u64, byte: u8) -
     picked << 1
 }
 
-// Moves the words of all pieces along the byte, and closes each piece in itself. A word of no marks is passed at once.
+// The word of a piece after the byte: moved, and closed in the piece. A word of no marks stays one, and its tables are not looked at.
+fn word_after(reach: &[u64], labels: &[u16], piece: usize, word: u64, byte: u8) -> u64
+    requires { ⌜ (64 * piece + 64 ≤ length (now reach)) × (64 * piece + 64 ≤ length (now labels)) × Noted (now reach) (now labels) piece ⌝ }
+    ensures { λ r. ⌜ Word-after (now (reach .entry)) (now (labels .entry)) piece word byte r ⌝ }
+{
+    if word == 0 {
+        return 0;
+    }
+    let moved = moved(reach, labels, piece, word, byte);
+    close(reach, piece, moved)
+}
+
+// Moves the words of all pieces along the byte, and closes each piece in itself.
 pub fn move_all(reach: &[u64], labels: &[u16], words: &mut [u64], byte: u8, pieces: usize)
     requires { ⌜ (64 * pieces ≤ length (now reach)) × (64 * pieces ≤ length (now labels)) × (pieces ≤ length (now words)) ⌝ }
     requires { ⌜ ((k : ℕ) → k < pieces → Noted (now reach) (now labels) k) ⌝ }
@@ -39,8 +51,7 @@ pub fn move_all(reach: &[u64], labels: &[u16], words: &mut [u64], byte: u8, piec
 {
     let mut piece = 0;
     while piece < pieces {
-        let word = moved(reach, labels, piece, words[piece], byte);
-        words[piece] = close(reach, piece, word);
+        words[piece] = word_after(reach, labels, piece, words[piece], byte);
         piece += 1;
     }
 }

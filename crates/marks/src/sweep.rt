@@ -52,13 +52,25 @@ fn apart(one: u64, other: u64) -> bool
     one & other == 0
 }
 
-// Whether a child piece with the words up to `end` has nothing to do: its stand-in's start is not marked, and no mark is among its words.
-fn at_rest(word: u64, stand: usize, child: usize, end: usize, from: usize, to: usize) -> bool
-    requires { ⌜ stand < 64 ⌝ }
-    ensures { λ r. ⌜ (r ≡ true → At-rest word stand child end from to) ⌝ }
+// Whether a child piece whose run goes up to `end` has nothing to do: its stand-in's start is not marked, and no mark is in its run, which is
+// a single word without one, or outside of `from` up to `to`.
+fn at_rest(
+    word: u64,
+    stand: usize,
+    first: u64,
+    child: usize,
+    end: usize,
+    from: usize,
+    to: usize,
+) -> bool
+    requires { ⌜ (stand < 64) × (child < 128) ⌝ }
+    ensures { λ r. ⌜ (r ≡ true → At-rest word stand first child end from to) ⌝ }
 {
     if has_bit(word, stand) {
         return false;
+    }
+    if end == child + 1 {
+        return first == 0;
     }
     if child < to {
         return end <= from;
@@ -93,10 +105,19 @@ pub fn sweep(
         let stand = stands[child] as usize;
         let next = at + runs[child] as usize;
         waiting = missed(words[0], stand, waiting);
-        if !at_rest(words[0], stand, child, piece + next, from, to) {
+        if !at_rest(words[0], stand, words[at], child, piece + next, from, to) {
             let top = tops[child] as usize;
             words[at] = pass(words[0], stand, words[at], 0);
-            if !sweep(reach, runs, stands, tops, child, from, to, &mut words[at..next]) {
+            if !sweep(
+                reach,
+                runs,
+                stands,
+                tops,
+                child,
+                from,
+                to,
+                &mut words[at..next],
+            ) {
                 settled = false;
             }
             let raised = pass(words[at], top, words[0], stand + 1);

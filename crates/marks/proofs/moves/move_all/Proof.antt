@@ -14,17 +14,14 @@ abbrev μ-loop : tie.MeasureT-loop
 loop-holds : tie.Need-loop-holds Inv-loop μ-loop
 loop-holds c = (omega arith, moving-none _ _ _ _)
 
-mul-moved : tie.Need-mul-moved Inv-loop μ-loop
-mul-moved c = omega arith
+mul-word-after : tie.Need-mul-word-after Inv-loop μ-loop
+mul-word-after c = omega arith
 
-slice-read-moved : tie.Need-slice-read-moved Inv-loop μ-loop
-slice-read-moved c = omega arith
+slice-read-word-after : tie.Need-slice-read-word-after Inv-loop μ-loop
+slice-read-word-after c = omega arith
 
-moved-requires : tie.Need-moved-requires Inv-loop μ-loop
-moved-requires c κs = (omega arith, omega arith, c .before .before .before .before .before .before .pre .1 _ (omega arith))
-
-close-requires : tie.Need-close-requires Inv-loop μ-loop
-close-requires c κs = omega arith
+word-after-requires : tie.Need-word-after-requires Inv-loop μ-loop
+word-after-requires c κs = (omega arith, omega arith, c .before .before .before .before .before .before .pre .1 _ (omega arith))
 
 mul-words : tie.Need-mul-words Inv-loop μ-loop
 mul-words c = omega arith
@@ -39,7 +36,7 @@ loop-less : tie.Need-loop-less Inv-loop μ-loop
 loop-less c = omega arith
 
 loop-again : tie.Need-loop-again Inv-loop μ-loop
-loop-again c = (omega arith, moving-more (omega arith) (c .before .before .before .before .loop .inv .1) (c .before .moved .ensures) (c .close .ensures))
+loop-again c = (omega arith, moving-more (omega arith) (c .before .before .before .loop .inv .1) (c .word-after .ensures))
 
 same-length : tie.Need-same-length Inv-loop μ-loop
 same-length c = omega arith
@@ -54,10 +51,9 @@ move-all-spec =
     Inv-loop
     μ-loop
     loop-holds
-    mul-moved
-    slice-read-moved
-    moved-requires
-    close-requires
+    mul-word-after
+    slice-read-word-after
+    word-after-requires
     mul-words
     slice-write-words
     add-piece

@@ -14,6 +14,15 @@ use Rattle.language.specs.Settled.{Settled}
 use Rattle.tables.specs.Words.{Holds}
 use Rattle.language.specs.Settled.{Settled}
 use Rattle.tables.specs.Words.{Holds}
+use Rattle.language.specs.Settled.{Settled}
+use Rattle.tables.specs.Words.{Holds}
+use Rattle.tables.specs.Plan.{Closes}
+use Rattle.language.specs.Settled.{Settled}
+use Rattle.tables.specs.Words.{Holds}
+use Rattle.language.specs.Settled.{Settled}
+use Rattle.tables.specs.Words.{Holds}
+use Rattle.language.specs.Settled.{Settled}
+use Rattle.tables.specs.Words.{Holds}
 use Rattle.tables.specs.Plan.{Closes}
 use Rattle.language.specs.Settled.{Settled}
 use Rattle.tables.specs.Words.{Holds}
@@ -26,7 +35,7 @@ use Rattle.tables.specs.Plan.{Closes}
 use Rattle.tables.specs.Plan.{Closes}
 use Rattle.marks.specs.Swept.{Sweepable, Sized}
 use Rattle.marks.specs.Chains.{Waiting}
-use Rattle.marks.specs.Sweeping.{Sweeping, Room, sweeping-begins, waits, room-for, quiet-ahead, passed-over, still-settled, passed-over, still-settled, sweeping-on, begun-sweepable, own-begun, sweep-done, sweep-settled, sized-same, lent-sweepable, lent-shorter, lent-ready, visited, after-part}
+use Rattle.marks.specs.Sweeping.{Sweeping, Room, sweeping-begins, waits, room-for, quiet-ahead, passed-over, still-settled, passed-over, still-settled, passed-over, still-settled, sweeping-on, begun-sweepable, own-begun, sweep-done, sweep-settled, sized-same, lent-sweepable, lent-shorter, lent-ready, visited, after-part}
 use Rattle.marks.proofs.sweep.sweep.Reads as sweep
 use Rattle.marks.proofs.sweep.sweep.Kinds as sweep-kinds
 use Rattle.marks.proofs.sweep.+sweep.Lts-sweep as sweep-lts
@@ -50,8 +59,18 @@ sweep-below t = and 5 sweep-kinds.ps (falls 5 sweep-kinds.ps _<_ μ-sweep t) swe
 
 abbrev sweep-claims : ℕ → sweep-lts.Claims
 sweep-claims t = (
-  close-from-reads.Asked, close-from-reads.Learnt, missed-reads.Asked, missed-reads.Learnt, at-rest-reads.Asked, at-rest-reads.Learnt,
-  pass-reads.Asked, pass-reads.Learnt, sweep-below t, sweep.Post, apart-reads.Asked, apart-reads.Learnt,
+  close-from-reads.Asked,
+  close-from-reads.Learnt,
+  missed-reads.Asked,
+  missed-reads.Learnt,
+  at-rest-reads.Asked,
+  at-rest-reads.Learnt,
+  pass-reads.Asked,
+  pass-reads.Learnt,
+  sweep-below t,
+  sweep.Post,
+  apart-reads.Asked,
+  apart-reads.Learnt,
 )
 
 abbrev sweep-Inv-loop : sweep-lts.InvT-loop
@@ -109,7 +128,7 @@ abbrev Come-back : ℕ → Type 0
 Come-back t = sweep-lts.After-words (sweep-claims t) (sweep-at t) sweep.Post sweep-Inv-loop sweep-μ-loop
 
 abbrev going-on : (t : ℕ) → Come-back t → Going-on t
-going-on t c = c .before .before .before .before .before .before .before .before .before .before .before .before .before .before
+going-on t c = c .before .before .before .before .before .before .before .before .before .before .before .before .before .before .before
 
 -- a bit whose next is in the word, and the lowest
 bits-within : (stand : ℕ) → stand + 1 < 64 → (stand < 64) × (0 < 64)
@@ -154,51 +173,57 @@ sweep-missed-requires t c κs = search (needs, room t (c .before .before .before
 sweep-slice-read-at-rest : (t : ℕ) → sweep-lts.Need-slice-read-at-rest (sweep-claims t) (sweep-at t) sweep.Post sweep-Inv-loop sweep-μ-loop
 sweep-slice-read-at-rest t c = search (needs, room t (c .before .before .before .before .before))
 
+sweep-mul-at-rest : (t : ℕ) → sweep-lts.Need-mul-at-rest (sweep-claims t) (sweep-at t) sweep.Post sweep-Inv-loop sweep-μ-loop
+sweep-mul-at-rest t c = search (needs, room t (c .before .before .before .before .before))
+
+sweep-slice-read-at-rest-2 : (t : ℕ) → sweep-lts.Need-slice-read-at-rest-2 (sweep-claims t) (sweep-at t) sweep.Post sweep-Inv-loop sweep-μ-loop
+sweep-slice-read-at-rest-2 t c = search (needs, room t (c .before .before .before .before .before .before))
+
 sweep-add-at-rest : (t : ℕ) → sweep-lts.Need-add-at-rest (sweep-claims t) (sweep-at t) sweep.Post sweep-Inv-loop sweep-μ-loop
-sweep-add-at-rest t c = search (needs, room t (c .before .before .before .before .before))
+sweep-add-at-rest t c = search (needs, room t (c .before .before .before .before .before .before))
 
 sweep-at-rest-requires : (t : ℕ) → sweep-lts.Need-at-rest-requires (sweep-claims t) (sweep-at t) sweep.Post sweep-Inv-loop sweep-μ-loop
-sweep-at-rest-requires t c κs = search (needs, room t (c .before .before .before .before .before))
+sweep-at-rest-requires t c κs = let r = room t (c .before .before .before .before .before .before) in (omega (arith, r .stand-small), omega (arith, r .runs-room, start-of t (c .before .before .before .before .before .before .before .before) .pre .1 .sized .runs-sized))
 
 sweep-shared-slice-read-top : (t : ℕ) → sweep-lts.Need-shared-slice-read-top (sweep-claims t) (sweep-at t) sweep.Post sweep-Inv-loop sweep-μ-loop
-sweep-shared-slice-read-top t c = search (needs, room t (c .before .before .before .before .before .before .before .before))
+sweep-shared-slice-read-top t c = search (needs, room t (c .before .before .before .before .before .before .before .before .before))
 
 sweep-cast-top : (t : ℕ) → sweep-lts.Need-cast-top (sweep-claims t) (sweep-at t) sweep.Post sweep-Inv-loop sweep-μ-loop
-sweep-cast-top t c = search (needs, room t (c .before .before .before .before .before .before .before .before))
+sweep-cast-top t c = search (needs, room t (c .before .before .before .before .before .before .before .before .before))
 
 sweep-slice-read-pass : (t : ℕ) → sweep-lts.Need-slice-read-pass (sweep-claims t) (sweep-at t) sweep.Post sweep-Inv-loop sweep-μ-loop
-sweep-slice-read-pass t c = search (needs, room t (c .before .before .before .before .before .before .before .before .before))
+sweep-slice-read-pass t c = search (needs, room t (c .before .before .before .before .before .before .before .before .before .before))
 
 sweep-mul-pass : (t : ℕ) → sweep-lts.Need-mul-pass (sweep-claims t) (sweep-at t) sweep.Post sweep-Inv-loop sweep-μ-loop
-sweep-mul-pass t c = search (needs, room t (c .before .before .before .before .before .before .before .before .before))
+sweep-mul-pass t c = search (needs, room t (c .before .before .before .before .before .before .before .before .before .before))
 
 sweep-slice-read-pass-2 : (t : ℕ) → sweep-lts.Need-slice-read-pass-2 (sweep-claims t) (sweep-at t) sweep.Post sweep-Inv-loop sweep-μ-loop
-sweep-slice-read-pass-2 t c = search (needs, room t (c .before .before .before .before .before .before .before .before .before .before))
+sweep-slice-read-pass-2 t c = search (needs, room t (c .before .before .before .before .before .before .before .before .before .before .before))
 
 sweep-pass-requires : (t : ℕ) → sweep-lts.Need-pass-requires (sweep-claims t) (sweep-at t) sweep.Post sweep-Inv-loop sweep-μ-loop
-sweep-pass-requires t c κs = bits-within _ (room t (c .before .before .before .before .before .before .before .before .before .before) .stand-small)
+sweep-pass-requires t c κs = bits-within _ (room t (c .before .before .before .before .before .before .before .before .before .before .before) .stand-small)
 
 sweep-mul-words : (t : ℕ) → sweep-lts.Need-mul-words (sweep-claims t) (sweep-at t) sweep.Post sweep-Inv-loop sweep-μ-loop
-sweep-mul-words t c = search (needs, room t (c .before .before .before .before .before .before .before .before .before .before .before))
+sweep-mul-words t c = search (needs, room t (c .before .before .before .before .before .before .before .before .before .before .before .before))
 
 sweep-slice-write-words-2 : (t : ℕ) → sweep-lts.Need-slice-write-words-2 (sweep-claims t) (sweep-at t) sweep.Post sweep-Inv-loop sweep-μ-loop
-sweep-slice-write-words-2 t c = search (needs, room t (c .before .before .before .before .before .before .before .before .before .before .before))
+sweep-slice-write-words-2 t c = search (needs, room t (c .before .before .before .before .before .before .before .before .before .before .before .before))
 
 sweep-mul-sweep : (t : ℕ) → sweep-lts.Need-mul-sweep (sweep-claims t) (sweep-at t) sweep.Post sweep-Inv-loop sweep-μ-loop
-sweep-mul-sweep t c = search (needs, room t (c .before .before .before .before .before .before .before .before .before .before .before))
+sweep-mul-sweep t c = search (needs, room t (c .before .before .before .before .before .before .before .before .before .before .before .before))
 
 sweep-sub-sweep : (t : ℕ) → sweep-lts.Need-sub-sweep (sweep-claims t) (sweep-at t) sweep.Post sweep-Inv-loop sweep-μ-loop
-sweep-sub-sweep t c = search (needs, room t (c .before .before .before .before .before .before .before .before .before .before .before))
+sweep-sub-sweep t c = search (needs, room t (c .before .before .before .before .before .before .before .before .before .before .before .before))
 
 sweep-part-sweep-start : (t : ℕ) → sweep-lts.Need-part-sweep-start (sweep-claims t) (sweep-at t) sweep.Post sweep-Inv-loop sweep-μ-loop
-sweep-part-sweep-start t c = search (needs, room t (c .before .before .before .before .before .before .before .before .before .before .before))
+sweep-part-sweep-start t c = search (needs, room t (c .before .before .before .before .before .before .before .before .before .before .before .before))
 
 sweep-part-sweep-end : (t : ℕ) → sweep-lts.Need-part-sweep-end (sweep-claims t) (sweep-at t) sweep.Post sweep-Inv-loop sweep-μ-loop
-sweep-part-sweep-end t c = search (needs, room t (c .before .before .before .before .before .before .before .before .before .before .before))
+sweep-part-sweep-end t c = search (needs, room t (c .before .before .before .before .before .before .before .before .before .before .before .before))
 
 sweep-sweep-requires : (t : ℕ) → sweep-lts.Need-sweep-requires (sweep-claims t) (sweep-at t) sweep.Post sweep-Inv-loop sweep-μ-loop
 sweep-sweep-requires t c κs = 
-    let g = c .before .before .before .before .before .before .before .before .before .before .before .before in
+    let g = c .before .before .before .before .before .before .before .before .before .before .before .before .before in
     let s = start-of t (g .before .before) in
     let can = child-waits t g .visitable in (
       omega (arith, s .pre .0, lent-shorter _ _ _ _ _ _ _ _ _ can _ (c .before .pass .ensures), g .before .loop .inv .same-length, length-set (s .args .words .now) 0 (g .before .before .close-from .result)),
@@ -206,7 +231,7 @@ sweep-sweep-requires t c κs =
     )
 
 sweep-mul-pass-2 : (t : ℕ) → sweep-lts.Need-mul-pass-2 (sweep-claims t) (sweep-at t) sweep.Post sweep-Inv-loop sweep-μ-loop
-sweep-mul-pass-2 t c = search (needs, room t (c .before .before .before .before .before .before .before .before .before .before .before .before .before .before .before .before))
+sweep-mul-pass-2 t c = search (needs, room t (c .before .before .before .before .before .before .before .before .before .before .before .before .before .before .before .before .before))
 
 sweep-slice-read-pass-3 : (t : ℕ) → sweep-lts.Need-slice-read-pass-3 (sweep-claims t) (sweep-at t) sweep.Post sweep-Inv-loop sweep-μ-loop
 sweep-slice-read-pass-3 t c = let w = c .before .before .before in omega (arith, room t (going-on t w), w .words .given .1, length-set (going-on t w .before .loop .words) (going-on t w .before .loop .at) (w .before .before .before .pass .result))
@@ -215,16 +240,16 @@ sweep-slice-read-pass-4 : (t : ℕ) → sweep-lts.Need-slice-read-pass-4 (sweep-
 sweep-slice-read-pass-4 t c = let w = c .before .before .before .before in omega (arith, room t (going-on t w), w .words .given .1, length-set (going-on t w .before .loop .words) (going-on t w .before .loop .at) (w .before .before .before .pass .result))
 
 sweep-add-pass : (t : ℕ) → sweep-lts.Need-add-pass (sweep-claims t) (sweep-at t) sweep.Post sweep-Inv-loop sweep-μ-loop
-sweep-add-pass t c = search (needs, room t (c .before .before .before .before .before .before .before .before .before .before .before .before .before .before .before .before .before .before))
+sweep-add-pass t c = search (needs, room t (c .before .before .before .before .before .before .before .before .before .before .before .before .before .before .before .before .before .before .before))
 
 sweep-pass-requires-2 : (t : ℕ) → sweep-lts.Need-pass-requires-2 (sweep-claims t) (sweep-at t) sweep.Post sweep-Inv-loop sweep-μ-loop
-sweep-pass-requires-2 t c κs = let r = room t (c .before .before .before .before .before .before .before .before .before .before .before .before .before .before .before .before .before .before) in (r .top-small, r .stand-small)
+sweep-pass-requires-2 t c κs = let r = room t (c .before .before .before .before .before .before .before .before .before .before .before .before .before .before .before .before .before .before .before) in (r .top-small, r .stand-small)
 
 sweep-add-close-from : (t : ℕ) → sweep-lts.Need-add-close-from (sweep-claims t) (sweep-at t) sweep.Post sweep-Inv-loop sweep-μ-loop
-sweep-add-close-from t c = search (needs, room t (c .before .before .before .before .before .before .before .before .before .before .before .before .before .before .before .before .before .before .before))
+sweep-add-close-from t c = search (needs, room t (c .before .before .before .before .before .before .before .before .before .before .before .before .before .before .before .before .before .before .before .before))
 
 sweep-close-from-requires-2 : (t : ℕ) → sweep-lts.Need-close-from-requires-2 (sweep-claims t) (sweep-at t) sweep.Post sweep-Inv-loop sweep-μ-loop
-sweep-close-from-requires-2 t c κs = let r = room t (c .before .before .before .before .before .before .before .before .before .before .before .before .before .before .before .before .before .before .before) in (r .reach-room, r .stand-small)
+sweep-close-from-requires-2 t c κs = let r = room t (c .before .before .before .before .before .before .before .before .before .before .before .before .before .before .before .before .before .before .before .before) in (r .reach-room, r .stand-small)
 
 sweep-slice-write-words-3 : (t : ℕ) → sweep-lts.Need-slice-write-words-3 (sweep-claims t) (sweep-at t) sweep.Post sweep-Inv-loop sweep-μ-loop
 sweep-slice-write-words-3 t c = let w = c .before .before .before .before .before .before in omega (arith, room t (going-on t w), w .words .given .1, length-set (going-on t w .before .loop .words) (going-on t w .before .loop .at) (w .before .before .before .pass .result))
@@ -239,7 +264,7 @@ sweep-loop-again t c =
     let w = c .before .before .before .before .before .before in
     let p = w .before .before .before in
     let g = going-on t w in
-    sweeping-on _ _ _ _ _ _ _ _ _ _ (g .before .loop .inv) (g .loop-test .taken) _ _ _ _ (begun t (g .before .before)) (own t (g .before .before)) (c .before .before .before .before .before .before .before .before .before .before .before .before .before .before .before .before .missed .ensures)
+    sweeping-on _ _ _ _ _ _ _ _ _ _ (g .before .loop .inv) (g .loop-test .taken) _ _ _ _ (begun t (g .before .before)) (own t (g .before .before)) (c .before .before .before .before .before .before .before .before .before .before .before .before .before .before .before .before .before .missed .ensures)
     (λ e. still-settled {child = w .before .sweep .result} (λ then. then .1) (λ else. (not-false _ (else .0 .left), else .1)) (c .before .before .before .before .if2 .came) e .1)
     (λ x child can. record {
       visited = visited _ _ _ _ _ _ _ x child can _ (p .pass .ensures) _ (w .before .sweep .kept .1 .1 .1 .1 .1 .1 .1 .0)
@@ -252,12 +277,12 @@ sweep-loop-again t c =
     })
 
 sweep-loop-less-2 : (t : ℕ) → sweep-lts.Need-loop-less-2 (sweep-claims t) (sweep-at t) sweep.Post sweep-Inv-loop sweep-μ-loop
-sweep-loop-less-2 t c = search (needs, room t (c .before .before .before .before .before .before .before))
+sweep-loop-less-2 t c = search (needs, room t (c .before .before .before .before .before .before .before .before))
 
 sweep-loop-again-2 : (t : ℕ) → sweep-lts.Need-loop-again-2 (sweep-claims t) (sweep-at t) sweep.Post sweep-Inv-loop sweep-μ-loop
 sweep-loop-again-2 t c = 
-    let g = c .before .before .before .before .before .before .before in
-    sweeping-on _ _ _ _ _ _ _ _ _ _ (g .before .loop .inv) (g .loop-test .taken) _ _ _ _ (begun t (g .before .before)) (own t (g .before .before)) (c .before .before .before .missed .ensures) (λ e. e)
+    let g = c .before .before .before .before .before .before .before .before in
+    sweeping-on _ _ _ _ _ _ _ _ _ _ (g .before .loop .inv) (g .loop-test .taken) _ _ _ _ (begun t (g .before .before)) (own t (g .before .before)) (c .before .before .before .before .missed .ensures) (λ e. e)
     (passed-over _ _ _ _ _ _ _ _ _ _ (g .before .loop .inv) (g .loop-test .taken) _ _ (c .before .at-rest .ensures (not-false _ (c .if1 .left))) (ahead t g))
 
 sweep-slice-read-apart : (t : ℕ) → sweep-lts.Need-slice-read-apart (sweep-claims t) (sweep-at t) sweep.Post sweep-Inv-loop sweep-μ-loop
@@ -305,6 +330,8 @@ pub +sweep-spec : {M : Type 1} → statement M
     (sweep-slice-read-missed t)
     (sweep-missed-requires t)
     (sweep-slice-read-at-rest t)
+    (sweep-mul-at-rest t)
+    (sweep-slice-read-at-rest-2 t)
     (sweep-add-at-rest t)
     (sweep-at-rest-requires t)
     (sweep-shared-slice-read-top t)
