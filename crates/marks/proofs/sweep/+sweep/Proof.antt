@@ -222,7 +222,7 @@ sweep-part-sweep-end : (t : ℕ) → sweep-lts.Need-part-sweep-end (sweep-claims
 sweep-part-sweep-end t c = search (needs, room t (c .before .before .before .before .before .before .before .before .before .before .before .before))
 
 sweep-sweep-requires : (t : ℕ) → sweep-lts.Need-sweep-requires (sweep-claims t) (sweep-at t) sweep.Post sweep-Inv-loop sweep-μ-loop
-sweep-sweep-requires t c κs = 
+sweep-sweep-requires t c κs =
     let g = c .before .before .before .before .before .before .before .before .before .before .before .before .before in
     let s = start-of t (g .before .before) in
     let can = child-waits t g .visitable in (
@@ -255,12 +255,12 @@ sweep-slice-write-words-3 : (t : ℕ) → sweep-lts.Need-slice-write-words-3 (sw
 sweep-slice-write-words-3 t c = let w = c .before .before .before .before .before .before in omega (arith, room t (going-on t w), w .words .given .1, length-set (going-on t w .before .loop .words) (going-on t w .before .loop .at) (w .before .before .before .pass .result))
 
 sweep-loop-less : (t : ℕ) → sweep-lts.Need-loop-less (sweep-claims t) (sweep-at t) sweep.Post sweep-Inv-loop sweep-μ-loop
-sweep-loop-less t c = 
+sweep-loop-less t c =
     let w = c .before .before .before .before .before .before in
     simp length-set (omega (arith, room t (going-on t w), simp length-set at (w .words .given .1)))
 
 sweep-loop-again : (t : ℕ) → sweep-lts.Need-loop-again (sweep-claims t) (sweep-at t) sweep.Post sweep-Inv-loop sweep-μ-loop
-sweep-loop-again t c = 
+sweep-loop-again t c =
     let w = c .before .before .before .before .before .before in
     let p = w .before .before .before in
     let g = going-on t w in
@@ -280,7 +280,7 @@ sweep-loop-less-2 : (t : ℕ) → sweep-lts.Need-loop-less-2 (sweep-claims t) (s
 sweep-loop-less-2 t c = search (needs, room t (c .before .before .before .before .before .before .before .before))
 
 sweep-loop-again-2 : (t : ℕ) → sweep-lts.Need-loop-again-2 (sweep-claims t) (sweep-at t) sweep.Post sweep-Inv-loop sweep-μ-loop
-sweep-loop-again-2 t c = 
+sweep-loop-again-2 t c =
     let g = c .before .before .before .before .before .before .before .before in
     sweeping-on _ _ _ _ _ _ _ _ _ _ (g .before .loop .inv) (g .loop-test .taken) _ _ _ _ (begun t (g .before .before)) (own t (g .before .before)) (c .before .before .before .before .missed .ensures) (λ e. e)
     (passed-over _ _ _ _ _ _ _ _ _ _ (g .before .loop .inv) (g .loop-test .taken) _ _ (c .before .at-rest .ensures (not-false _ (c .if1 .left))) (ahead t g))
@@ -295,7 +295,7 @@ sweep-same-length : (t : ℕ) → sweep-lts.Need-same-length (sweep-claims t) (s
 sweep-same-length t c = c .before .before .before .before .loop .inv .same-length ∙ length-set (start-of t (c .before .before .before .before .before) .args .words .now) 0 (c .before .before .before .before .before .close-from .result)
 
 sweep-returns : (t : ℕ) → sweep-lts.Need-returns (sweep-claims t) (sweep-at t) sweep.Post sweep-Inv-loop sweep-μ-loop
-sweep-returns t c = 
+sweep-returns t c =
     let l = c .before .before .before in
     let a = l .before .before in (
       λ x can. sweep-done _ _ _ _ _ _ _ (a .close-from .ensures) x can _ _ _ _ (l .before .loop .inv) (l .loop-test .left),
@@ -306,7 +306,7 @@ sweep-same-length-2 : (t : ℕ) → sweep-lts.Need-same-length-2 (sweep-claims t
 sweep-same-length-2 t c = c .before .before .loop .inv .same-length ∙ length-set (start-of t (c .before .before .before) .args .words .now) 0 (c .before .before .before .close-from .result)
 
 sweep-returns-2 : (t : ℕ) → sweep-lts.Need-returns-2 (sweep-claims t) (sweep-at t) sweep.Post sweep-Inv-loop sweep-μ-loop
-sweep-returns-2 t c = 
+sweep-returns-2 t c =
     let l = c .before in
     let a = l .before .before in (
       λ x can. sweep-done _ _ _ _ _ _ _ (a .close-from .ensures) x can _ _ _ _ (l .before .loop .inv) (l .loop-test .left),
