@@ -26,6 +26,7 @@ pub mod Visiting
 pub mod Settling
 pub mod Chains
 pub mod GoneThrough
+pub mod Idle
 pub mod Sweeping
 pub mod Twice
 pub mod Simulated

@@ -22,6 +22,8 @@ use Rattle.marks.specs.Closing.{closes-again}
 use Rattle.marks.specs.Reclosing.{Closes-from, passed-nearly}
 use Rattle.marks.specs.EachClosed.{Each-closed-below, closed-below-same}
 use Rattle.marks.specs.Chains.{Visitable, Under-way, Waiting, under-way, waiting-child, closed-sweepable, begun-closed, swept, all-settled}
+use Rattle.marks.specs.Bits.{bit-zero}
+use Rattle.marks.specs.Idle.{Ended, finished}
 use Rattle.marks.specs.GoneThrough.{further, gone, visited-at-rest, settled-at-rest}
 
 -- the words with ys in the place of m words from a on
@@ -327,6 +329,20 @@ module _ (reach runs stands tops : List ℕ) (k : ℕ) where
       -- and settled, where no start waits that is marked now
       pub sweep-settled : settled ≡ true → Apart (getD words 0 0) waiting → Settled x (Holds x words)
       sweep-settled = all-settled reach runs stands tops x k (set entry 0 closed) begun-sweepable words at waiting settled (sweeping .each x begun-sweepable own-begun) past
+
+    -- the same where the sweep ends before, with nothing marked in the own word nor ahead
+    module _ (words : List ℕ) (at waiting : ℕ) (settled : Bool) (sweeping : Sweeping (set entry 0 closed) words at waiting settled)
+        (unmarked : getD words 0 0 ≡ 0) (none : (o : ℕ) → at ≤ o → o < length words → getD words o 0 ≡ 0) where
+      ended : Ended reach runs stands tops x k (set entry 0 closed) begun-sweepable words settled (sweeping .same-length) unmarked
+      ended = finished reach runs stands tops x k (set entry 0 closed) begun-sweepable words settled (sweeping .same-length) unmarked at waiting none
+          (sweeping .each x begun-sweepable own-begun)
+
+      pub idle-done : Swept x entry words
+      idle-done = swept reach runs stands tops x k entry closed can own-closed words (ended .at) (ended .waiting) settled (ended .way) (ended .past)
+
+      pub idle-settled : settled ≡ true → Settled x (Holds x words)
+      idle-settled e = all-settled reach runs stands tops x k (set entry 0 closed) begun-sweepable words (ended .at) (ended .waiting) settled (ended .way) (ended .past) e
+          (λ i b. absurd (bit-zero i (subst (λ (w : ℕ). Bit w i) unmarked b)))
 
   -- the tables have room for words as many as before
   pub sized-same : (before after : List ℕ) → length after ≡ length before → Sized reach runs stands tops k before → Sized reach runs stands tops k after

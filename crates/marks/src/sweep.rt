@@ -78,6 +78,16 @@ fn at_rest(
     true
 }
 
+// Whether nothing can happen from a child piece on: the own word has no mark, and those ahead have none.
+fn idle(word: u64, child: usize, to: usize) -> bool
+    ensures { λ r. ⌜ (r ≡ true → (word ≡ 0) × (to ≤ child)) ⌝ }
+{
+    if word == 0 {
+        return to <= child;
+    }
+    false
+}
+
 // Sweeps the run of the piece: closes the piece itself, then goes through its child pieces from left to right, whose runs stand one after the
 // other behind its own word. A marked start is passed down, the child is swept, a marked accepting state is passed up, and the piece is closed again.
 // Marks of the child pieces are among the words `from` to `to` only, counted from piece 0: a run with none of them is passed over if its start is
@@ -102,6 +112,9 @@ pub fn sweep(
     let mut at = 1;
     while at < words.len() {
         let child = piece + at;
+        if idle(words[0], child, to) {
+            return settled;
+        }
         let stand = stands[child] as usize;
         let next = at + runs[child] as usize;
         waiting = missed(words[0], stand, waiting);

@@ -4,44 +4,25 @@ use Prim.Native.Nat.{ℕ, _+_, _-_, _≤_, _<_}
 use native.Mathlib.Omega.{arith}
 use mathlib.Core.Path.{_≡_, sym, _∙_, subst}
 use mathlib.Core.List.{List}
-use mathlib.Core.Logic.{_⊎_, ⊎-elim}
-use borrow.Author.Tests.{not-true, not-false}
+use mathlib.Core.Logic.{_⊎_, inr}
+use borrow.Author.Tests.{not-false}
 use lib.ListN.{length, getD, set, length-set}
 use borrow.Author.Needs.{needs}
 use borrow.Fn.Kinds.{In}
 use borrow.Fn.PlainCycle.{Measures, is, falls, and}
 use Rattle.language.specs.Settled.{Settled}
 use Rattle.tables.specs.Words.{Holds}
-use Rattle.language.specs.Settled.{Settled}
-use Rattle.tables.specs.Words.{Holds}
-use Rattle.language.specs.Settled.{Settled}
-use Rattle.tables.specs.Words.{Holds}
-use Rattle.tables.specs.Plan.{Closes}
-use Rattle.language.specs.Settled.{Settled}
-use Rattle.tables.specs.Words.{Holds}
-use Rattle.language.specs.Settled.{Settled}
-use Rattle.tables.specs.Words.{Holds}
-use Rattle.language.specs.Settled.{Settled}
-use Rattle.tables.specs.Words.{Holds}
-use Rattle.tables.specs.Plan.{Closes}
-use Rattle.language.specs.Settled.{Settled}
-use Rattle.tables.specs.Words.{Holds}
-use Rattle.language.specs.Settled.{Settled}
-use Rattle.tables.specs.Words.{Holds}
-use Rattle.tables.specs.Plan.{Closes}
-use Rattle.language.specs.Settled.{Settled}
-use Rattle.tables.specs.Words.{Holds}
-use Rattle.tables.specs.Plan.{Closes}
 use Rattle.tables.specs.Plan.{Closes}
 use Rattle.marks.specs.Swept.{Sweepable, Sized}
 use Rattle.marks.specs.Chains.{Waiting}
-use Rattle.marks.specs.Sweeping.{Sweeping, Room, sweeping-begins, waits, room-for, quiet-ahead, passed-over, still-settled, passed-over, still-settled, passed-over, still-settled, sweeping-on, begun-sweepable, own-begun, sweep-done, sweep-settled, sized-same, lent-sweepable, lent-shorter, lent-ready, visited, after-part}
+use Rattle.marks.specs.Sweeping.{Sweeping, Room, sweeping-begins, waits, room-for, quiet-ahead, passed-over, still-settled, sweeping-on, begun-sweepable, own-begun, sweep-done, sweep-settled, idle-done, idle-settled, sized-same, lent-sweepable, lent-shorter, lent-ready, visited, after-part}
 use Rattle.marks.proofs.sweep.sweep.Reads as sweep
 use Rattle.marks.proofs.sweep.sweep.Kinds as sweep-kinds
 use Rattle.marks.proofs.sweep.+sweep.Lts-sweep as sweep-lts
 use Rattle.marks.proofs.sweep.apart.Reads as apart-reads
 use Rattle.marks.proofs.sweep.at_rest.Reads as at-rest-reads
 use Rattle.marks.proofs.sweep.close_from.Reads as close-from-reads
+use Rattle.marks.proofs.sweep.idle.Reads as idle-reads
 use Rattle.marks.proofs.sweep.missed.Reads as missed-reads
 use Rattle.marks.proofs.sweep.pass.Reads as pass-reads
 use Rattle.marks.proofs.sweep.+sweep.{statement}
@@ -61,6 +42,8 @@ abbrev sweep-claims : ℕ → sweep-lts.Claims
 sweep-claims t = (
   close-from-reads.Asked,
   close-from-reads.Learnt,
+  idle-reads.Asked,
+  idle-reads.Learnt,
   missed-reads.Asked,
   missed-reads.Learnt,
   at-rest-reads.Asked,
@@ -128,7 +111,7 @@ abbrev Come-back : ℕ → Type 0
 Come-back t = sweep-lts.After-words (sweep-claims t) (sweep-at t) sweep.Post sweep-Inv-loop sweep-μ-loop
 
 abbrev going-on : (t : ℕ) → Come-back t → Going-on t
-going-on t c = c .before .before .before .before .before .before .before .before .before .before .before .before .before .before .before
+going-on t c = c .before .before .before .before .before .before .before .before .before .before .before .before .before .before .before .before .before .before
 
 -- a bit whose next is in the word, and the lowest
 bits-within : (stand : ℕ) → stand + 1 < 64 → (stand < 64) × (0 < 64)
@@ -149,81 +132,100 @@ sweep-loop-holds t c = sweeping-begins _ _ _ _ _ _ _
 sweep-add-child : (t : ℕ) → sweep-lts.Need-add-child (sweep-claims t) (sweep-at t) sweep.Post sweep-Inv-loop sweep-μ-loop
 sweep-add-child t c = search (needs, room t (c))
 
+sweep-slice-read-idle : (t : ℕ) → sweep-lts.Need-slice-read-idle (sweep-claims t) (sweep-at t) sweep.Post sweep-Inv-loop sweep-μ-loop
+sweep-slice-read-idle t c = search (needs, room t (c .before))
+
+sweep-idle-requires : (t : ℕ) → sweep-lts.Need-idle-requires (sweep-claims t) (sweep-at t) sweep.Post sweep-Inv-loop sweep-μ-loop
+sweep-idle-requires t c κs = search needs
+
+sweep-same-length : (t : ℕ) → sweep-lts.Need-same-length (sweep-claims t) (sweep-at t) sweep.Post sweep-Inv-loop sweep-μ-loop
+sweep-same-length t c = c .before .before .before .before .loop .inv .same-length ∙ length-set (start-of t (c .before .before .before .before .before) .args .words .now) 0 (c .before .before .before .before .before .close-from .result)
+
+sweep-returns : (t : ℕ) → sweep-lts.Need-returns (sweep-claims t) (sweep-at t) sweep.Post sweep-Inv-loop sweep-μ-loop
+sweep-returns t c =
+    let g = c .before .before .before in
+    let a = g .before .before in
+    let still = c .before .idle .ensures (c .if1 .taken) in
+    let none : (o : ℕ) → g .before .loop .at ≤ o → o < length (g .before .loop .words) → getD (g .before .loop .words) o 0 ≡ 0 = λ o l h. ahead t g o l h (inr (omega (arith, still .1))) in (
+      λ x can. idle-done _ _ _ _ _ _ _ (a .close-from .ensures) x can _ _ _ _ (g .before .loop .inv) (still .0) none,
+      λ x can e. idle-settled _ _ _ _ _ _ _ (a .close-from .ensures) x can _ _ _ _ (g .before .loop .inv) (still .0) none e,
+    )
+
 sweep-shared-slice-read-stand : (t : ℕ) → sweep-lts.Need-shared-slice-read-stand (sweep-claims t) (sweep-at t) sweep.Post sweep-Inv-loop sweep-μ-loop
-sweep-shared-slice-read-stand t c = search (needs, room t (c .before))
+sweep-shared-slice-read-stand t c = search (needs, room t (c .before .before .before .before))
 
 sweep-cast-stand : (t : ℕ) → sweep-lts.Need-cast-stand (sweep-claims t) (sweep-at t) sweep.Post sweep-Inv-loop sweep-μ-loop
-sweep-cast-stand t c = search (needs, room t (c .before))
+sweep-cast-stand t c = search (needs, room t (c .before .before .before .before))
 
 sweep-shared-slice-read-next : (t : ℕ) → sweep-lts.Need-shared-slice-read-next (sweep-claims t) (sweep-at t) sweep.Post sweep-Inv-loop sweep-μ-loop
-sweep-shared-slice-read-next t c = search (needs, room t (c .before .before))
+sweep-shared-slice-read-next t c = search (needs, room t (c .before .before .before .before .before))
 
 sweep-cast-next : (t : ℕ) → sweep-lts.Need-cast-next (sweep-claims t) (sweep-at t) sweep.Post sweep-Inv-loop sweep-μ-loop
-sweep-cast-next t c = search (needs, room t (c .before .before))
+sweep-cast-next t c = search (needs, room t (c .before .before .before .before .before))
 
 sweep-add-next : (t : ℕ) → sweep-lts.Need-add-next (sweep-claims t) (sweep-at t) sweep.Post sweep-Inv-loop sweep-μ-loop
-sweep-add-next t c = search (needs, room t (c .before .before))
+sweep-add-next t c = search (needs, room t (c .before .before .before .before .before))
 
 sweep-slice-read-missed : (t : ℕ) → sweep-lts.Need-slice-read-missed (sweep-claims t) (sweep-at t) sweep.Post sweep-Inv-loop sweep-μ-loop
-sweep-slice-read-missed t c = search (needs, room t (c .before .before .before))
+sweep-slice-read-missed t c = search (needs, room t (c .before .before .before .before .before .before))
 
 sweep-missed-requires : (t : ℕ) → sweep-lts.Need-missed-requires (sweep-claims t) (sweep-at t) sweep.Post sweep-Inv-loop sweep-μ-loop
-sweep-missed-requires t c κs = search (needs, room t (c .before .before .before))
+sweep-missed-requires t c κs = search (needs, room t (c .before .before .before .before .before .before))
 
 sweep-slice-read-at-rest : (t : ℕ) → sweep-lts.Need-slice-read-at-rest (sweep-claims t) (sweep-at t) sweep.Post sweep-Inv-loop sweep-μ-loop
-sweep-slice-read-at-rest t c = search (needs, room t (c .before .before .before .before .before))
+sweep-slice-read-at-rest t c = search (needs, room t (c .before .before .before .before .before .before .before .before))
 
 sweep-mul-at-rest : (t : ℕ) → sweep-lts.Need-mul-at-rest (sweep-claims t) (sweep-at t) sweep.Post sweep-Inv-loop sweep-μ-loop
-sweep-mul-at-rest t c = search (needs, room t (c .before .before .before .before .before))
+sweep-mul-at-rest t c = search (needs, room t (c .before .before .before .before .before .before .before .before))
 
 sweep-slice-read-at-rest-2 : (t : ℕ) → sweep-lts.Need-slice-read-at-rest-2 (sweep-claims t) (sweep-at t) sweep.Post sweep-Inv-loop sweep-μ-loop
-sweep-slice-read-at-rest-2 t c = search (needs, room t (c .before .before .before .before .before .before))
+sweep-slice-read-at-rest-2 t c = search (needs, room t (c .before .before .before .before .before .before .before .before .before))
 
 sweep-add-at-rest : (t : ℕ) → sweep-lts.Need-add-at-rest (sweep-claims t) (sweep-at t) sweep.Post sweep-Inv-loop sweep-μ-loop
-sweep-add-at-rest t c = search (needs, room t (c .before .before .before .before .before .before))
+sweep-add-at-rest t c = search (needs, room t (c .before .before .before .before .before .before .before .before .before))
 
 sweep-at-rest-requires : (t : ℕ) → sweep-lts.Need-at-rest-requires (sweep-claims t) (sweep-at t) sweep.Post sweep-Inv-loop sweep-μ-loop
-sweep-at-rest-requires t c κs = let r = room t (c .before .before .before .before .before .before) in (omega (arith, r .stand-small), omega (arith, r .runs-room, start-of t (c .before .before .before .before .before .before .before .before) .pre .1 .sized .runs-sized))
+sweep-at-rest-requires t c κs = let r = room t (c .before .before .before .before .before .before .before .before .before) in (omega (arith, r .stand-small), omega (arith, r .runs-room, start-of t (c .before .before .before .before .before .before .before .before .before .before .before) .pre .1 .sized .runs-sized))
 
 sweep-shared-slice-read-top : (t : ℕ) → sweep-lts.Need-shared-slice-read-top (sweep-claims t) (sweep-at t) sweep.Post sweep-Inv-loop sweep-μ-loop
-sweep-shared-slice-read-top t c = search (needs, room t (c .before .before .before .before .before .before .before .before .before))
+sweep-shared-slice-read-top t c = search (needs, room t (c .before .before .before .before .before .before .before .before .before .before .before .before))
 
 sweep-cast-top : (t : ℕ) → sweep-lts.Need-cast-top (sweep-claims t) (sweep-at t) sweep.Post sweep-Inv-loop sweep-μ-loop
-sweep-cast-top t c = search (needs, room t (c .before .before .before .before .before .before .before .before .before))
+sweep-cast-top t c = search (needs, room t (c .before .before .before .before .before .before .before .before .before .before .before .before))
 
 sweep-slice-read-pass : (t : ℕ) → sweep-lts.Need-slice-read-pass (sweep-claims t) (sweep-at t) sweep.Post sweep-Inv-loop sweep-μ-loop
-sweep-slice-read-pass t c = search (needs, room t (c .before .before .before .before .before .before .before .before .before .before))
+sweep-slice-read-pass t c = search (needs, room t (c .before .before .before .before .before .before .before .before .before .before .before .before .before))
 
 sweep-mul-pass : (t : ℕ) → sweep-lts.Need-mul-pass (sweep-claims t) (sweep-at t) sweep.Post sweep-Inv-loop sweep-μ-loop
-sweep-mul-pass t c = search (needs, room t (c .before .before .before .before .before .before .before .before .before .before))
+sweep-mul-pass t c = search (needs, room t (c .before .before .before .before .before .before .before .before .before .before .before .before .before))
 
 sweep-slice-read-pass-2 : (t : ℕ) → sweep-lts.Need-slice-read-pass-2 (sweep-claims t) (sweep-at t) sweep.Post sweep-Inv-loop sweep-μ-loop
-sweep-slice-read-pass-2 t c = search (needs, room t (c .before .before .before .before .before .before .before .before .before .before .before))
+sweep-slice-read-pass-2 t c = search (needs, room t (c .before .before .before .before .before .before .before .before .before .before .before .before .before .before))
 
 sweep-pass-requires : (t : ℕ) → sweep-lts.Need-pass-requires (sweep-claims t) (sweep-at t) sweep.Post sweep-Inv-loop sweep-μ-loop
-sweep-pass-requires t c κs = bits-within _ (room t (c .before .before .before .before .before .before .before .before .before .before .before) .stand-small)
+sweep-pass-requires t c κs = bits-within _ (room t (c .before .before .before .before .before .before .before .before .before .before .before .before .before .before) .stand-small)
 
 sweep-mul-words : (t : ℕ) → sweep-lts.Need-mul-words (sweep-claims t) (sweep-at t) sweep.Post sweep-Inv-loop sweep-μ-loop
-sweep-mul-words t c = search (needs, room t (c .before .before .before .before .before .before .before .before .before .before .before .before))
+sweep-mul-words t c = search (needs, room t (c .before .before .before .before .before .before .before .before .before .before .before .before .before .before .before))
 
 sweep-slice-write-words-2 : (t : ℕ) → sweep-lts.Need-slice-write-words-2 (sweep-claims t) (sweep-at t) sweep.Post sweep-Inv-loop sweep-μ-loop
-sweep-slice-write-words-2 t c = search (needs, room t (c .before .before .before .before .before .before .before .before .before .before .before .before))
+sweep-slice-write-words-2 t c = search (needs, room t (c .before .before .before .before .before .before .before .before .before .before .before .before .before .before .before))
 
 sweep-mul-sweep : (t : ℕ) → sweep-lts.Need-mul-sweep (sweep-claims t) (sweep-at t) sweep.Post sweep-Inv-loop sweep-μ-loop
-sweep-mul-sweep t c = search (needs, room t (c .before .before .before .before .before .before .before .before .before .before .before .before))
+sweep-mul-sweep t c = search (needs, room t (c .before .before .before .before .before .before .before .before .before .before .before .before .before .before .before))
 
 sweep-sub-sweep : (t : ℕ) → sweep-lts.Need-sub-sweep (sweep-claims t) (sweep-at t) sweep.Post sweep-Inv-loop sweep-μ-loop
-sweep-sub-sweep t c = search (needs, room t (c .before .before .before .before .before .before .before .before .before .before .before .before))
+sweep-sub-sweep t c = search (needs, room t (c .before .before .before .before .before .before .before .before .before .before .before .before .before .before .before))
 
 sweep-part-sweep-start : (t : ℕ) → sweep-lts.Need-part-sweep-start (sweep-claims t) (sweep-at t) sweep.Post sweep-Inv-loop sweep-μ-loop
-sweep-part-sweep-start t c = search (needs, room t (c .before .before .before .before .before .before .before .before .before .before .before .before))
+sweep-part-sweep-start t c = search (needs, room t (c .before .before .before .before .before .before .before .before .before .before .before .before .before .before .before))
 
 sweep-part-sweep-end : (t : ℕ) → sweep-lts.Need-part-sweep-end (sweep-claims t) (sweep-at t) sweep.Post sweep-Inv-loop sweep-μ-loop
-sweep-part-sweep-end t c = search (needs, room t (c .before .before .before .before .before .before .before .before .before .before .before .before))
+sweep-part-sweep-end t c = search (needs, room t (c .before .before .before .before .before .before .before .before .before .before .before .before .before .before .before))
 
 sweep-sweep-requires : (t : ℕ) → sweep-lts.Need-sweep-requires (sweep-claims t) (sweep-at t) sweep.Post sweep-Inv-loop sweep-μ-loop
 sweep-sweep-requires t c κs =
-    let g = c .before .before .before .before .before .before .before .before .before .before .before .before .before in
+    let g = c .before .before .before .before .before .before .before .before .before .before .before .before .before .before .before .before in
     let s = start-of t (g .before .before) in
     let can = child-waits t g .visitable in (
       omega (arith, s .pre .0, lent-shorter _ _ _ _ _ _ _ _ _ can _ (c .before .pass .ensures), g .before .loop .inv .same-length, length-set (s .args .words .now) 0 (g .before .before .close-from .result)),
@@ -231,7 +233,7 @@ sweep-sweep-requires t c κs =
     )
 
 sweep-mul-pass-2 : (t : ℕ) → sweep-lts.Need-mul-pass-2 (sweep-claims t) (sweep-at t) sweep.Post sweep-Inv-loop sweep-μ-loop
-sweep-mul-pass-2 t c = search (needs, room t (c .before .before .before .before .before .before .before .before .before .before .before .before .before .before .before .before .before))
+sweep-mul-pass-2 t c = search (needs, room t (c .before .before .before .before .before .before .before .before .before .before .before .before .before .before .before .before .before .before .before .before))
 
 sweep-slice-read-pass-3 : (t : ℕ) → sweep-lts.Need-slice-read-pass-3 (sweep-claims t) (sweep-at t) sweep.Post sweep-Inv-loop sweep-μ-loop
 sweep-slice-read-pass-3 t c = let w = c .before .before .before in omega (arith, room t (going-on t w), w .words .given .1, length-set (going-on t w .before .loop .words) (going-on t w .before .loop .at) (w .before .before .before .pass .result))
@@ -240,16 +242,16 @@ sweep-slice-read-pass-4 : (t : ℕ) → sweep-lts.Need-slice-read-pass-4 (sweep-
 sweep-slice-read-pass-4 t c = let w = c .before .before .before .before in omega (arith, room t (going-on t w), w .words .given .1, length-set (going-on t w .before .loop .words) (going-on t w .before .loop .at) (w .before .before .before .pass .result))
 
 sweep-add-pass : (t : ℕ) → sweep-lts.Need-add-pass (sweep-claims t) (sweep-at t) sweep.Post sweep-Inv-loop sweep-μ-loop
-sweep-add-pass t c = search (needs, room t (c .before .before .before .before .before .before .before .before .before .before .before .before .before .before .before .before .before .before .before))
+sweep-add-pass t c = search (needs, room t (c .before .before .before .before .before .before .before .before .before .before .before .before .before .before .before .before .before .before .before .before .before .before))
 
 sweep-pass-requires-2 : (t : ℕ) → sweep-lts.Need-pass-requires-2 (sweep-claims t) (sweep-at t) sweep.Post sweep-Inv-loop sweep-μ-loop
-sweep-pass-requires-2 t c κs = let r = room t (c .before .before .before .before .before .before .before .before .before .before .before .before .before .before .before .before .before .before .before) in (r .top-small, r .stand-small)
+sweep-pass-requires-2 t c κs = let r = room t (c .before .before .before .before .before .before .before .before .before .before .before .before .before .before .before .before .before .before .before .before .before .before) in (r .top-small, r .stand-small)
 
 sweep-add-close-from : (t : ℕ) → sweep-lts.Need-add-close-from (sweep-claims t) (sweep-at t) sweep.Post sweep-Inv-loop sweep-μ-loop
-sweep-add-close-from t c = search (needs, room t (c .before .before .before .before .before .before .before .before .before .before .before .before .before .before .before .before .before .before .before .before))
+sweep-add-close-from t c = search (needs, room t (c .before .before .before .before .before .before .before .before .before .before .before .before .before .before .before .before .before .before .before .before .before .before .before))
 
 sweep-close-from-requires-2 : (t : ℕ) → sweep-lts.Need-close-from-requires-2 (sweep-claims t) (sweep-at t) sweep.Post sweep-Inv-loop sweep-μ-loop
-sweep-close-from-requires-2 t c κs = let r = room t (c .before .before .before .before .before .before .before .before .before .before .before .before .before .before .before .before .before .before .before .before) in (r .reach-room, r .stand-small)
+sweep-close-from-requires-2 t c κs = let r = room t (c .before .before .before .before .before .before .before .before .before .before .before .before .before .before .before .before .before .before .before .before .before .before .before) in (r .reach-room, r .stand-small)
 
 sweep-slice-write-words-3 : (t : ℕ) → sweep-lts.Need-slice-write-words-3 (sweep-claims t) (sweep-at t) sweep.Post sweep-Inv-loop sweep-μ-loop
 sweep-slice-write-words-3 t c = let w = c .before .before .before .before .before .before in omega (arith, room t (going-on t w), w .words .given .1, length-set (going-on t w .before .loop .words) (going-on t w .before .loop .at) (w .before .before .before .pass .result))
@@ -265,7 +267,7 @@ sweep-loop-again t c =
     let p = w .before .before .before in
     let g = going-on t w in
     sweeping-on _ _ _ _ _ _ _ _ _ _ (g .before .loop .inv) (g .loop-test .taken) _ _ _ _ (begun t (g .before .before)) (own t (g .before .before)) (c .before .before .before .before .before .before .before .before .before .before .before .before .before .before .before .before .before .missed .ensures)
-    (λ e. still-settled {child = w .before .sweep .result} (λ then. then .1) (λ else. (not-false _ (else .0 .left), else .1)) (c .before .before .before .before .if2 .came) e .1)
+    (λ e. still-settled {child = w .before .sweep .result} (λ then. then .1) (λ else. (not-false _ (else .0 .left), else .1)) (c .before .before .before .before .if3 .came) e .1)
     (λ x child can. record {
       visited = visited _ _ _ _ _ _ _ x child can _ (p .pass .ensures) _ (w .before .sweep .kept .1 .1 .1 .1 .1 .1 .1 .0)
           (w .before .sweep .ensures .0 (child .tree) (lent-sweepable _ _ _ _ _ _ _ x child can _ (p .pass .ensures))) _ _ (c .before .pass2 .ensures) (c .close-from2 .ensures);
@@ -273,17 +275,17 @@ sweep-loop-again t c =
           (sym (after-part _ _ _ _ _ _ _ x child can _ (p .pass .ensures) _ (w .before .sweep .kept .1 .1 .1 .1 .1 .1 .1 .0)
           (w .before .sweep .ensures .0 (child .tree) (lent-sweepable _ _ _ _ _ _ _ x child can _ (p .pass .ensures))) _ _ (c .before .pass2 .ensures) (c .close-from2 .ensures)))
           (w .before .sweep .ensures .1 (child .tree) (lent-sweepable _ _ _ _ _ _ _ x child can _ (p .pass .ensures))
-          (still-settled {child = w .before .sweep .result} (λ then. then .1) (λ else. (not-false _ (else .0 .left), else .1)) (c .before .before .before .before .if2 .came) e .0));
+          (still-settled {child = w .before .sweep .result} (λ then. then .1) (λ else. (not-false _ (else .0 .left), else .1)) (c .before .before .before .before .if3 .came) e .0));
     })
 
 sweep-loop-less-2 : (t : ℕ) → sweep-lts.Need-loop-less-2 (sweep-claims t) (sweep-at t) sweep.Post sweep-Inv-loop sweep-μ-loop
-sweep-loop-less-2 t c = search (needs, room t (c .before .before .before .before .before .before .before .before))
+sweep-loop-less-2 t c = search (needs, room t (c .before .before .before .before .before .before .before .before .before .before .before))
 
 sweep-loop-again-2 : (t : ℕ) → sweep-lts.Need-loop-again-2 (sweep-claims t) (sweep-at t) sweep.Post sweep-Inv-loop sweep-μ-loop
 sweep-loop-again-2 t c =
-    let g = c .before .before .before .before .before .before .before .before in
+    let g = c .before .before .before .before .before .before .before .before .before .before .before in
     sweeping-on _ _ _ _ _ _ _ _ _ _ (g .before .loop .inv) (g .loop-test .taken) _ _ _ _ (begun t (g .before .before)) (own t (g .before .before)) (c .before .before .before .before .missed .ensures) (λ e. e)
-    (passed-over _ _ _ _ _ _ _ _ _ _ (g .before .loop .inv) (g .loop-test .taken) _ _ (c .before .at-rest .ensures (not-false _ (c .if1 .left))) (ahead t g))
+    (passed-over _ _ _ _ _ _ _ _ _ _ (g .before .loop .inv) (g .loop-test .taken) _ _ (c .before .at-rest .ensures (not-false _ (c .if2 .left))) (ahead t g))
 
 sweep-slice-read-apart : (t : ℕ) → sweep-lts.Need-slice-read-apart (sweep-claims t) (sweep-at t) sweep.Post sweep-Inv-loop sweep-μ-loop
 sweep-slice-read-apart t c = let l = c .before .before .before in let s = start-of t (l .before) in omega (arith, l .loop .inv .same-length, length-set (s .args .words .now) 0 (l .before .close-from .result), s .pre .1 .sweepable .whole-run)
@@ -291,22 +293,22 @@ sweep-slice-read-apart t c = let l = c .before .before .before in let s = start-
 sweep-apart-requires : (t : ℕ) → sweep-lts.Need-apart-requires (sweep-claims t) (sweep-at t) sweep.Post sweep-Inv-loop sweep-μ-loop
 sweep-apart-requires t c κs = search needs
 
-sweep-same-length : (t : ℕ) → sweep-lts.Need-same-length (sweep-claims t) (sweep-at t) sweep.Post sweep-Inv-loop sweep-μ-loop
-sweep-same-length t c = c .before .before .before .before .loop .inv .same-length ∙ length-set (start-of t (c .before .before .before .before .before) .args .words .now) 0 (c .before .before .before .before .before .close-from .result)
-
-sweep-returns : (t : ℕ) → sweep-lts.Need-returns (sweep-claims t) (sweep-at t) sweep.Post sweep-Inv-loop sweep-μ-loop
-sweep-returns t c =
-    let l = c .before .before .before in
-    let a = l .before .before in (
-      λ x can. sweep-done _ _ _ _ _ _ _ (a .close-from .ensures) x can _ _ _ _ (l .before .loop .inv) (l .loop-test .left),
-      λ x can yes'. sweep-settled _ _ _ _ _ _ _ (a .close-from .ensures) x can _ _ _ _ (l .before .loop .inv) (l .loop-test .left) (c .before .before .if3 .taken) (c .apart .ensures yes'),
-    )
-
 sweep-same-length-2 : (t : ℕ) → sweep-lts.Need-same-length-2 (sweep-claims t) (sweep-at t) sweep.Post sweep-Inv-loop sweep-μ-loop
-sweep-same-length-2 t c = c .before .before .loop .inv .same-length ∙ length-set (start-of t (c .before .before .before) .args .words .now) 0 (c .before .before .before .close-from .result)
+sweep-same-length-2 t c = c .before .before .before .before .loop .inv .same-length ∙ length-set (start-of t (c .before .before .before .before .before) .args .words .now) 0 (c .before .before .before .before .before .close-from .result)
 
 sweep-returns-2 : (t : ℕ) → sweep-lts.Need-returns-2 (sweep-claims t) (sweep-at t) sweep.Post sweep-Inv-loop sweep-μ-loop
 sweep-returns-2 t c =
+    let l = c .before .before .before in
+    let a = l .before .before in (
+      λ x can. sweep-done _ _ _ _ _ _ _ (a .close-from .ensures) x can _ _ _ _ (l .before .loop .inv) (l .loop-test .left),
+      λ x can yes'. sweep-settled _ _ _ _ _ _ _ (a .close-from .ensures) x can _ _ _ _ (l .before .loop .inv) (l .loop-test .left) (c .before .before .if4 .taken) (c .apart .ensures yes'),
+    )
+
+sweep-same-length-3 : (t : ℕ) → sweep-lts.Need-same-length-3 (sweep-claims t) (sweep-at t) sweep.Post sweep-Inv-loop sweep-μ-loop
+sweep-same-length-3 t c = c .before .before .loop .inv .same-length ∙ length-set (start-of t (c .before .before .before) .args .words .now) 0 (c .before .before .before .close-from .result)
+
+sweep-returns-3 : (t : ℕ) → sweep-lts.Need-returns-3 (sweep-claims t) (sweep-at t) sweep.Post sweep-Inv-loop sweep-μ-loop
+sweep-returns-3 t c =
     let l = c .before in
     let a = l .before .before in (
       λ x can. sweep-done _ _ _ _ _ _ _ (a .close-from .ensures) x can _ _ _ _ (l .before .loop .inv) (l .loop-test .left),
@@ -322,6 +324,10 @@ pub +sweep-spec : {M : Type 1} → statement M
     (sweep-slice-write-words t)
     (sweep-loop-holds t)
     (sweep-add-child t)
+    (sweep-slice-read-idle t)
+    (sweep-idle-requires t)
+    (sweep-same-length t)
+    (sweep-returns t)
     (sweep-shared-slice-read-stand t)
     (sweep-cast-stand t)
     (sweep-shared-slice-read-next t)
@@ -361,7 +367,7 @@ pub +sweep-spec : {M : Type 1} → statement M
     (sweep-loop-again-2 t)
     (sweep-slice-read-apart t)
     (sweep-apart-requires t)
-    (sweep-same-length t)
-    (sweep-returns t)
     (sweep-same-length-2 t)
-    (sweep-returns-2 t))
+    (sweep-returns-2 t)
+    (sweep-same-length-3 t)
+    (sweep-returns-3 t))
