@@ -1,7 +1,7 @@
 -- What a sweep leaves as it is: marks that are settled, and no marks at all.
 -- Assumes nothing.
 use mathlib.Core.Logic.{_↔_}
-use Rattle.language.specs.Automaton.{State, start, accepting, left, right, States}
+use Rattle.language.specs.Automaton.{State, left, right, States}
 use Rattle.language.specs.Nested.{Nested, leaf, catenation, union, star, below, Has, Sweep}
 use Rattle.language.specs.Settled.{Wire, Settled}
 use Rattle.language.specs.Walk.{walked-keeps}

@@ -1,16 +1,16 @@
 -- Words are known from the marks they hold: every bit below a piece's number of states is the bit of some state, and no other is set.
 -- Assumes nothing.
-use Prim.Native.Nat.{ℕ, zero, suc, _+_, _-_, _^_, _≤_, _<_}
+use Prim.Native.Nat.{ℕ, zero, suc, _+_, _-_, _≤_, _<_}
 use native.Mathlib.Decide.{decLt}
 use native.Mathlib.Omega.{arith}
-use mathlib.Core.Path.{_≡_, refl, sym, ap, _∙_, subst}
+use mathlib.Core.Path.{_≡_, sym, ap, _∙_, subst}
 use mathlib.Core.Logic.{_⊎_, inl, inr, _↔_, ⊎-elim}
 use mathlib.Core.List.{List, _∷_, _++_}
 use lib.ListN.{length, getD, take}
 use lib.Seq.{ext-getD, getD-take, length-take-le}
 use Rattle.language.specs.Automaton.{State, left, right}
 use Rattle.language.specs.Nested.{Nested, leaf, catenation, union, star, below, Has}
-use Rattle.tables.specs.Words.{Bit, width, run, number, Holds, Clean}
+use Rattle.tables.specs.Words.{Bit, width, run, Holds, Clean}
 use Rattle.marks.specs.Bits.{bit-below, same-bits}
 use Rattle.marks.specs.Numbers.{number-onto}
 use Rattle.marks.specs.Spots.{Spot, own, under, shift, enter, spot, Held, holds-held, own-spot, widths, getD-left, getD-right, clean-words}

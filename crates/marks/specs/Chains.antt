@@ -9,12 +9,11 @@ use mathlib.Core.Bool.{Bool, true}
 use mathlib.Core.List.{List, [], _∷_, _++_, append-nil}
 use lib.ListN.{length, getD, drop, set, length-set, length-take, length-drop}
 use lib.Seq.{ext-getD, getD-drop, getD-set-same, getD-set-other, drop-drop, drop-set-lt, append-snoc}
-use Rattle.language.specs.Automaton.{start}
 use Rattle.language.specs.Nested.{Nested, leaf, catenation, union, star, below}
 use Rattle.language.specs.Settled.{Settled}
 use Rattle.tables.specs.Words.{Bit, width, run, Holds, Clean}
 use Rattle.tables.specs.Plan.{Children-at, row, Reaches, Each-below, Closes}
-use Rattle.marks.specs.EachClosed.{Each-closed, Each-closed-below, closed-below-same, closed-same}
+use Rattle.marks.specs.EachClosed.{Each-closed, Each-closed-below, closed-same}
 use Rattle.marks.specs.Swept.{Apart, Narrow-below, tables, Laid, Sweepable, Swept, Child, children-of, part, Visited, Visits}
 use Rattle.marks.specs.Closing.{closes-again}
 use Rattle.marks.specs.Reclosing.{closed-nearly}

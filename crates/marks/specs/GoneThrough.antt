@@ -1,21 +1,20 @@
 -- A child piece once it was gone through: swept, or passed over because it was at rest.
 -- Assumes nothing.
-use Prim.Native.Nat.{ℕ, zero, suc, _+_, _-_, _^_, _≤_, _<_}
+use Prim.Native.Nat.{ℕ, zero, suc, _+_, _-_, _^_, _<_}
 use native.Mathlib.Omega.{arith}
 use mathlib.Core.Bool.{Bool, true}
 use mathlib.Core.Path.{_≡_, refl, sym, ap, _∙_, subst}
 use mathlib.Core.Logic.{_⊎_, inl, inr, ⊎-elim}
 use mathlib.Core.List.{List}
-use lib.ListN.{length, getD}
-use Rattle.language.specs.Automaton.{State, start}
-use Rattle.language.specs.Nested.{Nested, Has}
+use lib.ListN.{getD}
+use Rattle.language.specs.Automaton.{start}
+use Rattle.language.specs.Nested.{Nested}
 use Rattle.language.specs.Settled.{Settled}
 use Rattle.language.specs.Unmoved.{settled-agree, settled-none, sweep-none}
 use Rattle.tables.specs.Words.{Bit, width, run, Holds}
 use Rattle.tables.specs.Plan.{Closes}
-use Rattle.marks.specs.Bits.{dec-bit, bit-zero, same-bits, bit-below}
-use Rattle.marks.specs.Numbers.{number-onto}
-use Rattle.marks.specs.Swept.{passed, Missed, Swept, Child, part, started, Visited}
+use Rattle.marks.specs.Bits.{dec-bit, bit-zero, same-bits}
+use Rattle.marks.specs.Swept.{passed, Missed, Child, part, started, Visited}
 use Rattle.marks.specs.Passing.{bit-passed, passed-below}
 use Rattle.marks.specs.AllZero.{zero-holds}
 use Rattle.marks.specs.Within.{sweep-extends}

@@ -12,8 +12,8 @@ use lib.ListN.{length, getD}
 use Rattle.language.specs.Nested.{Nested}
 use Rattle.tables.specs.Words.{Bit, run}
 use Rattle.marks.specs.Bits.{bit-zero, bit-with}
-use Rattle.marks.specs.Swept.{Missed, Sweepable, Child}
-use Rattle.marks.specs.Chains.{Under-way, Waiting, waiting-child}
+use Rattle.marks.specs.Swept.{Missed, Sweepable}
+use Rattle.marks.specs.Chains.{Under-way, waiting-child}
 use Rattle.marks.specs.GoneThrough.{further, gone, visited-at-rest, settled-at-rest}
 
 -- the start of one more child piece waits

@@ -1,6 +1,6 @@
 -- The layer inside: the marks of a start and of a step over the tables of a list, which are made once.
 -- Assumes nothing.
-use Prim.Native.Nat.{ℕ, zero, suc, _+_, _*_, _-_, _≤_, _<_}
+use Prim.Native.Nat.{ℕ, zero, suc, _+_, _-_, _≤_, _<_}
 use native.Mathlib.Omega.{arith}
 use mathlib.Core.Path.{_≡_, refl, sym, ap, _∙_, subst}
 use mathlib.Core.Bool.{Bool, true, false}
@@ -9,25 +9,25 @@ use mathlib.Core.List.{List, [], _∷_, _++_}
 use native.Mathlib.Numerals.{add-one}
 use lib.ListN.{length, getD, take, drop, set, replicate, length-append, length-drop, length-set}
 use lib.Seq.{getD-take, getD-drop, ext-getD, length-take-le, take-at, drop-at, drop-cons, set-at, append-snoc, take-suc}
-use Rattle.language.specs.Tree.{Tree, nodes}
+use Rattle.language.specs.Tree.{Tree}
 use Rattle.language.specs.Language.{Is}
 use Rattle.language.specs.Automaton.{State, States, accepting, start, Started, Stepped, After}
-use Rattle.language.specs.Nested.{Nested, leaf, catenation, union, star, below, whole, own, Has, origin, Models, Move}
+use Rattle.language.specs.Nested.{Nested, leaf, catenation, union, star, below, whole, origin, Models}
 use Rattle.language.specs.Same.{Agree, models-same}
 use Rattle.language.specs.Simulation.{_⊆_, stepped-more}
 use Rattle.language.specs.Acceptance.{accepts-exactly}
 use Rattle.language.specs.Models.{State-of, alike-models, models-alike, models-origins}
 use Rattle.language.specs.Along.{reached-state}
-use Rattle.tree.specs.Records.{Good, piece-count}
+use Rattle.tree.specs.Records.{Good}
 use Rattle.tree.specs.Nesting.{Small, Every-below}
 use Rattle.tree.specs.Pieces.{cut-up, stated}
 use Rattle.tables.specs.Words.{Bit, width, run, Holds, Clean, Agreeing, Set-of}
-use Rattle.tables.specs.Plan.{Pieces, Planned, Each, Reaches}
+use Rattle.tables.specs.Plan.{Pieces, Planned}
 use Rattle.marks.specs.Bits.{Told}
 use Rattle.tables.specs.Tables.{Prepared, Roomy, Ready, Holding, Answered}
 use Rattle.marks.specs.Promise.{Hold, Marks-of}
 use Rattle.marks.specs.EachClosed.{Each-closed-below}
-use Rattle.marks.specs.Swept.{Nearly-closed, Quiet, Narrow-below, Laid, Sized}
+use Rattle.marks.specs.Swept.{Nearly-closed, Quiet, Narrow-below, Laid}
 use Rattle.marks.specs.Reclosing.{closed-nearly}
 use Rattle.tables.specs.Given
 use Rattle.tables.specs.Given.{width-own}

@@ -1,9 +1,9 @@
 -- When the words of a piece and of its child pieces are settled: each child piece is, and is joined to its stand-in.
 -- Assumes nothing.
-use Prim.Native.Nat.{ℕ, suc, _+_, _-_, _<_}
+use Prim.Native.Nat.{ℕ, suc, _+_, _-_}
 use native.Mathlib.Omega.{arith}
 use mathlib.Core.Path.{_≡_, refl, sym, ap, _∙_, subst}
-use mathlib.Core.Logic.{_↔_, Iff·trans, Iff·symm}
+use mathlib.Core.Logic.{_↔_, Iff·symm}
 use mathlib.Core.List.{List, [], _∷_, _++_}
 use lib.ListN.{getD, drop}
 use lib.Seq.{getD-drop, drop-drop}
@@ -12,7 +12,7 @@ use Rattle.language.specs.Nested.{Nested, leaf, catenation, union, star, below,
 use Rattle.language.specs.Simulation.{Settled-by}
 use Rattle.language.specs.Settled.{Wire, Settled}
 use Rattle.language.specs.Unmoved.{settled-agree}
-use Rattle.tables.specs.Words.{Bit, width, run, Own, number, Holds}
+use Rattle.tables.specs.Words.{Bit, width, run, Holds}
 use Rattle.tables.specs.Plan.{Closes}
 use Rattle.marks.specs.EachClosed.{Each-closed, Each-closed-below, closed-same}
 use Rattle.marks.specs.Transitions.{transition-own}

@@ -12,15 +12,14 @@ use Rattle.language.specs.Automaton.{start}
 use Rattle.language.specs.Nested.{Nested}
 use Rattle.language.specs.Settled.{Settled}
 use Rattle.tables.specs.Words.{Bit, width, run, Holds, Clean}
-use Rattle.tables.specs.Plan.{row, Reaches, Closes}
+use Rattle.tables.specs.Plan.{Closes}
 use Rattle.marks.specs.Numbers.{width-two, number-onto}
 use Rattle.marks.specs.Passing.{passed-below}
 use Rattle.marks.specs.Swept.{passed, Nearly-closed, Missed, Apart, At-rest, Quiet, Sweepable, Sized, Ready, Swept, Child, part, started, Visited}
 use Rattle.marks.specs.Spots.{widths, Bounded, clean-words, below-power}
 use Rattle.marks.specs.Visiting.{part-at, started-own, started-below}
-use Rattle.marks.specs.Closing.{closes-again}
 use Rattle.marks.specs.Reclosing.{Closes-from, passed-nearly}
-use Rattle.marks.specs.EachClosed.{Each-closed-below, closed-below-same}
+use Rattle.marks.specs.EachClosed.{closed-below-same}
 use Rattle.marks.specs.Chains.{Visitable, Under-way, Waiting, under-way, waiting-child, closed-sweepable, begun-closed, swept, all-settled}
 use Rattle.marks.specs.Bits.{bit-zero}
 use Rattle.marks.specs.Idle.{Ended, finished}

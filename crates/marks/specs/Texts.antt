@@ -1,7 +1,7 @@
 -- The words after a text: how they come from those after the text without its last byte, when they say that the text is in the
 -- language, and when they say that no longer text is.
 -- Assumes nothing.
-use Prim.Native.Nat.{ℕ, suc, _+_, _-_, _<_}
+use Prim.Native.Nat.{ℕ, _+_, _-_}
 use mathlib.Core.Path.{_≡_, sym, subst}
 use mathlib.Core.Logic.{_↔_, Iff·trans as iff-trans}
 use mathlib.Core.List.{List, [], _∷_, _++_}
@@ -10,7 +10,7 @@ use lib.ListN.{getD}
 use Rattle.language.specs.Tree.{Tree}
 use Rattle.language.specs.Language.{Is, Matches}
 use Rattle.language.specs.Automaton.{State, accepting, States, Started, Stepped, After}
-use Rattle.language.specs.Nested.{Nested, Has, Models}
+use Rattle.language.specs.Nested.{Nested, Models}
 use Rattle.language.specs.Acceptance.{accepts-exactly}
 use Rattle.language.specs.Models.{origin-onto}
 use Rattle.language.specs.Along.{after-step, reached-state, none-longer}
@@ -18,10 +18,9 @@ use Rattle.tree.specs.Records.{piece-count}
 use Rattle.tree.specs.Pieces.{cut-up, stated}
 use Rattle.tables.specs.Words.{Bit, width, run, Holds, Clean}
 use Rattle.tables.specs.Tables.{Holding}
-use Rattle.marks.specs.Bits.{bit-zero}
 use Rattle.marks.specs.Numbers.{number-accepting}
 use Rattle.marks.specs.AllZero.{All-zero, zero-holds}
-use Rattle.marks.specs.Spots.{Spot, own, under, spot, Held, Within, bit-at, held-at, holds-held, spot-within, own-spot}
+use Rattle.marks.specs.Spots.{bit-at, held-at, holds-held, own-spot}
 
 -- there is a word for each piece of a tree
 pub all-words : (t : Tree ℕ) → 1 + run (cut-up t) ≡ piece-count t

@@ -8,7 +8,7 @@ use mathlib.Core.Bool.{Bool, true, false}
 use mathlib.Core.Logic.{_↔_, Iff·symm, Iff·trans}
 use mathlib.Core.List.{List, _++_}
 use lib.Dec.{T, eqb, eqb-refl}
-use lib.ListN.{length, take, drop, take-append-drop}
+use lib.ListN.{length, take, take-append-drop}
 use Rattle.language.specs.Tree.{Tree}
 use Rattle.language.specs.Language.{Is}
 use Rattle.language.specs.Automaton.{accepting, States, Started, Stepped}

@@ -15,7 +15,7 @@ use Rattle.finder.specs.Parts.{end-of}
 use Rattle.finder.specs.declared.part.End.{End}
 use Rattle.finder.specs.declared.part.End.the-variants.{At, Nowhere}
 use Rattle.finder.proofs.part.End.{the-type}
-use Rattle.finder.specs.Progress.{none-before-first, settled-found, settled-next}
+use Rattle.finder.specs.Progress.{settled-found, settled-next}
 use Rattle.finder.proofs.part.first_part.Statement.{statement}
 use Rattle.finder.proofs.part.first_part.Tie as tie
 use Rattle.finder.proofs.part.first_part.Reads as reads

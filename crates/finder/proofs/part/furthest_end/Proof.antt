@@ -1,6 +1,6 @@
 -- `finder::part::furthest_end` meets its contract: at each end the words hold the marks after the part, and `best` is the latest end so
 -- far. The measure is what is left of the text. Assumes nothing.
-use Prim.Native.Nat.{ℕ, _≤_, _-_, _+_}
+use Prim.Native.Nat.{ℕ, _≤_, _-_}
 use mathlib.Core.Path.{_≡_}
 use native.Mathlib.Omega.{arith}
 use borrow.Author.Needs.{needs}

@@ -1,5 +1,5 @@
 -- `marks::inner::nothing_left` meets its contract: all words before i are 0. The measure is how many are left. Assumes nothing.
-use Prim.Native.Nat.{ℕ, _≤_, _<_, _-_}
+use Prim.Native.Nat.{_≤_, _-_}
 use native.Mathlib.Omega.{arith}
 use borrow.Author.Needs.{needs}
 use borrow.Author.Count.{below-more}
