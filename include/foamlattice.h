@@ -17,6 +17,7 @@
  *   foam_search   1 found, 0 nothing                        start                        end, the first byte after
  *   foam_start    1 where the accepting state is marked     0                            0
  *   foam_step     1 where the accepting state is marked     0                            0
+ *   foam_pick     1 written, 0 too short a buffer           bytes written                0
  *
  * A refusal changes no byte and no word that was lent.
  */
@@ -25,6 +26,9 @@
 
 #include <stddef.h>
 #include <stdint.h>
+
+/* The most bytes that foam_pick writes. */
+#define FOAM_MOST_OUTPUT 1048575
 
 #ifdef __cplusplus
 extern "C" {
@@ -49,6 +53,14 @@ uint64_t foam_start(const uint8_t *records, size_t records_length, uint64_t *wor
 /* Turns the marks into those after one more byte. Refusals: 10; 12; 13 a bit past the last state is set, or the two bits
  * of a shared state differ. */
 uint64_t foam_step(const uint8_t *records, size_t records_length, uint64_t *words, size_t words_length, uint8_t byte);
+
+/* Writes what the program `pick` prints for an input of any length: its first line is an expression, each later one a text,
+ * and a line ends at byte 10. For each text stand its number, `yes` and its rank among the yes lines or `no -`,
+ * and in the last line the counts; for an expression that is refused only `refused N at P`, and for more than 65,536 bytes
+ * only `input too long`. The expression is read once for all texts, so this is the call for many short ones. Bytes past the
+ * output are not written. Nothing is refused by number: with a buffer shorter than FOAM_MOST_OUTPUT, whatever the input, the
+ * flag is 0 and no byte is written. */
+uint64_t foam_pick(const uint8_t *input, size_t input_length, uint8_t *output, size_t output_length);
 
 #ifdef __cplusplus
 }

@@ -6,6 +6,7 @@ extern "C" {
     fn foam_search(records: *const u8, records_length: usize, text: *const u8, text_length: usize) -> u64;
     fn foam_start(records: *const u8, records_length: usize, words: *mut u64, words_length: usize) -> u64;
     fn foam_step(records: *const u8, records_length: usize, words: *mut u64, words_length: usize, byte: u8) -> u64;
+    fn foam_pick(input: *const u8, input_length: usize, output: *mut u8, output_length: usize) -> u64;
 }
 
 /// Why a call was refused: the number of the table of refusals, and the place (0 unless the table names one).
@@ -27,6 +28,9 @@ pub const MOST_RECORD_BYTES: usize = 15 * 128 * 8;
 
 /// One word for each piece that a list can have.
 pub const MOST_WORDS: usize = 128;
+
+/// The longest output of `pick`, so the shortest buffer that it takes.
+pub const MOST_OUTPUT: usize = 1_048_575;
 
 struct Packed(u64);
 
@@ -84,4 +88,12 @@ pub fn step(records: &[u8], words: &mut [u64], byte: u8) -> Result<bool, Refusal
     // SAFETY: both slices are valid for their lengths for the call, and `words` is lent to it alone.
     let packed = Packed(unsafe { foam_step(records.as_ptr(), records.len(), words.as_mut_ptr(), words.len(), byte) });
     packed.checked().map(|p| p.flag())
+}
+
+/// Which later lines of an input match its first one: the lines that the program `pick` prints, at the front of `output`.
+/// The first line is read once for all others. `None`, with no byte changed, where `output` is shorter than [`MOST_OUTPUT`].
+pub fn pick<'a>(input: &[u8], output: &'a mut [u8]) -> Option<&'a [u8]> {
+    // SAFETY: both slices are valid for their lengths for the call, and `output` is lent to it alone.
+    let packed = Packed(unsafe { foam_pick(input.as_ptr(), input.len(), output.as_mut_ptr(), output.len()) });
+    packed.flag().then(|| &output[..packed.x()])
 }

@@ -1,4 +1,4 @@
-/* Reads an expression, matches some dates, searches a text, steps through another, and shows a refusal. */
+/* Reads an expression, matches some dates, searches a text, steps through another, picks lines, and shows a refusal. */
 #include <stdio.h>
 #include <string.h>
 
@@ -48,6 +48,12 @@ int main(void) {
         answer = foam_step(buffer, length, words, MOST_WORDS, (uint8_t)*at);
         printf("after %c: %s\n", *at, flag(answer) ? "yes" : "no");
     }
+
+    /* Pick: an expression and its texts, a line each, in one call; the answer says how long the output is. */
+    static uint8_t output[FOAM_MOST_OUTPUT];
+    const char *input = "02-2(8|9)\n02-28\n02-29\n03-01\n";
+    answer = foam_pick(bytes(input), strlen(input), output, sizeof output);
+    printf("%.*s", (int)x(answer), (const char *)output);
 
     /* A refusal has a number and a place, and changes nothing that was lent. */
     answer = foam_read(bytes("02-2(8|9"), 8, buffer, sizeof buffer);

@@ -1,9 +1,9 @@
-//! Reads an expression, matches some dates, searches a text, steps through another, and shows a refusal.
+//! Reads an expression, matches some dates, searches a text, steps through another, picks lines, and shows a refusal.
 
 #[path = "../../rust/foamlattice.rs"]
 mod foamlattice;
 
-use foamlattice::{Refusal, MOST_RECORD_BYTES, MOST_WORDS};
+use foamlattice::{Refusal, MOST_OUTPUT, MOST_RECORD_BYTES, MOST_WORDS};
 
 fn main() -> Result<(), Refusal> {
     let mut buffer = [0; MOST_RECORD_BYTES];
@@ -32,6 +32,12 @@ fn main() -> Result<(), Refusal> {
     for byte in "02-29".bytes() {
         let yes = foamlattice::step(list, &mut words, byte)?;
         println!("after {}: {}", byte as char, if yes { "yes" } else { "no" });
+    }
+
+    // Pick: an expression and its texts, a line each, in one call.
+    let mut output = vec![0; MOST_OUTPUT];
+    if let Some(lines) = foamlattice::pick(b"02-2(8|9)\n02-28\n02-29\n03-01\n", &mut output) {
+        print!("{}", String::from_utf8_lossy(lines));
     }
 
     // A refusal has a number and a place, and changes nothing that was lent.

@@ -1,6 +1,7 @@
 //! One call of the library, held against what is expected: its answer, and every byte and word that was lent to it.
 
 use crate::expected::{self, Automaton, Tree};
+use crate::wrapper::foamlattice::MOST_OUTPUT;
 use std::fmt::Debug;
 
 // SAFETY of every call below: each pointer and length is that of one whole slice, and what is written to is lent alone.
@@ -10,6 +11,7 @@ extern "C" {
     fn foam_search(records: *const u8, records_length: usize, text: *const u8, text_length: usize) -> u64;
     fn foam_start(records: *const u8, records_length: usize, words: *mut u64, words_length: usize) -> u64;
     fn foam_step(records: *const u8, records_length: usize, words: *mut u64, words_length: usize, byte: u8) -> u64;
+    fn foam_pick(input: *const u8, input_length: usize, output: *mut u8, output_length: usize) -> u64;
 }
 
 const FILL: u8 = 0xa5;
@@ -39,6 +41,9 @@ impl Answer {
     }
     fn found(part: Option<std::ops::Range<usize>>) -> Answer {
         part.map_or(Answer::yes_or_no(false), |part| Answer { refusal: 0, flag: 1, x: part.start, y: part.end })
+    }
+    fn written(length: usize) -> Answer {
+        Answer { refusal: 0, flag: 1, x: length, y: 0 }
     }
 }
 
@@ -80,6 +85,21 @@ pub fn read(e: &[u8], room: usize) -> Option<List> {
     hold("reading", input, answer, expected);
     hold("the record buffer", input, buffer, after);
     good.then(|| List::new(written))
+}
+
+/// Picks in one call, into a buffer of `room` bytes, where `output` is to be printed.
+pub fn pick(input: &[u8], room: usize, output: &[u8]) {
+    let shown = || format!("the input \"{}\" with a buffer of {room} bytes", input.escape_ascii());
+    let mut buffer = vec![FILL; room];
+    let answer = Answer::of(unsafe { foam_pick(input.as_ptr(), input.len(), buffer.as_mut_ptr(), buffer.len()) });
+    let (expected, written) = match room {
+        MOST_OUTPUT.. => (Answer::written(output.len()), output),
+        _ => (Answer::yes_or_no(false), &[][..]),
+    };
+    hold("picking", shown, answer, expected);
+    let (front, past) = buffer.split_at(written.len());
+    hold("the output", shown, front.escape_ascii().to_string(), written.escape_ascii().to_string());
+    hold("the first byte changed past the output", shown, past.iter().position(|&b| b != FILL), None);
 }
 
 /// A record list, with what it holds if it is good.

@@ -278,7 +278,7 @@ fn long_texts(_: &mut Random) -> usize {
 type Compare = fn(&mut Random) -> usize;
 
 fn main() {
-    let kinds: [(&str, Compare); 14] = [
+    let kinds: [(&str, Compare); 15] = [
         ("edges through the Rust wrapper", |_| wrapper::compare()),
         ("short expressions", short_expressions),
         ("pairs of bytes", all_bytes),
@@ -292,7 +292,8 @@ fn main() {
         ("chains of stars", chains_of_stars),
         ("long expressions", long_expressions),
         ("long texts", long_texts),
-        ("runs of pick", pick::compare),
+        ("runs of pick", pick::compare_runs),
+        ("calls of pick", pick::compare_calls),
     ];
     let mut r = Random::new(0x2902_2028_0301_0366);
     let mut total = 0;

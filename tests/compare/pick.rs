@@ -1,7 +1,9 @@
-//! The program `pick`, run through the script at the top, against its output as the statement describes it.
+//! The program `pick`, run through the script at the top, and the library's call of it, against the output as the statement
+//! describes it.
 
-use crate::expected;
 use crate::generate::{self, Random};
+use crate::wrapper::foamlattice::MOST_OUTPUT;
+use crate::{calls, expected, growing};
 use std::io::Write;
 use std::process::{Command, Stdio};
 
@@ -26,10 +28,14 @@ fn expected_output(input: &[u8]) -> String {
         Ok(tree) => tree,
     };
     let automaton = expected::automaton(&tree);
+    let is_match = |text: &[u8]| match text.len() {
+        0..=127 => expected::is_match(&expected::parts(&tree, text)),
+        length => automaton.ends(text).last() == Some(&length),
+    };
     let mut out = String::new();
     let mut yes = 0;
     for (number, text) in texts.iter().enumerate() {
-        if automaton.ends(text).last() == Some(&text.len()) {
+        if is_match(text) {
             yes += 1;
             out += &format!("{} yes {yes}\n", number + 1);
         } else {
@@ -60,18 +66,28 @@ fn compare_run(input: &[u8]) {
     }
 }
 
-/// An expression, a damaged one time in five, and lines that are in or near its language, with and without a last end.
-fn random_input(r: &mut Random) -> Vec<u8> {
+/// An expression, a damaged one time in five.
+fn random_expression(r: &mut Random, size: usize, letters: &[u8]) -> Vec<u8> {
     let mut e = vec![];
-    let size = 1 + r.below(30);
-    generate::expression(r, size, 6, b"ab\r\x00", &mut e);
+    generate::expression(r, size, 6, letters, &mut e);
     if r.one_in(5) {
         generate::damage(r, &mut e, b"ab()|*\\\n");
     }
+    e
+}
+
+/// Adds a line that is in or near the language of an expression, or one of any letters, after the end of the line before.
+fn add_line(r: &mut Random, e: &[u8], letters: &[u8], input: &mut Vec<u8>) {
+    input.push(b'\n');
+    input.extend(if r.one_in(2) { generate::text(r, e, 20) } else { r.bytes(4, letters) });
+}
+
+/// An expression and some lines, with and without a last end.
+fn random_input(r: &mut Random, size: usize, letters: &[u8]) -> Vec<u8> {
+    let e = random_expression(r, size, letters);
     let mut input = e.clone();
     for _ in 0..r.below(20) {
-        input.push(b'\n');
-        input.extend(if r.one_in(2) { generate::text(r, &e, 20) } else { r.bytes(4, b"ab\r") });
+        add_line(r, &e, letters, &mut input);
     }
     if r.one_in(2) {
         input.push(b'\n');
@@ -79,10 +95,24 @@ fn random_input(r: &mut Random) -> Vec<u8> {
     input
 }
 
-/// The sample of the statement, inputs with no line or one, and both sides of 65,536 bytes.
+/// An expression and lines, so many that the input has just this length.
+fn long_input(r: &mut Random, length: usize) -> Vec<u8> {
+    let e = random_expression(r, 12, b"ab\r");
+    let mut input = e.clone();
+    while input.len() < length {
+        add_line(r, &e, b"ab\r", &mut input);
+    }
+    input.truncate(length);
+    input
+}
+
+/// The sample of the statement, inputs with no line or one, expressions refused for their size, and both sides of 65,536
+/// bytes.
 fn edges() -> Vec<Vec<u8>> {
     let mut inputs: Vec<Vec<u8>> = vec![b"02-2(8|9)\n02-28\n02-29\n03-01\n".to_vec()];
     inputs.extend([&b""[..], b"\n", b"\n\n", b"a", b"a\n", b"a\n\n", b"a*\n\n", b"a\r\na\r\n", b"a)\na\n"].map(<[u8]>::to_vec));
+    let (groups, letters) = (["(".repeat(33), "a".into(), ")".repeat(33)].concat(), "a".repeat(898));
+    inputs.extend([groups, letters].map(|e| format!("{e}\na\n").into_bytes()));
     for length in [65_535, 65_536, 65_537, 200_000] {
         let mut one_line = b"(a|b)*\n".to_vec();
         one_line.resize(length, b'a');
@@ -93,10 +123,47 @@ fn edges() -> Vec<Vec<u8>> {
     inputs
 }
 
-pub fn compare(r: &mut Random) -> usize {
+/// The program on the edges and on random inputs.
+pub fn compare_runs(r: &mut Random) -> usize {
     let edges = edges();
     edges.iter().for_each(|input| compare_run(input));
     let rounds = 200;
-    (0..rounds).for_each(|_| compare_run(&random_input(r)));
+    for _ in 0..rounds {
+        let size = 1 + r.below(30);
+        compare_run(&random_input(r, size, b"ab\r\x00"));
+    }
     edges.len() + rounds
+}
+
+fn compare_call(input: &[u8], room: usize) {
+    calls::pick(input, room, expected_output(input).as_bytes());
+}
+
+/// The library's call on the edges and all beginnings of the short ones, on random inputs over a few bytes and over all, and
+/// on long ones; in buffers that just fit, have bytes to spare, or are too short.
+pub fn compare_calls(r: &mut Random) -> usize {
+    let mut count = 0;
+    for input in edges() {
+        let shortest = if input.len() > 100 { input.len() } else { 0 };
+        for end in shortest..=input.len() {
+            for room in [0, MOST_OUTPUT - 1, MOST_OUTPUT, MOST_OUTPUT + 9] {
+                compare_call(&input[..end], room);
+                count += 1;
+            }
+        }
+    }
+    let every = generate::all_bytes();
+    let in_lines: Vec<u8> = every.iter().copied().filter(|&b| b != b'\n').collect();
+    let rounds = 6_000;
+    for round in 0..rounds {
+        let letters: &[u8] = [&b"ab\r\x00"[..], b"ab", &in_lines, &every][round % 4];
+        let size = growing(r, if round % 9 == 0 { 400 } else { 40 }, round, rounds);
+        let input = random_input(r, size, letters);
+        compare_call(&input, if r.one_in(8) { MOST_OUTPUT - 1 - r.below(2_000) } else { MOST_OUTPUT + r.below(3) });
+    }
+    let lengths = [60_000, 65_535, 65_536, 65_536, 65_536, 65_537];
+    for length in lengths {
+        compare_call(&long_input(r, length), MOST_OUTPUT);
+    }
+    count + rounds + lengths.len()
 }

@@ -3,7 +3,7 @@
 #[path = "../../rust/foamlattice.rs"]
 pub mod foamlattice;
 
-use foamlattice::{find, is_match, read, start, step, Counts, Refusal, MOST_RECORD_BYTES, MOST_WORDS};
+use foamlattice::{find, is_match, pick, read, start, step, Counts, Refusal, MOST_OUTPUT, MOST_RECORD_BYTES, MOST_WORDS};
 
 fn list(e: &[u8]) -> Vec<u8> {
     let mut buffer = vec![0; MOST_RECORD_BYTES];
@@ -59,5 +59,11 @@ pub fn compare() -> usize {
 
     let letters = b"abcdefghijklmnop";
     assert_eq!(is_match(&list(b"(abcdefgh(ijklmnop))*"), &letters.repeat(2)), Ok(true));
-    28
+
+    let mut output = vec![0; MOST_OUTPUT];
+    let lines = pick(b"02-2(8|9)\n02-28\n02-29\n03-01\n", &mut output);
+    assert_eq!(lines, Some(&b"1 yes 1\n2 yes 2\n3 no -\ntotal 3 yes 2 no 1\n"[..]));
+    assert_eq!(pick(b"a|\na", &mut output), Some(&b"refused 3 at 2\n"[..]));
+    assert_eq!(pick(b"a\na\n", &mut output[1..]), None);
+    31
 }

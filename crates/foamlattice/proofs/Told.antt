@@ -16,8 +16,11 @@ use Rattle.finder.proofs.Matched.{the-type as matched-type}
 use Rattle.finder.specs.declared.Searched.{Searched}
 use Rattle.finder.specs.declared.Searched.the-variants.{Found, Nothing, NotGood as Search-not-good, TooLong as Search-too-long}
 use Rattle.finder.proofs.Searched.{the-type as searched-type}
+use Rattle.picker.specs.declared.Picked.{Picked}
+use Rattle.picker.specs.declared.Picked.the-variants.{Written, NoRoom}
+use Rattle.picker.proofs.Picked.{the-type as picked-type}
 use Rattle.foamlattice.specs.Packed.{packed}
-use Rattle.foamlattice.specs.Promise.{read-packed, match-packed, search-packed, marks-packed}
+use Rattle.foamlattice.specs.Promise.{read-packed, match-packed, search-packed, marks-packed, pick-packed}
 
 -- a match's numbers, in the order of its cases
 abbrev pub match-numbers : List ℕ
@@ -57,6 +60,17 @@ marks-number-at NotMarks = refl
 
 pub told-marks : (answer : Answer) (tag : ℕ) → tagOf marks-type answer ≡ tag → marks-packed answer ≡ getD (marks-numbers answer) tag 0
 told-marks answer tag e = marks-number-at answer ∙ ap (λ (k : ℕ). getD (marks-numbers answer) k 0) e
+
+-- the numbers of a picking: that of an output written is its own
+abbrev pub pick-numbers : Picked → List ℕ
+pick-numbers answer = pick-packed answer ∷ packed 0 0 0 0 ∷ []
+
+pick-number-at : (answer : Picked) → pick-packed answer ≡ getD (pick-numbers answer) (tagOf picked-type answer) 0
+pick-number-at (Written size) = refl
+pick-number-at NoRoom = refl
+
+pub told-pick : (answer : Picked) (tag : ℕ) → tagOf picked-type answer ≡ tag → pick-packed answer ≡ getD (pick-numbers answer) tag 0
+told-pick answer tag e = pick-number-at answer ∙ ap (λ (k : ℕ). getD (pick-numbers answer) k 0) e
 
 -- of a reading's place and count of records one is 0, so that x is the other
 pub read-number : (records pieces : ℕ) → packed 0 0 records pieces ≡ read-packed (record { refusal = 0; place = 0; records = records; pieces = pieces })

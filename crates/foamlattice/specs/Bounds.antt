@@ -21,8 +21,13 @@ use Rattle.finder.specs.declared.Matched.the-variants.{Yes, No, NotGood as Matc
 use Rattle.finder.specs.declared.Searched.{Searched}
 use Rattle.finder.specs.declared.Searched.the-variants.{Found, Nothing, NotGood as Search-not-good, TooLong as Search-too-long}
 use Rattle.finder.specs.Promise.{match-number, search-number, Search-answers}
+use Rattle.finder.specs.Decide.{matches}
+use Rattle.picker.specs.declared.Picked.{Picked}
+use Rattle.picker.specs.declared.Picked.the-variants.{Written, NoRoom}
+use Rattle.picker.specs.Room.{output-length}
+use Rattle.picker.specs.Promise.{Picks}
 use Rattle.foamlattice.specs.Packed.{packed, Unpacks, unpacks}
-use Rattle.foamlattice.specs.Promise.{read-packed, match-flag, search-flag, search-start, search-end, marks-flag, Matching, Searching, Starting, Stepping}
+use Rattle.foamlattice.specs.Promise.{read-packed, match-flag, search-flag, search-start, search-end, marks-flag, pick-flag, pick-length, Matching, Searching, Starting, Stepping, Picking}
 
 -- the numbers that reading can answer
 pub record Read-ranges (n : Numbers) : Type 0 where
@@ -65,6 +70,11 @@ search-ranges list text Nothing right = record { start-small = omega arith; end-
 search-ranges list text Search-not-good right = record { start-small = omega arith; end-small = omega arith }
 search-ranges list text Search-too-long right = record { start-small = omega arith; end-small = omega arith }
 
+-- an output has at most 1,048,575 bytes
+pub pick-length-small : (input before after : List ℕ) (answer : Picked) → Picks input before after answer → pick-length answer ≤ 1048575
+pick-length-small input before after (Written size) right = omega (arith, right .sized, output-length matches input)
+pick-length-small input before after NoRoom right = omega arith
+
 -- a number and a flag of a case are small
 pub record Small (number flag : ℕ) : Type 0 where
   pub number-small : number ≤ 13
@@ -92,8 +102,12 @@ marks-small NotGood = small 10 0 (omega arith) (omega arith)
 marks-small TooFewWords = small 12 0 (omega arith) (omega arith)
 marks-small NotMarks = small 13 0 (omega arith) (omega arith)
 
--- a small number and flag are in range beside x and y of at most 65,536
-case-unpacks : (r number flag x y : ℕ) → Small number flag → x ≤ 65536 → y ≤ 65536 → r ≡ packed number flag x y → Unpacks r number flag x y
+pick-small : (answer : Picked) → Small 0 (pick-flag answer)
+pick-small (Written size) = small 0 1 (omega arith) (omega arith)
+pick-small NoRoom = small 0 0 (omega arith) (omega arith)
+
+-- a small number and flag are in range beside x and y of at most 1,048,575
+case-unpacks : (r number flag x y : ℕ) → Small number flag → x ≤ 1048575 → y ≤ 1048575 → r ≡ packed number flag x y → Unpacks r number flag x y
 case-unpacks r number flag x y h k l e =
     unpacks r number flag x y (record { number-small = omega (arith, h .number-small); flag-small = omega (arith, h .flag-small); x-small = omega arith; y-small = omega arith }) e
 
@@ -103,17 +117,21 @@ read-unpacks bytes room r e =
     let known = answered-ranges bytes room in
     case-unpacks r _ 0 _ _ (small _ 0 (omega (arith, known .refusal-small)) (omega arith)) (omega (arith, known .place-small, known .records-small)) (omega (arith, known .pieces-small)) e
 
--- so does that of a match, of a search, of a start and of a step
+-- so does that of a match, of a search, of a start, of a step and of a picking
 pub matching-unpacks : (list text : List ℕ) (r : ℕ) (m : Matching list text r) → Unpacks r (match-number (m .answer)) (match-flag (m .answer)) 0 0
 matching-unpacks list text r m = case-unpacks r _ _ 0 0 (match-small (m .answer)) (omega arith) (omega arith) (m .as-number)
 
 pub searching-unpacks : (list text : List ℕ) (r : ℕ) (m : Searching list text r) → Unpacks r (search-number (m .answer)) (search-flag (m .answer)) (search-start (m .answer)) (search-end (m .answer))
 searching-unpacks list text r m =
     let known = search-ranges list text (m .answer) (m .right) in
-    case-unpacks r _ _ _ _ (search-small (m .answer)) (known .start-small) (known .end-small) (m .as-number)
+    case-unpacks r _ _ _ _ (search-small (m .answer)) (omega (arith, known .start-small)) (omega (arith, known .end-small)) (m .as-number)
 
 pub starting-unpacks : (list before after : List ℕ) (r : ℕ) (m : Starting list before after r) → Unpacks r (number-of (m .answer)) (marks-flag (m .answer)) 0 0
 starting-unpacks list before after r m = case-unpacks r _ _ 0 0 (marks-small (m .answer)) (omega arith) (omega arith) (m .as-number)
 
 pub stepping-unpacks : (list : List ℕ) (byte : ℕ) (before after : List ℕ) (r : ℕ) (m : Stepping list byte before after r) → Unpacks r (number-of (m .answer)) (marks-flag (m .answer)) 0 0
 stepping-unpacks list byte before after r m = case-unpacks r _ _ 0 0 (marks-small (m .answer)) (omega arith) (omega arith) (m .as-number)
+
+pub picking-unpacks : (input before after : List ℕ) (r : ℕ) (m : Picking input before after r) → Unpacks r 0 (pick-flag (m .answer)) (pick-length (m .answer)) 0
+picking-unpacks input before after r m =
+    case-unpacks r 0 _ _ 0 (pick-small (m .answer)) (pick-length-small input before after (m .answer) (m .right)) (omega arith) (m .as-number)

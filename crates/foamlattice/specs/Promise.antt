@@ -13,6 +13,9 @@ use Rattle.finder.specs.declared.Matched.the-variants.{Yes, No, NotGood as Matc
 use Rattle.finder.specs.declared.Searched.{Searched}
 use Rattle.finder.specs.declared.Searched.the-variants.{Found, Nothing, NotGood as Search-not-good, TooLong as Search-too-long}
 use Rattle.finder.specs.Promise.{match-number, search-number, Match-answers, Search-answers}
+use Rattle.picker.specs.declared.Picked.{Picked}
+use Rattle.picker.specs.declared.Picked.the-variants.{Written, NoRoom}
+use Rattle.picker.specs.Promise.{Picks}
 use Rattle.foamlattice.specs.Packed.{packed}
 
 -- read: x is the count of records, or the place of a refusal, the other of which is 0; y is the count of pieces
@@ -61,6 +64,18 @@ marks-flag NotMarks = 0
 abbrev pub marks-packed : Answer → ℕ
 marks-packed answer = packed (number-of answer) (marks-flag answer) 0 0
 
+-- pick: the flag is 1 where the output was written; x is its length
+abbrev pub pick-flag : Picked → ℕ
+pick-flag (Written size) = 1
+pick-flag NoRoom = 0
+
+abbrev pub pick-length : Picked → ℕ
+pick-length (Written size) = size
+pick-length NoRoom = 0
+
+abbrev pub pick-packed : Picked → ℕ
+pick-packed answer = packed 0 (pick-flag answer) (pick-length answer) 0
+
 -- the number r is the right answer of a match, packed
 pub record Matching (list text : List ℕ) (r : ℕ) : Type 0 where
   pub answer : Matched
@@ -84,3 +99,9 @@ pub record Stepping (list : List ℕ) (byte : ℕ) (before after : List ℕ) (r 
   pub answer : Answer
   pub right : Steps list byte before after answer
   pub as-number : r ≡ marks-packed answer
+
+-- the buffer afterwards and the number r are those of a right picking
+pub record Picking (input before after : List ℕ) (r : ℕ) : Type 0 where
+  pub answer : Picked
+  pub right : Picks input before after answer
+  pub as-number : r ≡ pick-packed answer

@@ -5,7 +5,8 @@ use mathlib.Core.Path.{_≡_, ap, sym, _∙_}
 use mathlib.Core.List.{List}
 use Rattle.marks.specs.Unique.{starts-unique, steps-unique}
 use Rattle.finder.specs.Unique.{match-unique, search-unique-answer}
-use Rattle.foamlattice.specs.Promise.{match-packed, search-packed, marks-packed, Matching, Searching, Starting, Stepping}
+use Rattle.picker.specs.Promise.{picks-unique}
+use Rattle.foamlattice.specs.Promise.{match-packed, search-packed, marks-packed, pick-packed, Matching, Searching, Starting, Stepping, Picking}
 
 -- numbers that are packed from equal answers are equal
 same-number : {A : Type 0} (packed-from : A → ℕ) (r s : ℕ) (a b : A) → r ≡ packed-from a → s ≡ packed-from b → a ≡ b → r ≡ s
@@ -27,3 +28,8 @@ pub stepping-unique : (list : List ℕ) (byte : ℕ) (before after after' : List
 stepping-unique list byte before after after' r s m n =
     let same = steps-unique list byte before after after' (m .answer) (n .answer) (m .right) (n .right) in
     (same-number marks-packed r s _ _ (m .as-number) (n .as-number) (same .0), same .1)
+
+pub picking-unique : (input before after after' : List ℕ) (r s : ℕ) → Picking input before after r → Picking input before after' s → (r ≡ s) × (after ≡ after')
+picking-unique input before after after' r s m n =
+    let same = picks-unique input before after after' (m .answer) (n .answer) (m .right) (n .right) in
+    (same-number pick-packed r s _ _ (m .as-number) (n .as-number) (same .0), same .1)

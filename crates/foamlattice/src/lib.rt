@@ -1,4 +1,4 @@
-// The outside interface: reading, matching, searching, starting and stepping for callers in C and Rust, each of which answers one number.
+// The outside interface: reading, matching, searching, starting, stepping and picking for callers in C and Rust, each of which answers one number.
 mod pack;
 
 use finder::Matched;
@@ -8,12 +8,14 @@ use finder::search;
 use marks::start;
 use marks::step;
 use pack::pack;
+use picker::Picked;
+use picker::pick;
 use reader::Answer;
 use reader::read;
 ghost use mathlib.Core.Path.{_≡_};
 ghost use lib.ListN.{length};
 ghost use Rattle.reader.specs.Answer.{answered, stored};
-ghost use Rattle.foamlattice.specs.Promise.{read-packed, marks-packed, Matching, Searching, Starting, Stepping};
+ghost use Rattle.foamlattice.specs.Promise.{read-packed, marks-packed, Matching, Searching, Starting, Stepping, Picking};
 
 // Reads an expression into tree records.
 #[no_mangle]
@@ -84,4 +86,16 @@ pub extern "C" fn foam_step(records: &[u8], words: &mut [u64], byte: u8) -> u64
 {
     let answer = step(records, words, byte);
     pack_marked(answer)
+}
+
+// Writes the whole output of `pick` for an input: the expression is read once, and its tables are made once for all texts.
+#[no_mangle]
+pub extern "C" fn foam_pick(input: &[u8], output: &mut [u8]) -> u64
+    ensures { λ r. ⌜ Picking (now (input .entry)) (now (output .entry)) (now (output .exit)) r ⌝ }
+{
+    let answer = pick(input, output);
+    match answer {
+        Picked::Written { length } => pack(0, true, length, 0),
+        Picked::NoRoom => pack(0, false, 0, 0),
+    }
 }
