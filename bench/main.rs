@@ -1,4 +1,5 @@
-//! Measures match and search, in nanoseconds for each byte, beside other matchers, and the stack that each call needs.
+//! Measures match and search, in nanoseconds for each byte, beside other matchers and on growing sizes, and the stack that
+//! each call needs.
 
 mod engines;
 #[path = "../tests/compare/expected.rs"]
@@ -10,10 +11,12 @@ mod foamlattice;
 #[allow(dead_code)]
 mod generate;
 mod plain;
+mod sizes;
 mod stack;
 mod workloads;
 
 use engines::{Engine, Matcher};
+use foamlattice::MOST_OUTPUT;
 use std::time::{Duration, Instant};
 use workloads::Workload;
 
@@ -72,10 +75,35 @@ fn measure(engine: &Engine, load: &Workload, run: Run) -> Measured {
     Measured { answers, nanoseconds_per_byte: time.as_nanos() as f64 / bytes as f64 }
 }
 
+/// How many lines are yes in each of so many equal parts of an input, by the last line of its output: `total T yes Y no N`.
+fn pick_all(input: &[u8], parts: usize, output: &mut [u8]) -> Answers {
+    let printed = std::str::from_utf8(foamlattice::pick(input, output)?).ok()?;
+    let yes: usize = printed.lines().next_back()?.split(' ').nth(3)?.parse().ok()?;
+    (yes % parts == 0).then_some((yes / parts, 0, 0))
+}
+
+/// The expression and all texts, as often as there is room for, as the lines of one input: for each byte of the texts.
+fn measure_pick(load: &Workload) -> Measured {
+    let first = [&load.expressions[0][..], b"\n"].concat();
+    let lines: Vec<u8> = load.texts.iter().flat_map(|text| [text, &b"\n"[..]].concat()).collect();
+    let parts = (65_536 - first.len()) / lines.len();
+    let input = [first, lines.repeat(parts)].concat();
+    let bytes = parts * load.texts.iter().map(Vec::len).sum::<usize>();
+    let mut output = vec![0; MOST_OUTPUT];
+    let (answers, time) = quickest(|| pick_all(&input, parts, &mut output));
+    Measured { answers, nanoseconds_per_byte: time.as_nanos() as f64 / bytes as f64 }
+}
+
+struct Row {
+    name: &'static str,
+    whole: Measured,
+    part: Option<Measured>,
+}
+
 /// One cell of the table: the time, its ratio to the plain simulation's, and a sign where the answers differ.
 fn cell(here: &Measured, plain: &Measured) -> String {
     if here.answers.is_none() {
-        return format!("{:>12} {:>9}", "gave up", "");
+        return format!("{:>12} {:>10}", "gave up", "");
     }
     let sign = if here.answers == plain.answers { ' ' } else { '!' };
     let ratio = here.nanoseconds_per_byte / plain.nanoseconds_per_byte;
@@ -83,22 +111,32 @@ fn cell(here: &Measured, plain: &Measured) -> String {
 }
 
 fn compare(load: &Workload) {
-    let measured = |engine: Engine| (engine.name, measure(&engine, load, match_all), measure(&engine, load, search_all));
-    let rows: Vec<_> = engines::all().into_iter().map(measured).collect();
-    let (_, plain_match, plain_search) = &rows[0];
+    let measured = |engine: Engine| {
+        let [whole, part] = [match_all as Run, search_all].map(|run| measure(&engine, load, run));
+        Row { name: engine.name, whole, part: Some(part) }
+    };
+    let mut rows: Vec<Row> = engines::all().into_iter().map(measured).collect();
+    if load.as_lines {
+        rows.insert(2, Row { name: "foamlattice pick", whole: measure_pick(load), part: None });
+    }
+    let Row { whole: plain_match, part: Some(plain_search), .. } = &rows[0] else {
+        unreachable!("the plain simulation searches")
+    };
     println!("{}", load.name);
-    for (name, whole, part) in &rows {
-        println!("  {name:<14}{} {}", cell(whole, plain_match), cell(part, plain_search));
-        let same = whole.answers == plain_match.answers && part.answers == plain_search.answers;
-        assert!(same || *name != "foamlattice", "the library's answers are not those of the plain simulation");
+    for Row { name, whole, part } in &rows {
+        let searched = part.as_ref().map_or(format!("{:>12}", "-"), |part| cell(part, plain_search));
+        println!("  {name:<16}{} {searched}", cell(whole, plain_match));
+        let same = whole.answers == plain_match.answers && part.as_ref().is_none_or(|part| part.answers == plain_search.answers);
+        assert!(same || !name.starts_with("foamlattice"), "the library's answers are not those of the plain simulation");
     }
 }
 
 fn main() {
     println!("ns/byte, and the ratio to the plain lists; ! where the answers are not those of the plain lists");
-    println!("{:<16}{:>12} {:>9} {:>13} {:>9}", "", "match", "ratio", "search", "ratio");
+    println!("{:<18}{:>12} {:>9} {:>13} {:>9}", "", "match", "ratio", "search", "ratio");
     for load in workloads::all() {
         compare(&load);
     }
+    sizes::print();
     stack::print();
 }

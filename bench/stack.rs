@@ -1,6 +1,6 @@
 //! The stack that each call of the library needs: the most over expressions that are large or deep.
 
-use crate::foamlattice::{self, MOST_RECORD_BYTES, MOST_WORDS};
+use crate::foamlattice::{self, MOST_OUTPUT, MOST_RECORD_BYTES, MOST_WORDS};
 use crate::generate::{self, Random};
 use crate::{expected, workloads};
 use std::ffi::c_void;
@@ -28,7 +28,7 @@ fn idle() -> usize {
 
 fn expressions() -> Vec<Vec<u8>> {
     let deep = ["(".repeat(32), "a".into(), ")*".repeat(32)].concat().into_bytes();
-    let (words, _) = workloads::word_expression(&mut Random::new(1));
+    let (words, _) = workloads::word_expression(&mut Random::new(1), 110);
     vec![workloads::date_expression(), words, vec![b'a'; 897], vec![b'a'; 1_025], deep]
 }
 
@@ -46,6 +46,12 @@ pub fn print() {
     let mut words = vec![0; MOST_WORDS];
     let text = b"02-29 and a longer text aaaaaaaaaaaaaaaa";
     let reads = expressions().iter().map(|e| used(|| ignore(foamlattice::read(e, &mut buffer)))).max();
+    let mut output = vec![0; MOST_OUTPUT];
+    let mut pick = |e: &[u8]| {
+        let input = [e, b"\n", text].concat();
+        used(|| ignore(foamlattice::pick(&input, &mut output)))
+    };
+    let picks = expressions().iter().map(|e| pick(e)).max();
     let of_lists = |call: &mut dyn FnMut(&[u8])| lists().iter().map(|list| used(|| call(list))).max();
     let rows = [
         ("read", reads),
@@ -53,9 +59,10 @@ pub fn print() {
         ("search", of_lists(&mut |list| ignore(foamlattice::find(list, text)))),
         ("start", of_lists(&mut |list| ignore(foamlattice::start(list, &mut words)))),
         ("step", of_lists(&mut |list| ignore(foamlattice::step(list, &mut words, b'a')))),
+        ("pick", picks),
     ];
     println!("\nbytes of stack that a call needs at most, over large and deep lists");
     for (name, bytes) in rows {
-        println!("  {name:<14}{:>12}", bytes.unwrap_or(0));
+        println!("  {name:<16}{:>12}", bytes.unwrap_or(0));
     }
 }

@@ -6,6 +6,8 @@ pub struct Workload {
     pub name: &'static str,
     pub expressions: Vec<Vec<u8>>,
     pub texts: Vec<Vec<u8>>,
+    /// Whether the texts are also measured as the lines of one input of `pick`.
+    pub as_lines: bool,
 }
 
 const DAYS: [usize; 12] = [31, 29, 31, 30, 31, 30, 31, 31, 30, 31, 30, 31];
@@ -26,29 +28,53 @@ pub fn date_expression() -> Vec<u8> {
 fn dates() -> Workload {
     let date = |month: usize, day: usize| format!("{month:02}-{day:02}").into_bytes();
     let texts = (1..=12).flat_map(|month| (1..=DAYS[month - 1]).map(move |day| date(month, day))).collect();
-    Workload { name: "dates: 708 bytes, 49 pieces, on 366 lines of 5 bytes", expressions: vec![date_expression()], texts }
+    Workload {
+        name: "dates: 708 bytes, 49 pieces, on 366 lines of 5 bytes",
+        expressions: vec![date_expression()],
+        texts,
+        as_lines: true,
+    }
 }
 
-/// 110 words of 8 letters and one of 7 under a star: 1,000 bytes.
-pub fn word_expression(r: &mut Random) -> (Vec<u8>, Vec<Vec<u8>>) {
+/// So many words of 8 letters and one of 7 under a star; and the words for its texts, all of one length: the long ones, or
+/// the one of 7 letters alone. With 110 long ones it has 1,000 bytes.
+pub fn word_expression(r: &mut Random, long: usize) -> (Vec<u8>, Vec<Vec<u8>>) {
     let mut word = |letters: usize| (0..letters).map(|_| b'a' + r.below(26) as u8).collect::<Vec<u8>>();
-    let mut words: Vec<Vec<u8>> = (0..110).map(|_| word(8)).collect();
-    let long = words.clone();
+    let mut words: Vec<Vec<u8>> = (0..long).map(|_| word(8)).collect();
     words.push(word(7));
-    ([b"(", &words.join(&b'|')[..], b")*"].concat(), long)
+    let expression = [b"(", &words.join(&b'|')[..], b")*"].concat();
+    if long > 0 {
+        words.pop();
+    }
+    (expression, words)
+}
+
+/// As many of the words, all of one length, as 64 KB have room for.
+pub fn word_text(r: &mut Random, words: &[Vec<u8>]) -> Vec<u8> {
+    (0..65_536 / words[0].len()).flat_map(|_| words[r.below(words.len())].clone()).collect()
 }
 
 fn words() -> Workload {
     let mut r = Random::new(1);
-    let (expression, words) = word_expression(&mut r);
-    let text = (0..65_536 / 8).flat_map(|_| words[r.below(words.len())].clone()).collect();
-    Workload { name: "words: 1,000 bytes, 119 pieces, on 64 KB", expressions: vec![expression], texts: vec![text] }
+    let (expression, words) = word_expression(&mut r, 110);
+    let text = word_text(&mut r, &words);
+    Workload {
+        name: "words: 1,000 bytes, 119 pieces, on 64 KB",
+        expressions: vec![expression],
+        texts: vec![text],
+        as_lines: false,
+    }
 }
 
 fn stars() -> Workload {
     let mut r = Random::new(2);
     let text = (0..20 * 1024).map(|_| r.pick(b"abc")).collect();
-    Workload { name: "nested stars: ((a*b*)*c*)* on 20 KB", expressions: vec![b"((a*b*)*c*)*".to_vec()], texts: vec![text] }
+    Workload {
+        name: "nested stars: ((a*b*)*c*)* on 20 KB",
+        expressions: vec![b"((a*b*)*c*)*".to_vec()],
+        texts: vec![text],
+        as_lines: false,
+    }
 }
 
 fn log_line(r: &mut Random) -> Vec<u8> {
@@ -68,6 +94,7 @@ fn log() -> Workload {
         name: "log: 3 short rules on 2,000 lines of some 80 bytes",
         expressions: rules.into_iter().map(String::into_bytes).collect(),
         texts: (0..2_000).map(|_| log_line(&mut r)).collect(),
+        as_lines: false,
     }
 }
 
