@@ -39,6 +39,20 @@ impl Matcher for Plain {
     }
 }
 
+/// The plain simulation that keeps nothing between calls either: its automaton is made from the expression in each call.
+struct PlainAnew {
+    expression: Vec<u8>,
+}
+
+impl Matcher for PlainAnew {
+    fn is_match(&mut self, text: &[u8]) -> Option<bool> {
+        Some(Plain::new(&self.expression).is_match(text))
+    }
+    fn find(&mut self, text: &[u8]) -> Option<Option<(usize, usize)>> {
+        Some(Plain::new(&self.expression).find(text))
+    }
+}
+
 type New = unsafe extern "C" fn(*const c_char, *const c_char) -> *mut c_void;
 type Whole = unsafe extern "C" fn(*mut c_void, *const c_char, usize) -> c_int;
 type Part = unsafe extern "C" fn(*mut c_void, *const c_char, usize, *mut usize, *mut usize) -> c_int;
@@ -104,6 +118,7 @@ pub fn all() -> Vec<Engine> {
     vec![
         Engine { name: "plain lists", prepare: |e| Some(Box::new(Plain::new(e))) },
         Engine { name: "foamlattice", prepare: prepare_foamlattice },
+        Engine { name: "plain, made anew", prepare: |e| Some(Box::new(PlainAnew { expression: e.to_vec() })) },
         Engine { name: "glibc regexec", prepare: |e| other(e, glibc_new, glibc_whole, glibc_part) },
         #[cfg(re2)]
         Engine { name: "RE2", prepare: |e| other(e, re2_new, re2_whole, re2_part) },

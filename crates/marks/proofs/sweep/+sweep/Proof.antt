@@ -106,12 +106,32 @@ ahead : (t : ℕ) (c : Going-on t) → let s = start-of t (c .before .before) in
     (o : ℕ) → c .before .loop .at ≤ o → o < length (c .before .loop .words) → (s .args .piece + o < s .args .from) ⊎ (s .args .to ≤ s .args .piece + o) → getD (c .before .loop .words) o 0 ≡ 0
 ahead t c = quiet-ahead _ _ _ _ _ (start-of t (c .before .before) .args .words .now) _ (c .before .before .close-from .result) _ _ _ (c .before .loop .inv) _ _ (start-of t (c .before .before) .pre .1 .quiet) (room t c .own-before)
 
+-- the places in the loop that a need goes back to, each from the one before it
+abbrev idle-loop : (t : ℕ) → sweep-lts.After-idle (sweep-claims t) (sweep-at t) sweep.Post sweep-Inv-loop sweep-μ-loop → Going-on t
+idle-loop t c = c .before .before
+
+abbrev missed-loop : (t : ℕ) → sweep-lts.After-missed (sweep-claims t) (sweep-at t) sweep.Post sweep-Inv-loop sweep-μ-loop → Going-on t
+missed-loop t c = idle-loop t (c .before .before .before .before .before)
+
+abbrev at-rest-loop : (t : ℕ) → sweep-lts.After-at-rest (sweep-claims t) (sweep-at t) sweep.Post sweep-Inv-loop sweep-μ-loop → Going-on t
+at-rest-loop t c = missed-loop t (c .before .before .before)
+
+abbrev pass-loop : (t : ℕ) → sweep-lts.After-pass (sweep-claims t) (sweep-at t) sweep.Post sweep-Inv-loop sweep-μ-loop → Going-on t
+pass-loop t c = at-rest-loop t (c .before .before .before .before .before)
+
+abbrev raised-loop : (t : ℕ) → sweep-lts.After-pass2 (sweep-claims t) (sweep-at t) sweep.Post sweep-Inv-loop sweep-μ-loop → Going-on t
+raised-loop t c = pass-loop t (c .before .before .before .before .before .before .before .before)
+
 -- where the child's run has come back
 abbrev Come-back : ℕ → Type 0
 Come-back t = sweep-lts.After-words (sweep-claims t) (sweep-at t) sweep.Post sweep-Inv-loop sweep-μ-loop
 
 abbrev going-on : (t : ℕ) → Come-back t → Going-on t
-going-on t c = c .before .before .before .before .before .before .before .before .before .before .before .before .before .before .before .before .before .before
+going-on t c = pass-loop t (c .before .before .before)
+
+-- and where its start was seen to wait
+abbrev missed-at : (t : ℕ) → Come-back t → sweep-lts.After-missed (sweep-claims t) (sweep-at t) sweep.Post sweep-Inv-loop sweep-μ-loop
+missed-at t w = w .before .before .before .before .before .before .before .before .before .before .before
 
 -- a bit whose next is in the word, and the lowest
 bits-within : (stand : ℕ) → stand + 1 < 64 → (stand < 64) × (0 < 64)
@@ -130,7 +150,7 @@ sweep-loop-holds : (t : ℕ) → sweep-lts.Need-loop-holds (sweep-claims t) (swe
 sweep-loop-holds t c = sweeping-begins _ _ _ _ _ _ _
 
 sweep-add-child : (t : ℕ) → sweep-lts.Need-add-child (sweep-claims t) (sweep-at t) sweep.Post sweep-Inv-loop sweep-μ-loop
-sweep-add-child t c = search (needs, room t (c))
+sweep-add-child t c = search (needs, room t c)
 
 sweep-slice-read-idle : (t : ℕ) → sweep-lts.Need-slice-read-idle (sweep-claims t) (sweep-at t) sweep.Post sweep-Inv-loop sweep-μ-loop
 sweep-slice-read-idle t c = search (needs, room t (c .before))
@@ -152,80 +172,80 @@ sweep-returns t c =
     )
 
 sweep-shared-slice-read-stand : (t : ℕ) → sweep-lts.Need-shared-slice-read-stand (sweep-claims t) (sweep-at t) sweep.Post sweep-Inv-loop sweep-μ-loop
-sweep-shared-slice-read-stand t c = search (needs, room t (c .before .before .before .before))
+sweep-shared-slice-read-stand t c = search (needs, room t (idle-loop t (c .before .before)))
 
 sweep-cast-stand : (t : ℕ) → sweep-lts.Need-cast-stand (sweep-claims t) (sweep-at t) sweep.Post sweep-Inv-loop sweep-μ-loop
-sweep-cast-stand t c = search (needs, room t (c .before .before .before .before))
+sweep-cast-stand t c = search (needs, room t (idle-loop t (c .before .before)))
 
 sweep-shared-slice-read-next : (t : ℕ) → sweep-lts.Need-shared-slice-read-next (sweep-claims t) (sweep-at t) sweep.Post sweep-Inv-loop sweep-μ-loop
-sweep-shared-slice-read-next t c = search (needs, room t (c .before .before .before .before .before))
+sweep-shared-slice-read-next t c = search (needs, room t (idle-loop t (c .before .before .before)))
 
 sweep-cast-next : (t : ℕ) → sweep-lts.Need-cast-next (sweep-claims t) (sweep-at t) sweep.Post sweep-Inv-loop sweep-μ-loop
-sweep-cast-next t c = search (needs, room t (c .before .before .before .before .before))
+sweep-cast-next t c = search (needs, room t (idle-loop t (c .before .before .before)))
 
 sweep-add-next : (t : ℕ) → sweep-lts.Need-add-next (sweep-claims t) (sweep-at t) sweep.Post sweep-Inv-loop sweep-μ-loop
-sweep-add-next t c = search (needs, room t (c .before .before .before .before .before))
+sweep-add-next t c = search (needs, room t (idle-loop t (c .before .before .before)))
 
 sweep-slice-read-missed : (t : ℕ) → sweep-lts.Need-slice-read-missed (sweep-claims t) (sweep-at t) sweep.Post sweep-Inv-loop sweep-μ-loop
-sweep-slice-read-missed t c = search (needs, room t (c .before .before .before .before .before .before))
+sweep-slice-read-missed t c = search (needs, room t (idle-loop t (c .before .before .before .before)))
 
 sweep-missed-requires : (t : ℕ) → sweep-lts.Need-missed-requires (sweep-claims t) (sweep-at t) sweep.Post sweep-Inv-loop sweep-μ-loop
-sweep-missed-requires t c κs = search (needs, room t (c .before .before .before .before .before .before))
+sweep-missed-requires t c κs = search (needs, room t (idle-loop t (c .before .before .before .before)))
 
 sweep-slice-read-at-rest : (t : ℕ) → sweep-lts.Need-slice-read-at-rest (sweep-claims t) (sweep-at t) sweep.Post sweep-Inv-loop sweep-μ-loop
-sweep-slice-read-at-rest t c = search (needs, room t (c .before .before .before .before .before .before .before .before))
+sweep-slice-read-at-rest t c = search (needs, room t (missed-loop t (c .before)))
 
 sweep-mul-at-rest : (t : ℕ) → sweep-lts.Need-mul-at-rest (sweep-claims t) (sweep-at t) sweep.Post sweep-Inv-loop sweep-μ-loop
-sweep-mul-at-rest t c = search (needs, room t (c .before .before .before .before .before .before .before .before))
+sweep-mul-at-rest t c = search (needs, room t (missed-loop t (c .before)))
 
 sweep-slice-read-at-rest-2 : (t : ℕ) → sweep-lts.Need-slice-read-at-rest-2 (sweep-claims t) (sweep-at t) sweep.Post sweep-Inv-loop sweep-μ-loop
-sweep-slice-read-at-rest-2 t c = search (needs, room t (c .before .before .before .before .before .before .before .before .before))
+sweep-slice-read-at-rest-2 t c = search (needs, room t (missed-loop t (c .before .before)))
 
 sweep-add-at-rest : (t : ℕ) → sweep-lts.Need-add-at-rest (sweep-claims t) (sweep-at t) sweep.Post sweep-Inv-loop sweep-μ-loop
-sweep-add-at-rest t c = search (needs, room t (c .before .before .before .before .before .before .before .before .before))
+sweep-add-at-rest t c = search (needs, room t (missed-loop t (c .before .before)))
 
 sweep-at-rest-requires : (t : ℕ) → sweep-lts.Need-at-rest-requires (sweep-claims t) (sweep-at t) sweep.Post sweep-Inv-loop sweep-μ-loop
-sweep-at-rest-requires t c κs = let r = room t (c .before .before .before .before .before .before .before .before .before) in (omega (arith, r .stand-small), omega (arith, r .runs-room, start-of t (c .before .before .before .before .before .before .before .before .before .before .before) .pre .1 .sized .runs-sized))
+sweep-at-rest-requires t c κs = let r = room t (missed-loop t (c .before .before)) in (omega (arith, r .stand-small), omega (arith, r .runs-room, start-of t (c .before .before .before .before .before .before .before .before .before .before .before) .pre .1 .sized .runs-sized))
 
 sweep-shared-slice-read-top : (t : ℕ) → sweep-lts.Need-shared-slice-read-top (sweep-claims t) (sweep-at t) sweep.Post sweep-Inv-loop sweep-μ-loop
-sweep-shared-slice-read-top t c = search (needs, room t (c .before .before .before .before .before .before .before .before .before .before .before .before))
+sweep-shared-slice-read-top t c = search (needs, room t (at-rest-loop t (c .before .before)))
 
 sweep-cast-top : (t : ℕ) → sweep-lts.Need-cast-top (sweep-claims t) (sweep-at t) sweep.Post sweep-Inv-loop sweep-μ-loop
-sweep-cast-top t c = search (needs, room t (c .before .before .before .before .before .before .before .before .before .before .before .before))
+sweep-cast-top t c = search (needs, room t (at-rest-loop t (c .before .before)))
 
 sweep-slice-read-pass : (t : ℕ) → sweep-lts.Need-slice-read-pass (sweep-claims t) (sweep-at t) sweep.Post sweep-Inv-loop sweep-μ-loop
-sweep-slice-read-pass t c = search (needs, room t (c .before .before .before .before .before .before .before .before .before .before .before .before .before))
+sweep-slice-read-pass t c = search (needs, room t (at-rest-loop t (c .before .before .before)))
 
 sweep-mul-pass : (t : ℕ) → sweep-lts.Need-mul-pass (sweep-claims t) (sweep-at t) sweep.Post sweep-Inv-loop sweep-μ-loop
-sweep-mul-pass t c = search (needs, room t (c .before .before .before .before .before .before .before .before .before .before .before .before .before))
+sweep-mul-pass t c = search (needs, room t (at-rest-loop t (c .before .before .before)))
 
 sweep-slice-read-pass-2 : (t : ℕ) → sweep-lts.Need-slice-read-pass-2 (sweep-claims t) (sweep-at t) sweep.Post sweep-Inv-loop sweep-μ-loop
-sweep-slice-read-pass-2 t c = search (needs, room t (c .before .before .before .before .before .before .before .before .before .before .before .before .before .before))
+sweep-slice-read-pass-2 t c = search (needs, room t (at-rest-loop t (c .before .before .before .before)))
 
 sweep-pass-requires : (t : ℕ) → sweep-lts.Need-pass-requires (sweep-claims t) (sweep-at t) sweep.Post sweep-Inv-loop sweep-μ-loop
-sweep-pass-requires t c κs = bits-within _ (room t (c .before .before .before .before .before .before .before .before .before .before .before .before .before .before) .stand-small)
+sweep-pass-requires t c κs = bits-within _ (room t (at-rest-loop t (c .before .before .before .before)) .stand-small)
 
 sweep-mul-words : (t : ℕ) → sweep-lts.Need-mul-words (sweep-claims t) (sweep-at t) sweep.Post sweep-Inv-loop sweep-μ-loop
-sweep-mul-words t c = search (needs, room t (c .before .before .before .before .before .before .before .before .before .before .before .before .before .before .before))
+sweep-mul-words t c = search (needs, room t (pass-loop t c))
 
 sweep-slice-write-words-2 : (t : ℕ) → sweep-lts.Need-slice-write-words-2 (sweep-claims t) (sweep-at t) sweep.Post sweep-Inv-loop sweep-μ-loop
-sweep-slice-write-words-2 t c = search (needs, room t (c .before .before .before .before .before .before .before .before .before .before .before .before .before .before .before))
+sweep-slice-write-words-2 t c = search (needs, room t (pass-loop t c))
 
 sweep-mul-sweep : (t : ℕ) → sweep-lts.Need-mul-sweep (sweep-claims t) (sweep-at t) sweep.Post sweep-Inv-loop sweep-μ-loop
-sweep-mul-sweep t c = search (needs, room t (c .before .before .before .before .before .before .before .before .before .before .before .before .before .before .before))
+sweep-mul-sweep t c = search (needs, room t (pass-loop t c))
 
 sweep-sub-sweep : (t : ℕ) → sweep-lts.Need-sub-sweep (sweep-claims t) (sweep-at t) sweep.Post sweep-Inv-loop sweep-μ-loop
-sweep-sub-sweep t c = search (needs, room t (c .before .before .before .before .before .before .before .before .before .before .before .before .before .before .before))
+sweep-sub-sweep t c = search (needs, room t (pass-loop t c))
 
 sweep-part-sweep-start : (t : ℕ) → sweep-lts.Need-part-sweep-start (sweep-claims t) (sweep-at t) sweep.Post sweep-Inv-loop sweep-μ-loop
-sweep-part-sweep-start t c = search (needs, room t (c .before .before .before .before .before .before .before .before .before .before .before .before .before .before .before))
+sweep-part-sweep-start t c = search (needs, room t (pass-loop t c))
 
 sweep-part-sweep-end : (t : ℕ) → sweep-lts.Need-part-sweep-end (sweep-claims t) (sweep-at t) sweep.Post sweep-Inv-loop sweep-μ-loop
-sweep-part-sweep-end t c = search (needs, room t (c .before .before .before .before .before .before .before .before .before .before .before .before .before .before .before))
+sweep-part-sweep-end t c = search (needs, room t (pass-loop t c))
 
 sweep-sweep-requires : (t : ℕ) → sweep-lts.Need-sweep-requires (sweep-claims t) (sweep-at t) sweep.Post sweep-Inv-loop sweep-μ-loop
 sweep-sweep-requires t c κs =
-    let g = c .before .before .before .before .before .before .before .before .before .before .before .before .before .before .before .before in
+    let g = pass-loop t (c .before) in
     let s = start-of t (g .before .before) in
     let can = child-waits t g .visitable in (
       omega (arith, s .pre .0, lent-shorter _ _ _ _ _ _ _ _ _ can _ (c .before .pass .ensures), g .before .loop .inv .same-length, length-set (s .args .words .now) 0 (g .before .before .close-from .result)),
@@ -248,10 +268,10 @@ sweep-pass-requires-2 : (t : ℕ) → sweep-lts.Need-pass-requires-2 (sweep-clai
 sweep-pass-requires-2 t c κs = let r = room t (c .before .before .before .before .before .before .before .before .before .before .before .before .before .before .before .before .before .before .before .before .before .before) in (r .top-small, r .stand-small)
 
 sweep-add-close-from : (t : ℕ) → sweep-lts.Need-add-close-from (sweep-claims t) (sweep-at t) sweep.Post sweep-Inv-loop sweep-μ-loop
-sweep-add-close-from t c = search (needs, room t (c .before .before .before .before .before .before .before .before .before .before .before .before .before .before .before .before .before .before .before .before .before .before .before))
+sweep-add-close-from t c = search (needs, room t (raised-loop t c))
 
 sweep-close-from-requires-2 : (t : ℕ) → sweep-lts.Need-close-from-requires-2 (sweep-claims t) (sweep-at t) sweep.Post sweep-Inv-loop sweep-μ-loop
-sweep-close-from-requires-2 t c κs = let r = room t (c .before .before .before .before .before .before .before .before .before .before .before .before .before .before .before .before .before .before .before .before .before .before .before) in (r .reach-room, r .stand-small)
+sweep-close-from-requires-2 t c κs = let r = room t (raised-loop t c) in (r .reach-room, r .stand-small)
 
 sweep-slice-write-words-3 : (t : ℕ) → sweep-lts.Need-slice-write-words-3 (sweep-claims t) (sweep-at t) sweep.Post sweep-Inv-loop sweep-μ-loop
 sweep-slice-write-words-3 t c = let w = c .before .before .before .before .before .before in omega (arith, room t (going-on t w), w .words .given .1, length-set (going-on t w .before .loop .words) (going-on t w .before .loop .at) (w .before .before .before .pass .result))
@@ -266,7 +286,7 @@ sweep-loop-again t c =
     let w = c .before .before .before .before .before .before in
     let p = w .before .before .before in
     let g = going-on t w in
-    sweeping-on _ _ _ _ _ _ _ _ _ _ (g .before .loop .inv) (g .loop-test .taken) _ _ _ _ (begun t (g .before .before)) (own t (g .before .before)) (c .before .before .before .before .before .before .before .before .before .before .before .before .before .before .before .before .before .missed .ensures)
+    sweeping-on _ _ _ _ _ _ _ _ _ _ (g .before .loop .inv) (g .loop-test .taken) _ _ _ _ (begun t (g .before .before)) (own t (g .before .before)) (missed-at t w .missed .ensures)
     (λ e. still-settled {child = w .before .sweep .result} (λ then. then .1) (λ else. (not-false _ (else .0 .left), else .1)) (c .before .before .before .before .if3 .came) e .1)
     (λ x child can. record {
       visited = visited _ _ _ _ _ _ _ x child can _ (p .pass .ensures) _ (w .before .sweep .kept .1 .1 .1 .1 .1 .1 .1 .0)
@@ -279,11 +299,11 @@ sweep-loop-again t c =
     })
 
 sweep-loop-less-2 : (t : ℕ) → sweep-lts.Need-loop-less-2 (sweep-claims t) (sweep-at t) sweep.Post sweep-Inv-loop sweep-μ-loop
-sweep-loop-less-2 t c = search (needs, room t (c .before .before .before .before .before .before .before .before .before .before .before))
+sweep-loop-less-2 t c = search (needs, room t (at-rest-loop t (c .before)))
 
 sweep-loop-again-2 : (t : ℕ) → sweep-lts.Need-loop-again-2 (sweep-claims t) (sweep-at t) sweep.Post sweep-Inv-loop sweep-μ-loop
 sweep-loop-again-2 t c =
-    let g = c .before .before .before .before .before .before .before .before .before .before .before in
+    let g = at-rest-loop t (c .before) in
     sweeping-on _ _ _ _ _ _ _ _ _ _ (g .before .loop .inv) (g .loop-test .taken) _ _ _ _ (begun t (g .before .before)) (own t (g .before .before)) (c .before .before .before .before .missed .ensures) (λ e. e)
     (passed-over _ _ _ _ _ _ _ _ _ _ (g .before .loop .inv) (g .loop-test .taken) _ _ (c .before .at-rest .ensures (not-false _ (c .if2 .left))) (ahead t g))
 
