@@ -48,7 +48,10 @@ fn search_all(matchers: &mut [Box<dyn Matcher>], texts: &[Vec<u8>]) -> Answers {
     Some(sums)
 }
 
-/// The quickest of as many runs as half a second has room for, at least one.
+/// How often each figure is taken, with the others of its table in between: what disturbs the machine for a while spares one.
+const ROUNDS: usize = 4;
+
+/// The quickest of as many runs as an eighth of a second has room for, at least one.
 fn quickest(mut run: impl FnMut() -> Answers) -> (Answers, Duration) {
     let begin = Instant::now();
     let mut best = Duration::MAX;
@@ -56,7 +59,7 @@ fn quickest(mut run: impl FnMut() -> Answers) -> (Answers, Duration) {
         let before = Instant::now();
         let answers = run();
         best = best.min(before.elapsed());
-        if answers.is_none() || begin.elapsed() > Duration::from_millis(500) {
+        if answers.is_none() || begin.elapsed() > Duration::from_millis(125) {
             return (answers, best);
         }
     }
@@ -65,6 +68,12 @@ fn quickest(mut run: impl FnMut() -> Answers) -> (Answers, Duration) {
 struct Measured {
     answers: Answers,
     nanoseconds_per_byte: f64,
+}
+
+impl Measured {
+    fn or_quicker(self, other: Measured) -> Measured {
+        if other.nanoseconds_per_byte < self.nanoseconds_per_byte { other } else { self }
+    }
 }
 
 fn measure(engine: &Engine, load: &Workload, run: Run) -> Measured {
@@ -110,7 +119,14 @@ fn cell(here: &Measured, plain: &Measured) -> String {
     format!("{:>12.1} {:>8.2}x{sign}", here.nanoseconds_per_byte, ratio)
 }
 
-fn compare(load: &Workload) {
+impl Row {
+    fn or_quicker(self, other: Row) -> Row {
+        let part = self.part.zip(other.part).map(|(here, there)| here.or_quicker(there));
+        Row { name: self.name, whole: self.whole.or_quicker(other.whole), part }
+    }
+}
+
+fn measure_all(load: &Workload) -> Vec<Row> {
     let measured = |engine: Engine| {
         let [whole, part] = [match_all as Run, search_all].map(|run| measure(&engine, load, run));
         Row { name: engine.name, whole, part: Some(part) }
@@ -118,6 +134,14 @@ fn compare(load: &Workload) {
     let mut rows: Vec<Row> = engines::all().into_iter().map(measured).collect();
     if load.as_lines {
         rows.insert(2, Row { name: "foamlattice pick", whole: measure_pick(load), part: None });
+    }
+    rows
+}
+
+fn compare(load: &Workload) {
+    let mut rows = measure_all(load);
+    for _ in 1..ROUNDS {
+        rows = rows.into_iter().zip(measure_all(load)).map(|(here, there)| here.or_quicker(there)).collect();
     }
     let Row { whole: plain_match, part: Some(plain_search), .. } = &rows[0] else {
         unreachable!("the plain simulation searches")
