@@ -1,6 +1,7 @@
 // Search over the tables of a list: the earliest start, then the furthest end.
 use marks::inner::advance;
 use marks::inner::begin;
+use marks::inner::copy;
 use marks::inner::nothing_left;
 ghost use Prim.Native.Nat.{ℕ, _≤_};
 ghost use mathlib.Core.Path.{_≡_};
@@ -8,7 +9,8 @@ ghost use mathlib.Core.Logic.{_↔_};
 ghost use lib.ListN.{length};
 ghost use Rattle.language.specs.Tree.{Tree};
 ghost use Rattle.language.specs.Language.{Matches};
-ghost use Rattle.tables.specs.Tables.{Prepared, Ready};
+ghost use mathlib.Core.List.{[]};
+ghost use Rattle.tables.specs.Tables.{Prepared, Ready, Answered};
 ghost use Rattle.finder.specs.Progress.{Settled, better};
 ghost use Rattle.finder.specs.Found.{Answers};
 ghost use Rattle.finder.specs.Parts.{end-of, answer-of};
@@ -32,6 +34,7 @@ fn with_end(yes: bool, end: usize, best: End) -> End
     if yes { End::At(end) } else { best }
 }
 
+// The furthest end, from the marks to start with, which are those of the empty text: `empty` says whether that is in the language.
 fn furthest_end(
     reach: &[u64],
     labels: &[u16],
@@ -39,16 +42,19 @@ fn furthest_end(
     stands: &[u8],
     tops: &[u8],
     count: usize,
+    first: &[u64],
+    empty: bool,
     text: &[u8],
     start: usize,
 ) -> End
     requires { ⌜ Ready (now reach) (now labels) (now runs) (now stands) (now tops) count ⌝ }
-    requires { ⌜ start ≤ length (now text) ⌝ }
+    requires { ⌜ (start ≤ length (now text)) × (length (now first) ≡ 128) ⌝ }
+    requires { ⌜ ((t : Tree ℕ) → Prepared t (now reach) (now labels) (now runs) (now stands) (now tops) count → Answered t [] (now first) empty) ⌝ }
     ensures { λ r. ⌜ ((t : Tree ℕ) → Prepared t (now (reach .entry)) (now (labels .entry)) (now (runs .entry)) (now (stands .entry)) (now (tops .entry)) count → Settled (Matches t) (now (text .entry)) start (end-of r)) ⌝ }
 {
     let mut words = [0u64; 128];
-    let yes = begin(reach, labels, runs, stands, tops, count, &mut words);
-    let mut best = with_end(yes, start, End::Nowhere);
+    copy(first, count, &mut words);
+    let mut best = with_end(empty, start, End::Nowhere);
     let mut end = start;
     while end < text.len() {
         if nothing_left(&words, count) {
@@ -70,7 +76,8 @@ fn furthest_end(
     best
 }
 
-// The part that starts earliest and then ends furthest, among the parts in the language of the tree that the tables are of.
+// The part that starts earliest and then ends furthest, among the parts in the language of the tree that the tables are of. The marks to start
+// with are made once for all places.
 pub fn first_part(
     reach: &[u64],
     labels: &[u16],
@@ -83,9 +90,22 @@ pub fn first_part(
     requires { ⌜ Ready (now reach) (now labels) (now runs) (now stands) (now tops) count ⌝ }
     ensures { λ r. ⌜ ((t : Tree ℕ) → Prepared t (now (reach .entry)) (now (labels .entry)) (now (runs .entry)) (now (stands .entry)) (now (tops .entry)) count → Answers (Matches t) (now (text .entry)) (answer-of r)) ⌝ }
 {
+    let mut first = [0u64; 128];
+    let empty = begin(reach, labels, runs, stands, tops, count, &mut first);
     let mut start = 0;
     while start <= text.len() {
-        let found = furthest_end(reach, labels, runs, stands, tops, count, text, start);
+        let found = furthest_end(
+            reach,
+            labels,
+            runs,
+            stands,
+            tops,
+            count,
+            &first,
+            empty,
+            text,
+            start,
+        );
         match found {
             End::At(end) => return Part::At { start, end },
             End::Nowhere => start += 1,

@@ -221,6 +221,22 @@ pub answered-first : {t : Tree ℕ} {before after : List ℕ} {yes' : Bool} → 
 answered-first {t} begins =
     record { holding = holding-first (begins .hold .marks) (begins .hold .clean); answer = Iff·trans (begins .answer) (accepts-exactly Is t []) }
 
+-- words of which the first are put in the place of others answer the same
+pub answered-copy : {t : Tree ℕ} {reach labels runs stands tops w after : List ℕ} {count : ℕ} {yes' : Bool} (from to : List ℕ) → Prepared t reach labels runs stands tops count
+    → count ≤ length from → after ≡ take count from ++ drop count to → Answered t w from yes' → Answered t w after yes'
+answered-copy {t} {w = w} {after = after} {count = count} from to prepared enough put answered =
+    let x = cut-up t in
+    let same : take count after ≡ take count from =
+    ap (take count) put ∙ take-at (take count from) (drop count to) count (length-take-le count from enough)
+    in
+    record {
+      holding = record {
+        modelled = models-same x (After Is t w (Started t)) (same-front x count after from (prepared-count prepared) same) (answered .holding .modelled);
+        clean = same-clean x count after from (prepared-count prepared) same (answered .holding .clean);
+      };
+      answer = answered .answer;
+    }
+
 -- after one more byte they hold the marks after one more byte
 pub answered-next : {t : Tree ℕ} {w before after : List ℕ} {b : ℕ} {yes' : Bool} → Holding t w before → Advanced t b before after yes' → Answered t (w ++ (b ∷ [])) after yes'
 answered-next {t} {w} {before} {after} {b} {yes'} holding went =

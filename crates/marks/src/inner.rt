@@ -39,7 +39,7 @@ pub fn prepare(
 }
 
 // Puts the first `count` words of one slice in the place of those of another.
-fn copy(from: &[u64], count: usize, to: &mut [u64])
+pub fn copy(from: &[u64], count: usize, to: &mut [u64])
     requires { ⌜ (count ≤ length (now from)) × (count ≤ length (now to)) ⌝ }
     ensures { λ _. ⌜ now (to .exit) ≡ take count (now (from .entry)) ++ drop count (now (to .entry)) ⌝ }
 {

@@ -8,7 +8,7 @@ use lib.ListN.{length}
 use Rattle.language.specs.Tree.{Tree}
 use Rattle.tables.specs.Tables.{Prepared, Ready}
 use Rattle.marks.specs.Texts.{nothing-left}
-use Rattle.marks.specs.Inner.{running, holding-marks, answered-first, answered-next}
+use Rattle.marks.specs.Inner.{running, holding-marks, answered-copy, answered-next}
 use Rattle.finder.specs.Parts.{end-of}
 use Rattle.finder.specs.Answering.{Standing, standing-first, standing-next, settled-early, settled-at-end}
 use Rattle.finder.proofs.part.furthest_end.Statement.{statement}
@@ -16,23 +16,23 @@ use Rattle.finder.proofs.part.furthest_end.Tie as tie
 use Rattle.finder.proofs.part.furthest_end.Reads as reads
 use Rattle.finder.proofs.part.furthest_end.Lts as lts
 use Rattle.marks.proofs.inner.advance.Reads as advance-reads
-use Rattle.marks.proofs.inner.begin.Reads as begin-reads
+use Rattle.marks.proofs.inner.copy.Reads as copy-reads
 use Rattle.marks.proofs.inner.nothing_left.Reads as nothing-left-reads
 use Rattle.finder.proofs.part.with_end.Reads as with-end-reads
 
 abbrev Inv-loop : tie.InvT-loop
-Inv-loop reach labels runs stands tops count text start words₀ yes' best₀ end₀ words best end = (start ≤ end) × (end ≤ length text) × (length words ≡ 128) × Ready reach labels runs stands tops count × ((t : Tree ℕ) → Prepared t reach labels runs stands tops count → Standing t text start end words (end-of best))
+Inv-loop reach labels runs stands tops count first empty text start words₀ best₀ end₀ words best end = (start ≤ end) × (end ≤ length text) × (length words ≡ 128) × Ready reach labels runs stands tops count × ((t : Tree ℕ) → Prepared t reach labels runs stands tops count → Standing t text start end words (end-of best))
 
 abbrev μ-loop : tie.MeasureT-loop
-μ-loop reach labels runs stands tops count text start words₀ yes' best₀ end₀ words best end = length text - end
+μ-loop reach labels runs stands tops count first empty text start words₀ best₀ end₀ words best end = length text - end
 
 -- src/search.rt:39:69
-slice-aggregate-begin : tie.Need-slice-aggregate-begin Inv-loop μ-loop
-slice-aggregate-begin c = search needs
+slice-aggregate-copy : tie.Need-slice-aggregate-copy Inv-loop μ-loop
+slice-aggregate-copy c = search needs
 
 -- src/search.rt:39:9
-begin-requires : tie.Need-begin-requires Inv-loop μ-loop
-begin-requires c κs = search needs
+copy-requires : tie.Need-copy-requires Inv-loop μ-loop
+copy-requires c κs = search needs
 
 -- src/search.rt:40:9
 with-end-requires : tie.Need-with-end-requires Inv-loop μ-loop
@@ -46,7 +46,9 @@ loop-holds c = (
   search needs,
   search needs,
   λ t prepared.
-      rw (c .with-end .ensures) (standing-first t _ _ _ _ (omega arith) (answered-first (c .before .before .begin .ensures t prepared))),
+      let begun = c .before .before .before .before .before .before .before .before .before .before .before in
+      rw (c .with-end .ensures) (standing-first t _ _ _ _ (omega arith)
+      (answered-copy (begun .args .first .now) _ prepared (omega (arith, prepared .counted, prepared .few, begun .pre .1 .0 .1)) (c .before .before .copy .ensures) (begun .pre .1 .1 t prepared))),
 )
 
 -- src/search.rt:43:31
@@ -113,8 +115,8 @@ furthest-end-spec =
     (tie.spec
     Inv-loop
     μ-loop
-    slice-aggregate-begin
-    begin-requires
+    slice-aggregate-copy
+    copy-requires
     with-end-requires
     loop-holds
     slice-aggregate-nothing-left
