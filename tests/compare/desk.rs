@@ -4,7 +4,7 @@ use crate::calls;
 use crate::expected::{self, Automaton, Tree};
 use crate::wrapper::foamlattice::MOST_RECORD_BYTES;
 
-const EXPRESSIONS: &str = include_str!("../desk-expressions.txt");
+const EXPRESSIONS: &str = include_str!("../../crates/desk/stdin");
 const LEAP_DAY: &str = "02-29";
 const DAYS: [usize; 12] = [31, 29, 31, 30, 31, 30, 31, 31, 30, 31, 30, 31];
 
