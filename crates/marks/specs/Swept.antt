@@ -16,7 +16,7 @@ use Rattle.marks.specs.EachClosed.{Each-closed, Each-closed-below}
 unfoldable pub passed : (other from word to : ℕ) → ℕ
 passed other from word to = bitOr word (other / 2 ^ from % 2 * 2 ^ to)
 
--- r is the word with bit i set where that of the other is not
+-- r has the bits of the word, and bit i where the other has not
 pub record Missed (other i word r : ℕ) : Type 0 where
   pub all : (j : ℕ) → Bit word j → Bit r j
   pub one : (Bit other i → ⊥) → Bit r i

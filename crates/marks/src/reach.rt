@@ -1,6 +1,7 @@
 // Document 002's table: one word for each state of each piece, with the bits of the states that empty transitions reach from it.
 // It is made in place from the words of the empty transitions themselves, by Warshall's way, from the last state down: nearly all lead ahead.
 use crate::bits::has_bit;
+use crate::bits::lowest;
 use crate::bits::with_bit;
 ghost use Prim.Native.Nat.{ℕ, _+_, _*_, _≤_, _<_};
 ghost use lib.ListN.{length, getD};
@@ -20,8 +21,8 @@ fn join_ahead(reach: &[u64], base: usize, state: usize) -> u64
     let mut row = with_bit(word, state);
     let mut left = word >> state;
     while left != 0 {
-        let next = base + (state + u64::trailing_zeros(left) as usize);
-        row = row | reach[next];
+        let next = state + lowest(left);
+        row = row | reach[base + next];
         left = left & (left - 1);
     }
     row

@@ -4,9 +4,8 @@ use Prim.Native.Nat.{_+_, _^_, _<_}
 use native.Mathlib.Nat.{lt-of-le-of-lt}
 use native.Mathlib.Omega.{arith}
 use borrow.Author.Needs.{needs}
-use lib.Count.{trailing-le}
 use lib.Pow.{shr-le}
-use Rattle.marks.specs.LowestBit.{lowest-bit, left-smaller}
+use Rattle.marks.specs.LowestBit.{left-smaller}
 use Rattle.marks.specs.Ahead.{Joined, joined-none, joined-more, joined-below, joined-ended}
 use Rattle.marks.proofs.reach.join_ahead.Statement.{statement}
 use Rattle.marks.proofs.reach.join_ahead.Tie as tie
@@ -38,32 +37,34 @@ loop-holds c =
     let word-fits = c .before .shared-slice-known2 .given (s .args .base + s .args .state) .fits in
     (word-fits, lt-of-le-of-lt (shr-le _ (s .args .state)) word-fits, joined-none _ _ _ _ (c .with-bit .ensures))
 
-cast-next : tie.Need-cast-next Inv-loop μ-loop
-cast-next c = omega (arith, trailing-le 64 (c .before .loop .left))
+lowest-requires : tie.Need-lowest-requires Inv-loop μ-loop
+lowest-requires c κs = omega arith
 
 add-next : tie.Need-add-next Inv-loop μ-loop
-add-next c = omega (arith, trailing-le 64 (c .before .loop .left))
+add-next c = omega (arith, c .lowest .ensures .1)
 
-add-next-2 : tie.Need-add-next-2 Inv-loop μ-loop
-add-next-2 c = omega (arith, trailing-le 64 (c .before .loop .left))
+add-row : tie.Need-add-row Inv-loop μ-loop
+add-row c = omega (arith, c .lowest .ensures .1)
 
 mul-row : tie.Need-mul-row Inv-loop μ-loop
-mul-row c = omega (arith, joined-below {n = 64} (c .before .loop .inv .2) (lowest-bit 64 _ (omega arith) (omega arith)) (c .before .loop .inv .0))
+mul-row c = omega (arith, joined-below {n = 64} (c .before .before .loop .inv .2) (c .lowest .ensures .0) (c .before .before .loop .inv .0))
 
 shared-slice-read-row : tie.Need-shared-slice-read-row Inv-loop μ-loop
 shared-slice-read-row c =
-    omega (arith, joined-below {n = 64} (c .before .before .loop .inv .2) (lowest-bit 64 _ (omega arith) (omega arith)) (c .before .before .loop .inv .0))
+    let at = c .before .before .before in
+    omega (arith, joined-below {n = 64} (at .loop .inv .2) (c .before .lowest .ensures .0) (at .loop .inv .0))
 
 sub-left : tie.Need-sub-left Inv-loop μ-loop
 sub-left c = omega arith
 
 loop-less : tie.Need-loop-less Inv-loop μ-loop
-loop-less c = left-smaller (lowest-bit 64 _ (omega arith) (omega arith))
+loop-less c = left-smaller (c .before .lowest .ensures .0)
 
 loop-again : tie.Need-loop-again Inv-loop μ-loop
 loop-again c =
-    let lowest = lowest-bit 64 (c .before .before .loop .left) (omega arith) (omega arith) in
-    (c .before .before .loop .inv .0, omega (arith, left-smaller lowest), joined-more (c .before .before .loop .inv .2) lowest)
+    let at = c .before .before .before in
+    let lowest = c .before .lowest .ensures .0 in
+    (at .loop .inv .0, omega (arith, left-smaller lowest), joined-more (at .loop .inv .2) lowest)
 
 returns : tie.Need-returns Inv-loop μ-loop
 returns c = joined-ended (omega arith) (c .before .loop .inv .2)
@@ -80,9 +81,9 @@ join-ahead-spec =
     with-bit-requires
     shr-left
     loop-holds
-    cast-next
+    lowest-requires
     add-next
-    add-next-2
+    add-row
     mul-row
     shared-slice-read-row
     sub-left
