@@ -13,7 +13,7 @@ use Rattle.marks.specs.Bits.{bit-or, bit-with, bit-zero, bit-below}
 use Rattle.marks.specs.LowestBit.{Lowest}
 
 -- the row w of the state k: `left` has the bits, counted from k on, of the states ahead whose rows are still to be joined
-pub record Joined (table : List ℕ) (base k left w : ℕ) : Type 0 where
+pub record Joined-ahead (table : List ℕ) (base k left w : ℕ) : Type 0 where
   pub inside : (j : ℕ) → Bit w j
       → (Bit (getD table (base + k) 0) j ⊎ (j ≡ k)) ⊎ ((m : ℕ) × Bit (getD table (base + k) 0) (k + m) × Bit (getD table (base + (k + m)) 0) j)
   pub own : Bit w k
@@ -23,7 +23,7 @@ pub record Joined (table : List ℕ) (base k left w : ℕ) : Type 0 where
 
 -- at first no row is joined
 pub joined-none : (table : List ℕ) (base k w : ℕ) → w ≡ bitOr (getD table (base + k) 0) (2 ^ k)
-    → Joined table base k (getD table (base + k) 0 / 2 ^ k) w
+    → Joined-ahead table base k (getD table (base + k) 0 / 2 ^ k) w
 joined-none table base k w e = record {
   inside = λ j b. inl (bits j .0 b);
   own = bits k .1 (inr refl);
@@ -36,8 +36,8 @@ joined-none table base k w e = record {
     bits j = subst (λ (v : ℕ). Bit v j ↔ (Bit (getD table (base + k) 0) j ⊎ (j ≡ k))) (sym e) (bit-with (getD table (base + k) 0) k j)
 
 -- the row of the nearest of those left is joined
-pub joined-more : {table : List ℕ} {base k left w s : ℕ} → Joined table base k left w → Lowest left s
-    → Joined table base k (bitAnd left (left - 1)) (bitOr w (getD table (base + (k + s)) 0))
+pub joined-more : {table : List ℕ} {base k left w s : ℕ} → Joined-ahead table base k left w → Lowest left s
+    → Joined-ahead table base k (bitAnd left (left - 1)) (bitOr w (getD table (base + (k + s)) 0))
 joined-more {table} {base} {k} {left} {w} {s} so-far lowest = record {
   inside = λ j b. ⊎-elim (so-far .inside j) (λ c. inr (s, so-far .to-join s (lowest .is-set), c)) (bit-or w _ j .0 b);
   own = more k (so-far .own);
@@ -53,14 +53,14 @@ joined-more {table} {base} {k} {left} {w} {s} so-far lowest = record {
     more j b = bit-or w _ j .1 (inl b)
 
 -- the nearest of those left is a bit of the state's word
-pub joined-below : {table : List ℕ} {base k left w s n : ℕ} → Joined table base k left w → Lowest left s → getD table (base + k) 0 < 2 ^ n → k + s < n
+pub joined-below : {table : List ℕ} {base k left w s n : ℕ} → Joined-ahead table base k left w → Lowest left s → getD table (base + k) 0 < 2 ^ n → k + s < n
 joined-below {s = s} so-far lowest h = bit-below h (so-far .to-join s (lowest .is-set))
 
 -- at last none is left
-pub joined-ended : {table : List ℕ} {base k left w : ℕ} → left ≡ 0 → Joined table base k left w → Joined table base k 0 w
-joined-ended {table} {base} {k} {left} {w} e so-far = subst (λ (v : ℕ). Joined table base k v w) e so-far
+pub joined-ended : {table : List ℕ} {base k left w : ℕ} → left ≡ 0 → Joined-ahead table base k left w → Joined-ahead table base k 0 w
+joined-ended {table} {base} {k} {left} {w} e so-far = subst (λ (v : ℕ). Joined-ahead table base k v w) e so-far
 
 -- then the rows of all states ahead that the transitions lead to are joined
-pub joined-all : {table : List ℕ} {base k w : ℕ} → Joined table base k 0 w
+pub joined-all : {table : List ℕ} {base k w : ℕ} → Joined-ahead table base k 0 w
     → (m j : ℕ) → Bit (getD table (base + k) 0) (k + m) → Bit (getD table (base + (k + m)) 0) j → Bit w j
 joined-all all m j b c = ⊎-elim (λ l. absurd (bit-zero m l)) (λ l. l) (all .joined m j b c)

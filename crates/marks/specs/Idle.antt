@@ -4,21 +4,17 @@ use Prim.Native.Nat.{ℕ, zero, suc, _+_, _^_, _≤_, _<_}
 use native.Mathlib.Omega.{arith}
 use native.Mathlib.Decide.{decLt}
 use mathlib.Core.Bool.{Bool}
-use mathlib.Core.Path.{_≡_, refl, subst}
-use mathlib.Core.Logic.{inl, inr}
+use mathlib.Core.Path.{_≡_, subst}
 use mathlib.Core.List.{List}
 use lib.Bits.{bitOr}
 use lib.ListN.{length, getD}
 use Rattle.language.specs.Nested.{Nested}
 use Rattle.tables.specs.Words.{Bit, run}
-use Rattle.marks.specs.Bits.{bit-zero, bit-with}
-use Rattle.marks.specs.Swept.{Missed, Sweepable}
+use Rattle.marks.specs.Bits.{bit-zero}
+use Rattle.marks.specs.Swept.{Sweepable}
+use Rattle.marks.specs.Passing.{missed-with}
 use Rattle.marks.specs.Chains.{Under-way, waiting-child}
 use Rattle.marks.specs.GoneThrough.{further, gone, visited-at-rest, settled-at-rest}
-
--- the start of one more child piece waits
-also-waits : (word waiting i : ℕ) → Missed word i waiting (bitOr waiting (2 ^ i))
-also-waits word waiting i = record { all = λ j b. bit-with waiting i j .1 (inl b); one = λ none. bit-with waiting i i .1 (inr refl) }
 
 module _ (reach runs stands tops : List ℕ) (x : Nested ℕ) (k : ℕ) (begun : List ℕ) (sweepable : Sweepable reach runs stands tops x k begun)
     (words : List ℕ) (settled : Bool) (same : length words ≡ length begun) (unmarked : getD words 0 0 ≡ 0) where
@@ -42,7 +38,7 @@ module _ (reach runs stands tops : List ℕ) (x : Nested ℕ) (k : ℕ) (begun :
         let zeros : (o : ℕ) → o < 1 + run (c .tree) → getD words (at + o) 0 ≡ 0 = λ o g. none (at + o) (omega arith) (omega (arith, w .visitable .room)) in
         let seen = visited-at-rest (w .visitable) rest zeros in
         let waiting' = bitOr waiting (2 ^ c .stand) in
-        let missed = also-waits (getD words 0 0) waiting (c .stand) in
+        let missed = missed-with (getD words 0 0) (c .stand) waiting in
         finish m (at + (1 + run (c .tree))) waiting' (omega arith) (λ o g. none o (omega arith))
         (w .goes-on words waiting' settled seen (further (w .visitable) words seen waiting waiting' missed settled settled (λ e. e))
         (gone (w .visitable) words seen waiting waiting' missed settled settled (λ _. settled-at-rest (w .visitable) rest zeros)))

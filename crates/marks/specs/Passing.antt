@@ -3,11 +3,12 @@
 use Prim.Native.Nat.{ℕ, _*_, _/_, _%_, _^_, _<_}
 use native.Mathlib.Nat.{one-mul, zero-mul}
 use native.Mathlib.Omega.{arith}
-use mathlib.Core.Path.{_≡_, sym, ap, _∙_, subst}
+use mathlib.Core.Path.{_≡_, refl, sym, ap, _∙_, subst}
 use mathlib.Core.Logic.{_⊎_, inl, inr, _↔_, ⊎-elim}
+use lib.Bits.{bitOr}
 use Rattle.tables.specs.Words.{Bit}
-use Rattle.marks.specs.Bits.{dec-bit, clear-bit, bit-zero, bit-or, bit-power, bit-below, below-of-bits}
-use Rattle.marks.specs.Swept.{passed}
+use Rattle.marks.specs.Bits.{dec-bit, clear-bit, bit-zero, bit-or, bit-power, bit-with, bit-below, below-of-bits}
+use Rattle.marks.specs.Swept.{passed, Missed}
 
 -- one bit or none, shifted up
 bit-moved : (other from to k : ℕ) → Bit (other / 2 ^ from % 2 * 2 ^ to) k ↔ ((k ≡ to) × Bit other from)
@@ -36,3 +37,7 @@ pub passed-below : (other from word to n : ℕ) → word < 2 ^ n → to < n → 
 passed-below other from word to n h l =
     below-of-bits n (passed other from word to)
     (λ i b. ⊎-elim (λ w. bit-below h w) (λ m. omega (arith, m .0)) (bit-passed other from word to i .0 b))
+
+-- the word with bit i set has it, whatever the other has
+pub missed-with : (other i word : ℕ) → Missed other i word (bitOr word (2 ^ i))
+missed-with other i word = record { all = λ j b. bit-with word i j .1 (inl b); one = λ none. bit-with word i i .1 (inr refl) }

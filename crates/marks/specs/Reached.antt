@@ -17,7 +17,7 @@ use Rattle.marks.specs.Bits.{bit-or, below-of-bits}
 use Rattle.marks.specs.Numbers.{number-below, number-onto, number-injective}
 use Rattle.marks.specs.Transitions.{transition-own, nexts-bits}
 use Rattle.marks.specs.Rows.{Rows, row-at}
-use Rattle.marks.specs.Ahead.{Joined}
+use Rattle.marks.specs.Ahead.{Joined-ahead}
 use Rattle.marks.specs.Reaching.{Let-in, let-in-none, let-in-bits, Partly, let-in, join-row}
 
 -- one path after another
@@ -128,7 +128,7 @@ pub closing-at : {before after : List ℕ} {piece n k m seen : ℕ} → k ≡ m 
 closing-at {before} {after} {piece} {n} {seen = seen} e so-far = subst (λ (k : ℕ). Closing-rows before after piece n k seen) e so-far
 
 module _ {before after : List ℕ} {piece n k seen w : ℕ} (h : k < n) (room : 64 * piece + k < length after)
-    (so-far : Closing-rows before after piece n (k + 1) seen) (joined : Joined after (64 * piece) k 0 w) where
+    (so-far : Closing-rows before after piece n (k + 1) seen) (joined : Joined-ahead after (64 * piece) k 0 w) where
   -- the table with the row of k stored
   abbrev stored : List ℕ
   stored = set after (64 * piece + k) w

@@ -12,7 +12,7 @@ use lib.ListN.{length, getD, set}
 use Rattle.tables.specs.Words.{Bit}
 use Rattle.marks.specs.Bits.{dec-bit, bit-or}
 use Rattle.marks.specs.Rows.{Rows, rows-set, rows-same}
-use Rattle.marks.specs.Ahead.{Joined, joined-all}
+use Rattle.marks.specs.Ahead.{Joined-ahead, joined-all}
 
 -- the word w of row i after the state `via` was let in between: where a row after its own has its bit, its row is joined to that row
 pub record Let-in (before : List ℕ) (base via i w : ℕ) : Type 0 where
@@ -124,7 +124,7 @@ module _ {D P : ℕ → ℕ → Type 0} {n : ℕ} {before after : List ℕ} {bas
 
   -- one row more is made, of the word of the state's transitions
   pub join-row : {w : ℕ} → ((j : ℕ) → D k j → P k j × (j < n)) → ((j : ℕ) → D k j ↔ (Bit (getD before (base + k) 0) j ⊎ (j ≡ k)))
-      → Joined before base k 0 w → getD after (base + k) 0 ≡ w → ((i : ℕ) → k < i → getD after (base + i) 0 ≡ getD before (base + i) 0)
+      → Joined-ahead before base k 0 w → getD after (base + k) 0 ≡ w → ((i : ℕ) → k < i → getD after (base + i) 0 ≡ getD before (base + i) 0)
       → Partly D P n before base (k + 1) (k + 1) → Partly D P n after base k (k + 1)
   join-row {w} holds word joined made others partly = record {
     inside = λ i j f l b. elim (ℕ-discrete i k) [

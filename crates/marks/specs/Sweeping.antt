@@ -2,7 +2,7 @@
 -- Assumes nothing.
 use Prim.Native.Nat.{ℕ, zero, suc, _+_, _*_, _-_, _^_, _≤_, _<_}
 use native.Mathlib.Omega.{arith}
-use mathlib.Core.Bool.{Bool, true, false}
+use mathlib.Core.Bool.{Bool, true, false, false≢true}
 use mathlib.Core.Path.{_≡_, refl, sym, ap, _∙_, subst}
 use mathlib.Core.Logic.{_⊎_, inl, inr, ⊎-elim}
 use mathlib.Core.List.{List, _∷_, _++_}
@@ -200,10 +200,7 @@ module _ (reach runs stands tops : List ℕ) (k at : ℕ) (words : List ℕ) whe
 -- all are settled after a child's sweep where all were before, and the child is
 pub still-settled : {settled settled' child : Bool} {P Q : Type 0} → (P → settled' ≡ false) → (Q → (child ≡ true) × (settled' ≡ settled)) → P ⊎ Q
     → settled' ≡ true → (child ≡ true) × (settled ≡ true)
-still-settled lost kept came e = ⊎-elim (λ p. absurd (never (sym e ∙ lost p))) (λ q. (kept q .0, sym (kept q .1) ∙ e)) came
-  where
-    never : true ≡ false → ⊥
-    never e = let z : _≡_ {A = ℕ} 0 1 = cc in omega arith
+still-settled lost kept came e = ⊎-elim (λ p. absurd (false≢true (sym (lost p) ∙ e))) (λ q. (kept q .0, sym (kept q .1) ∙ e)) came
 
 -- there is room for the child piece whose run begins at `at`, in the tables and in the words, and its numbers are those of bits
 pub record Room (reach runs stands tops : List ℕ) (k at : ℕ) (words : List ℕ) : Type 0 where

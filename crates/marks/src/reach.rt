@@ -6,7 +6,7 @@ use crate::bits::with_bit;
 ghost use Prim.Native.Nat.{ℕ, _+_, _*_, _≤_, _<_};
 ghost use lib.ListN.{length, getD};
 ghost use Rattle.marks.specs.Rows.{Rows};
-ghost use Rattle.marks.specs.Ahead.{Joined};
+ghost use Rattle.marks.specs.Ahead.{Joined-ahead};
 ghost use Rattle.marks.specs.Reaching.{Let-in};
 ghost use Rattle.marks.specs.Reached.{Closed-rows};
 ghost use Rattle.marks.specs.Table.{Closed-all};
@@ -14,7 +14,7 @@ ghost use Rattle.marks.specs.Table.{Closed-all};
 // The row of a state: its word and its own bit, and the rows of the states ahead that its transitions lead to.
 fn join_ahead(reach: &[u64], base: usize, state: usize) -> u64
     requires { ⌜ (base + 64 ≤ length (now reach)) × (state < 64) ⌝ }
-    ensures { λ r. ⌜ Joined (now (reach .entry)) base state 0 r ⌝ }
+    ensures { λ r. ⌜ Joined-ahead (now (reach .entry)) base state 0 r ⌝ }
 {
     let at = base + state;
     let word = reach[at];

@@ -6,12 +6,12 @@ use native.Mathlib.Omega.{arith}
 use borrow.Author.Needs.{needs}
 use lib.Pow.{shr-le}
 use Rattle.marks.specs.LowestBit.{left-smaller}
-use Rattle.marks.specs.Ahead.{Joined, joined-none, joined-more, joined-below, joined-ended}
+use Rattle.marks.specs.Ahead.{Joined-ahead, joined-none, joined-more, joined-below, joined-ended}
 use Rattle.marks.proofs.reach.join_ahead.Statement.{statement}
 use Rattle.marks.proofs.reach.join_ahead.Tie as tie
 
 abbrev Inv-loop : tie.InvT-loop
-Inv-loop reach base state at word row₀ left₀ row left = (word < 2 ^ 64) × (left < 2 ^ 64) × Joined reach base state left row
+Inv-loop reach base state at word row₀ left₀ row left = (word < 2 ^ 64) × (left < 2 ^ 64) × Joined-ahead reach base state left row
 
 abbrev μ-loop : tie.MeasureT-loop
 μ-loop reach base state at word row₀ left₀ row left = left

@@ -1,20 +1,10 @@
 -- `marks::sweep::missed` meets its contract: the bit is set where the other's is not. Assumes nothing.
-use mathlib.Core.Path.{_≡_, refl, sym, subst}
-use mathlib.Core.Logic.{inl, inr}
-use Prim.Native.Nat.{ℕ, _^_}
-use lib.Bits.{bitOr}
+use mathlib.Core.Path.{sym, subst}
 use borrow.Author.Needs.{needs}
-use Rattle.tables.specs.Words.{Bit}
-use Rattle.marks.specs.Bits.{bit-with}
 use Rattle.marks.specs.Swept.{Missed}
+use Rattle.marks.specs.Passing.{missed-with}
 use Rattle.marks.proofs.sweep.missed.Statement.{statement}
 use Rattle.marks.proofs.sweep.missed.Tie as tie
-
-missed-set : (other i word r : ℕ) → r ≡ bitOr word (2 ^ i) → Missed other i word r
-missed-set other i word r e = record {
-  all = λ j b. subst (λ (w : ℕ). Bit w j) (sym e) (bit-with word i j .1 (inl b));
-  one = λ none. subst (λ (w : ℕ). Bit w i) (sym e) (bit-with word i i .1 (inr refl));
-}
 
 has-bit-requires : tie.Need-has-bit-requires
 has-bit-requires c κs = search needs
@@ -26,7 +16,9 @@ returns : tie.Need-returns
 returns c = record { all = λ j b. b; one = λ none. absurd (none (c .before .has-bit .ensures .holds (c .if1 .taken))) }
 
 returns-2 : tie.Need-returns-2
-returns-2 c = missed-set (c .before .before .before .args .other) (c .before .before .before .args .i) (c .before .before .before .args .word) _ (c .with-bit .ensures)
+returns-2 c =
+    let s = c .before .before .before .args in
+    subst (Missed (s .other) (s .i) (s .word)) (sym (c .with-bit .ensures)) (missed-with (s .other) (s .i) (s .word))
 
 pub missed-spec : {M : Type 1} → statement M
 missed-spec = tie.close (tie.spec has-bit-requires with-bit-requires returns returns-2)
