@@ -1,4 +1,5 @@
-// The desk's own trial: each line of standard input is an expression, and is tried on all 366 dates; what the first picks is listed.
+// The desk's own trial: each line of standard input is an expression, and is tried on all 366 dates; what the first
+// picks is listed.
 mod date;
 mod trial;
 

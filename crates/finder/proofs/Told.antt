@@ -12,6 +12,7 @@ use Rattle.finder.specs.declared.part.Part.the-variants.{At, Nothing}
 use Rattle.finder.proofs.part.Part.{the-type as part-type}
 
 -- nothing was found
-pub told-nothing : (L : List ℕ → Type 0) (text : List ℕ) (part : Part) → tagOf part-type part ≡ 1 → Answers L text (answer-of part) → Nothing-found L text
+pub told-nothing : (L : List ℕ → Type 0) (text : List ℕ) (part : Part) → tagOf part-type part ≡ 1
+    → Answers L text (answer-of part) → Nothing-found L text
 told-nothing L text (At start end) tag answers = absurd (omega arith)
 told-nothing L text Nothing tag answers = answers

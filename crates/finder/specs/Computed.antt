@@ -7,7 +7,26 @@ use mathlib.Core.Logic.{_↔_, Iff·trans, _⊎_, inl, inr, ⊎-elim}
 use mathlib.Core.List.{List, [], _∷_}
 use Rattle.finder.specs.Decide.{both}
 use Rattle.language.specs.Automaton.{State, start, accepting, left, right, States, Started, Stepped, After}
-use Rattle.language.specs.Nested.{Nested, leaf, catenation, union, star, below, whole, Models, Reading, at-leaf, catenation-left, catenation-right, union-left, union-right, star-inside, in-child, Move, Sweep}
+use Rattle.language.specs.Nested.{
+  Nested,
+  leaf,
+  catenation,
+  union,
+  star,
+  below,
+  whole,
+  Models,
+  Reading,
+  at-leaf,
+  catenation-left,
+  catenation-right,
+  union-left,
+  union-right,
+  star-inside,
+  in-child,
+  Move,
+  Sweep,
+}
 use Rattle.language.specs.Walk.{Entered, First, Second, Walked, walked-keeps, walked-more}
 use Rattle.language.specs.TwoWalks.{two-walks-settle}
 use Rattle.language.specs.Visits.{sweep-walked, sweep-within}
@@ -59,7 +78,8 @@ walked (catenation x y) f accepting = f accepting || second (walked y) (first (w
 walked (union x y) f start = f start
 walked (union x y) f (left q) = first (walked x) f q
 walked (union x y) f (right q) = second (walked y) (f start) f q
-walked (union x y) f accepting = f accepting || (first (walked x) f accepting || second (walked y) (f start) f accepting)
+walked (union x y) f accepting =
+    f accepting || (first (walked x) f accepting || second (walked y) (f start) f accepting)
 walked (star x) f start = f start
 walked (star x) f (left q) = entered (first (walked x) f) (first (walked x) f accepting) q
 walked (star x) f (right q) = f (right q)
@@ -70,7 +90,8 @@ walked (below x) f (right q) = f (right q)
 walked (below x) f accepting = f accepting || first (walked x) f accepting
 
 -- the start added to a test is the start added to the set that it decides
-entered-exactly : {f : Test} {X : States} {p : Bool} {P : Type 0} → Decides f X → (p ≡ true) ↔ P → Decides (entered f p) (Entered X P)
+entered-exactly : {f : Test} {X : States} {p : Bool} {P : Type 0} → Decides f X → (p ≡ true) ↔ P
+    → Decides (entered f p) (Entered X P)
 entered-exactly {f = f} {p = p} d e start = or-exactly (f start) p (d start) e
 entered-exactly d e accepting = d accepting
 entered-exactly d e (left q) = d (left q)
@@ -84,7 +105,8 @@ Follows walk Walk = (f : Test) (X : States) → Decides f X → Decides (walk f)
 first-exactly : {walk : Test → Test} {Walk : States → States} → Follows walk Walk → Follows (first walk) (First Walk)
 first-exactly follows f X d = follows _ _ (entered-exactly (λ p. d (left p)) (d start))
 
-second-exactly : {walk : Test → Test} {Walk : States → States} → Follows walk Walk → {p : Bool} {P : Type 0} → (p ≡ true) ↔ P → Follows (second walk p) (Second Walk P)
+second-exactly : {walk : Test → Test} {Walk : States → States} → Follows walk Walk → {p : Bool} {P : Type 0}
+    → (p ≡ true) ↔ P → Follows (second walk p) (Second Walk P)
 second-exactly follows e f X d = follows _ _ (entered-exactly (λ p. d (right p)) e)
 
 -- a walk over tests decides what a walk over sets marks
@@ -93,20 +115,29 @@ unfolding walked
 walked-exactly (leaf a) f X d q = d q
 walked-exactly (catenation x y) f X d start = d start
 walked-exactly (catenation x y) f X d (left q) = first-exactly (walked-exactly x) f X d q
-walked-exactly (catenation x y) f X d (right q) = second-exactly (walked-exactly y) (first-exactly (walked-exactly x) f X d accepting) f X d q
-walked-exactly (catenation x y) f X d accepting = or-exactly _ _ (d accepting) (second-exactly (walked-exactly y) (first-exactly (walked-exactly x) f X d accepting) f X d accepting)
+walked-exactly (catenation x y) f X d (right q) =
+    second-exactly (walked-exactly y) (first-exactly (walked-exactly x) f X d accepting) f X d q
+walked-exactly (catenation x y) f X d accepting =
+    or-exactly _ _ (d accepting) (second-exactly (walked-exactly y) (first-exactly (walked-exactly x) f X d accepting) f
+    X d accepting)
 walked-exactly (union x y) f X d start = d start
 walked-exactly (union x y) f X d (left q) = first-exactly (walked-exactly x) f X d q
 walked-exactly (union x y) f X d (right q) = second-exactly (walked-exactly y) (d start) f X d q
-walked-exactly (union x y) f X d accepting = or-exactly _ _ (d accepting) (or-exactly _ _ (first-exactly (walked-exactly x) f X d accepting) (second-exactly (walked-exactly y) (d start) f X d accepting))
+walked-exactly (union x y) f X d accepting =
+    or-exactly _ _ (d accepting)
+    (or-exactly _ _ (first-exactly (walked-exactly x) f X d accepting)
+    (second-exactly (walked-exactly y) (d start) f X d accepting))
 walked-exactly (star x) f X d start = d start
-walked-exactly (star x) f X d (left q) = entered-exactly (first-exactly (walked-exactly x) f X d) (first-exactly (walked-exactly x) f X d accepting) q
+walked-exactly (star x) f X d (left q) =
+    entered-exactly (first-exactly (walked-exactly x) f X d) (first-exactly (walked-exactly x) f X d accepting) q
 walked-exactly (star x) f X d (right q) = d (right q)
-walked-exactly (star x) f X d accepting = or-exactly _ _ (d accepting) (or-exactly _ _ (d start) (first-exactly (walked-exactly x) f X d accepting))
+walked-exactly (star x) f X d accepting =
+    or-exactly _ _ (d accepting) (or-exactly _ _ (d start) (first-exactly (walked-exactly x) f X d accepting))
 walked-exactly (below x) f X d start = d start
 walked-exactly (below x) f X d (left q) = first-exactly (walked-exactly x) f X d q
 walked-exactly (below x) f X d (right q) = d (right q)
-walked-exactly (below x) f X d accepting = or-exactly _ _ (d accepting) (first-exactly (walked-exactly x) f X d accepting)
+walked-exactly (below x) f X d accepting =
+    or-exactly _ _ (d accepting) (first-exactly (walked-exactly x) f X d accepting)
 
 module _ {A : Type 0} (takes : A → ℕ → Bool) (b : ℕ) where
   -- what passes after moving along the byte b
@@ -132,9 +163,11 @@ module _ {A : Type 0} (takes : A → ℕ → Bool) (b : ℕ) where
   moved (below x) f (left q) = moved x (λ p. f (left p)) q
   moved (below x) f (right q) = false
 
-module _ {A : Type 0} (Takes : A → ℕ → Type 0) (takes : A → ℕ → Bool) (exactly : (a : A) (b : ℕ) → (takes a b ≡ true) ↔ Takes a b) (b : ℕ) where
+module _ {A : Type 0} (Takes : A → ℕ → Type 0) (takes : A → ℕ → Bool) (exactly : (a : A) (b : ℕ)
+    → (takes a b ≡ true) ↔ Takes a b) (b : ℕ) where
   -- a reading transition from a state of the set leads to one that passes
-  moved-passes : {x : Nested A} {p q : State} → Reading Takes b x p q → (f : Test) → f p ≡ true → moved takes b x f q ≡ true
+  moved-passes : {x : Nested A} {p q : State} → Reading Takes b x p q → (f : Test) → f p ≡ true
+      → moved takes b x f q ≡ true
   unfolding moved
   moved-passes (at-leaf {a = a} h) f e = rw (e, exactly a b .1 h)
   moved-passes (catenation-left r) f e = moved-passes r (λ p. f (left p)) e
@@ -145,20 +178,24 @@ module _ {A : Type 0} (Takes : A → ℕ → Type 0) (takes : A → ℕ → Bool
   moved-passes (in-child r) f e = moved-passes r (λ p. f (left p)) e
 
   -- a move in a part is a move in the whole
-  wider : {x z : Nested A} {X : States} {q : State} (into : State → State) → ((p : State) → Reading Takes b x p q → Reading Takes b z (into p) (into q)) → Move Takes b x (λ p. X (into p)) q → Move Takes b z X (into q)
+  wider : {x z : Nested A} {X : States} {q : State} (into : State → State)
+      → ((p : State) → Reading Takes b x p q → Reading Takes b z (into p) (into q)) → Move Takes b x (λ p. X (into p)) q
+      → Move Takes b z X (into q)
   wider into reading m = (into (m .0), m .1, reading (m .0) (m .2))
 
   -- what passes is reached by a reading transition from what passed
   moved-found : (x : Nested A) (f : Test) (q : State) → moved takes b x f q ≡ true → Move Takes b x (Passing f) q
   unfolding moved
   moved-found (leaf a) f start e = absurd (false≢true e)
-  moved-found (leaf a) f accepting e = let (p, q) = both (f start) (takes a b) e in (start, p, at-leaf (exactly a b .0 q))
+  moved-found (leaf a) f accepting e = let (p, q) =
+      both (f start) (takes a b) e in (start, p, at-leaf (exactly a b .0 q))
   moved-found (leaf a) f (left q) e = absurd (false≢true e)
   moved-found (leaf a) f (right q) e = absurd (false≢true e)
   moved-found (catenation x y) f start e = absurd (false≢true e)
   moved-found (catenation x y) f accepting e = absurd (false≢true e)
   moved-found (catenation x y) f (left q) e = wider left (λ p. catenation-left) (moved-found x (λ p. f (left p)) q e)
-  moved-found (catenation x y) f (right q) e = wider right (λ p. catenation-right) (moved-found y (λ p. f (right p)) q e)
+  moved-found (catenation x y) f (right q) e =
+      wider right (λ p. catenation-right) (moved-found y (λ p. f (right p)) q e)
   moved-found (union x y) f start e = absurd (false≢true e)
   moved-found (union x y) f accepting e = absurd (false≢true e)
   moved-found (union x y) f (left q) e = wider left (λ p. union-left) (moved-found x (λ p. f (left p)) q e)
@@ -180,12 +217,15 @@ module _ {A : Type 0} (Takes : A → ℕ → Type 0) (takes : A → ℕ → Bool
 walks-sweep : {A : Type 0} (x : Nested A) (X : States) (q : State) → Walked x (Walked x X) q ↔ Sweep x (Sweep x X) q
 walks-sweep x X q = (
   λ m. sweep-walked x (Sweep x X) q (walked-more x (Walked x X) (Sweep x X) (sweep-walked x X) q m),
-  sweep-within x (Sweep x X) _ (two-walks-settle x X) (sweep-within x X _ (two-walks-settle x X) (λ p m. walked-keeps x _ p (walked-keeps x X p m))) q,
+  sweep-within x (Sweep x X) _ (two-walks-settle x X)
+      (sweep-within x X _ (two-walks-settle x X) (λ p m. walked-keeps x _ p (walked-keeps x X p m))) q,
 )
 
 -- two walks over tests decide two sweeps
-swept-exactly : {A : Type 0} (x : Nested A) (f : Test) (X : States) → Decides f X → Decides (walked x (walked x f)) (Sweep x (Sweep x X))
-swept-exactly x f X d q = Iff·trans (walked-exactly x (walked x f) (Walked x X) (walked-exactly x f X d) q) (walks-sweep x X q)
+swept-exactly : {A : Type 0} (x : Nested A) (f : Test) (X : States) → Decides f X
+    → Decides (walked x (walked x f)) (Sweep x (Sweep x X))
+swept-exactly x f X d q = Iff·trans (walked-exactly x (walked x f) (Walked x X) (walked-exactly x f X d) q)
+    (walks-sweep x X q)
 
 -- only the start
 abbrev pub only-start : Test
@@ -202,7 +242,8 @@ only-start-exactly (left q) = (λ e. absurd (false≢true e), ap only-start)
 only-start-exactly (right q) = (λ e. absurd (false≢true e), ap only-start)
 
 -- a test that decides what models a set models it too
-decided-models : {A : Type 0} (x : Nested A) (X : States) {f : Test} {marks : States} → Decides f marks → Models x marks X → Models x (Passing f) X
+decided-models : {A : Type 0} (x : Nested A) (X : States) {f : Test} {marks : States} → Decides f marks
+    → Models x marks X → Models x (Passing f) X
 decided-models x X d models q has = Iff·trans (d q) (models q has)
 
 -- the marks to start with, as a test
@@ -219,15 +260,20 @@ module _ {A : Type 0} (takes : A → ℕ → Bool) (x : Nested A) where
   after-test [] f = f
   after-test (b ∷ w) f = after-test w (step-test b f)
 
-module _ {A : Type 0} (Takes : A → ℕ → Type 0) (takes : A → ℕ → Bool) (exactly : (a : A) (b : ℕ) → (takes a b ≡ true) ↔ Takes a b) (x : Nested A) where
+module _ {A : Type 0} (Takes : A → ℕ → Type 0) (takes : A → ℕ → Bool) (exactly : (a : A) (b : ℕ)
+    → (takes a b ≡ true) ↔ Takes a b) (x : Nested A) where
   -- byte by byte the test models the marks of the plain simulation
-  after-models : (w : List ℕ) (f : Test) (X : States) → Models x (Passing f) X → Models x (Passing (after-test takes x w f)) (After Takes (whole x) w X)
+  after-models : (w : List ℕ) (f : Test) (X : States) → Models x (Passing f) X
+      → Models x (Passing (after-test takes x w f)) (After Takes (whole x) w X)
   after-models [] f X models = models
   after-models (b ∷ w) f X models =
       after-models w (step-test takes x b f) (Stepped Takes (whole x) b X)
-      (decided-models x (Stepped Takes (whole x) b X) (swept-exactly x _ _ (moved-exactly Takes takes exactly b x f)) (sweeps-step Takes b x (Passing f) X models))
+      (decided-models x (Stepped Takes (whole x) b X) (swept-exactly x _ _ (moved-exactly Takes takes exactly b x f))
+      (sweeps-step Takes b x (Passing f) X models))
 
   -- the computed test is that of the plain simulation
-  pub computed-models : (w : List ℕ) → Models x (Passing (after-test takes x w (start-test x))) (After Takes (whole x) w (Started (whole x)))
+  pub computed-models : (w : List ℕ)
+      → Models x (Passing (after-test takes x w (start-test x))) (After Takes (whole x) w (Started (whole x)))
   computed-models w =
-      after-models w (start-test x) (Started (whole x)) (decided-models x (Started (whole x)) (swept-exactly x only-start _ only-start-exactly) (sweeps-start x))
+      after-models w (start-test x) (Started (whole x))
+      (decided-models x (Started (whole x)) (swept-exactly x only-start _ only-start-exactly) (sweeps-start x))

@@ -11,6 +11,7 @@ use lib.Dec.{eqb}
 use borrow.Author.Tests.{eqb-true, eq-eqb}
 use Rattle.language.specs.Tree.{Tree, leaf, catenation, union, star}
 use Rattle.language.specs.Language.{Repeated, none, more, Language, Is, Matches}
+use Rattle.tree.specs.Leaf.{Leaf}
 
 -- some way to split the text into two passes the test
 unfoldable pub any-split : (List ℕ → List ℕ → Bool) → List ℕ → Bool
@@ -48,7 +49,8 @@ pub record Split (test : List ℕ → List ℕ → Bool) (w : List ℕ) : Type 0
   pub passes : test head tail ≡ true
 
 -- a split of what follows a byte is a split with that byte in front
-split-later : {test : List ℕ → List ℕ → Bool} {b : ℕ} {w : List ℕ} → Split (λ u v. test (b ∷ u) v) w → Split test (b ∷ w)
+split-later : {test : List ℕ → List ℕ → Bool} {b : ℕ} {w : List ℕ} → Split (λ u v. test (b ∷ u) v) w
+    → Split test (b ∷ w)
 split-later {b = b} r =
     record { head = b ∷ r .head; tail = r .tail; joined = ap (λ (l : List ℕ). b ∷ l) (r .joined); passes = r .passes }
 
@@ -70,7 +72,8 @@ split-passes test [] (b ∷ v) e = rw e
 split-passes test (b ∷ u) v e = rw (split-passes (λ x y. test (b ∷ x) y) u v e) (or-true (test [] (b ∷ (u ++ v))))
 
 -- what passes the repeated test is made of texts that pass it
-repeat-found : (test : List ℕ → Bool) (n : ℕ) (w : List ℕ) → any-repeat test n w ≡ true → Repeated (λ u. test u ≡ true) w
+repeat-found : (test : List ℕ → Bool) (n : ℕ) (w : List ℕ) → any-repeat test n w ≡ true
+    → Repeated (λ u. test u ≡ true) w
 unfolding any-repeat
 repeat-found test zero [] e = none
 repeat-found test zero (b ∷ w) e = absurd (false≢true e)
@@ -88,7 +91,8 @@ repeat-empty test zero = refl
 repeat-empty test (suc n) = refl
 
 -- one more text in front: an empty one changes nothing, another has a first byte
-repeat-more : (test : List ℕ → Bool) (u v : List ℕ) (n : ℕ) → test u ≡ true → ((m : ℕ) → length v ≤ m → any-repeat test m v ≡ true) → length (u ++ v) ≤ n → any-repeat test n (u ++ v) ≡ true
+repeat-more : (test : List ℕ → Bool) (u v : List ℕ) (n : ℕ) → test u ≡ true
+    → ((m : ℕ) → length v ≤ m → any-repeat test m v ≡ true) → length (u ++ v) ≤ n → any-repeat test n (u ++ v) ≡ true
 unfolding any-repeat
 repeat-more test [] v n p others h = others n h
 repeat-more test (b ∷ u) v zero p others h = absurd (omega arith)
@@ -96,7 +100,8 @@ repeat-more test (b ∷ u) v (suc n) p others h =
     split-passes (λ x y. test (b ∷ x) && any-repeat test n y) u v (rw (p, others n (omega (arith, length-append u v))))
 
 -- what is made of texts that pass the test passes the repeated test
-repeat-passes : (test : List ℕ → Bool) {w : List ℕ} → Repeated (λ u. test u ≡ true) w → (n : ℕ) → length w ≤ n → any-repeat test n w ≡ true
+repeat-passes : (test : List ℕ → Bool) {w : List ℕ} → Repeated (λ u. test u ≡ true) w → (n : ℕ) → length w ≤ n
+    → any-repeat test n w ≡ true
 repeat-passes test none = λ n h. repeat-empty test n
 repeat-passes test (more {u = u} {v = v} p r) = λ n h. repeat-more test u v n p (repeat-passes test r) h
 
@@ -113,7 +118,8 @@ module _ {A : Type 0} (takes : A → ℕ → Bool) where
   matched (union s t) w = matched s w || matched t w
   matched (star s) w = any-repeat (matched s) (length w) w
 
-module _ {A : Type 0} (Takes : A → ℕ → Type 0) (takes : A → ℕ → Bool) (exactly : (a : A) (b : ℕ) → (takes a b ≡ true) ↔ Takes a b) where
+module _ {A : Type 0} (Takes : A → ℕ → Type 0) (takes : A → ℕ → Bool) (exactly : (a : A) (b : ℕ)
+    → (takes a b ≡ true) ↔ Takes a b) where
   -- a text of one byte that the leaf takes lies in its language
   leaf-found : (a : A) (w : List ℕ) → one-byte (takes a) w ≡ true → Language Takes (leaf a) w
   unfolding one-byte
@@ -130,7 +136,8 @@ module _ {A : Type 0} (Takes : A → ℕ → Type 0) (takes : A → ℕ → Bool
       let (p, q) = both (matched takes s (r .head)) (matched takes t (r .tail)) (r .passes) in
       (r .head, r .tail, r .joined, matched-found s (r .head) p, matched-found t (r .tail) q)
   matched-found (union s t) w e =
-      ⊎-elim (λ p. inl (matched-found s w p)) (λ p. inr (matched-found t w p)) (either (matched takes s w) (matched takes t w) e)
+      ⊎-elim (λ p. inl (matched-found s w p)) (λ p. inr (matched-found t w p))
+      (either (matched takes s w) (matched takes t w) e)
   matched-found (star s) w e = repeated-more (matched-found s) (repeat-found (matched takes s) (length w) w e)
 
   -- a text of the language passes
@@ -138,25 +145,27 @@ module _ {A : Type 0} (Takes : A → ℕ → Type 0) (takes : A → ℕ → Bool
   unfolding matched one-byte
   matched-passes (leaf a) w (b, e, h) = rw e (exactly a b .1 h)
   matched-passes (catenation s t) w (u, v, e, p, q) =
-      rw e (split-passes (λ x y. matched takes s x && matched takes t y) u v (rw (matched-passes s u p, matched-passes t v q)))
+      rw e (split-passes (λ x y. matched takes s x && matched takes t y) u v
+      (rw (matched-passes s u p, matched-passes t v q)))
   matched-passes (union s t) w (inl p) = rw (matched-passes s w p)
   matched-passes (union s t) w (inr q) = rw (matched-passes t w q) (or-true (matched takes s w))
-  matched-passes (star s) w r = repeat-passes (matched takes s) (repeated-more (matched-passes s) r) (length w) (omega arith)
+  matched-passes (star s) w r = repeat-passes (matched takes s) (repeated-more (matched-passes s) r) (length w)
+      (omega arith)
 
   -- the test says exactly whether the text lies in the language
   pub matched-exactly : (t : Tree A) (w : List ℕ) → (matched takes t w ≡ true) ↔ Language Takes t w
   matched-exactly t w = (matched-found t w, matched-passes t w)
 
 -- whether a text lies in the language of an expression's tree
-abbrev pub matches : Tree ℕ → List ℕ → Bool
+abbrev pub matches : Tree Leaf → List ℕ → Bool
 matches = matched eqb
 
 -- it says exactly that
-pub matches-exactly : (t : Tree ℕ) (w : List ℕ) → (matches t w ≡ true) ↔ Matches t w
+pub matches-exactly : (t : Tree Leaf) (w : List ℕ) → (matches t w ≡ true) ↔ Matches t w
 matches-exactly = matched-exactly Is eqb (λ a b. (eqb-true a b, eq-eqb a b))
 
 -- an answer that is yes exactly when the text lies in the language is this one
-pub matches-answer : (test : Bool) (t : Tree ℕ) (w : List ℕ) → (test ≡ true) ↔ Matches t w → test ≡ matches t w
+pub matches-answer : (test : Bool) (t : Tree Leaf) (w : List ℕ) → (test ≡ true) ↔ Matches t w → test ≡ matches t w
 matches-answer true t w says = sym (matches-exactly t w .1 (says .0 refl))
 matches-answer false t w says = go (matches t w) refl
   where

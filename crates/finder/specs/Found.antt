@@ -1,4 +1,5 @@
--- What search answers: the part of the text that begins earliest and then ends latest among those in the language, or nothing.
+-- What search answers: the part of the text that begins earliest and then ends latest among those in the language, or
+-- nothing.
 -- Assumes nothing.
 use Prim.Native.Nat.{ℕ, _+_, _-_, _≤_, _<_}
 use mathlib.Core.Path.{_≡_, refl, sym, ap, _∙_}
@@ -27,13 +28,18 @@ pub part-length : (s e : ℕ) (text : List ℕ) → e ≤ length text → length
 part-length s e text h = length-slice s e text h
 
 -- a part that ends one byte later has that byte at its end
-pub part-next : (s e : ℕ) (text : List ℕ) → s ≤ e → e < length text → part s (e + 1) text ≡ part s e text ++ (getD text e 0 ∷ [])
-part-next s e text h k = rw (add-one, take-suc text e 0) (drop-append-le s (take e text) (getD text e 0 ∷ []) (rw (length-take-le e text (omega arith)) h))
+pub part-next : (s e : ℕ) (text : List ℕ) → s ≤ e → e < length text → part s (e + 1) text ≡ part s e text
+    ++ (getD text e 0 ∷ [])
+part-next s e text h k =
+    rw (add-one, take-suc text e 0)
+    (drop-append-le s (take e text) (getD text e 0 ∷ []) (rw (length-take-le e text (omega arith)) h))
 
 -- a part is one that ends earlier, followed by the part from there on
-pub part-join : (s e j : ℕ) (text : List ℕ) → s ≤ e → e ≤ j → e ≤ length text → part s j text ≡ part s e text ++ part e j text
+pub part-join : (s e j : ℕ) (text : List ℕ) → s ≤ e → e ≤ j → e ≤ length text → part s j text ≡ part s e text
+    ++ part e j text
 part-join s e j text h k l =
-    let split : take j text ≡ take e text ++ part e j text = sym (rw (take-take e j text k) at (take-append-drop e (take j text))) in
+    let split : take j text ≡ take e text ++ part e j text =
+    sym (rw (take-take e j text k) at (take-append-drop e (take j text))) in
     ap (drop s) split ∙ drop-append-le s (take e text) (part e j text) (rw (length-take-le e text l) h)
 
 module _ (L : List ℕ → Type 0) (text : List ℕ) where

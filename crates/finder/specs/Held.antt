@@ -12,12 +12,13 @@ use Rattle.language.specs.Tree.{Tree}
 use Rattle.language.specs.Language.{Is}
 use Rattle.language.specs.Automaton.{State, start, accepting, left, right, States, Started, After}
 use Rattle.language.specs.Nested.{Nested, leaf, catenation, union, star, below, whole, Has, Models}
+use Rattle.tree.specs.Leaf.{Leaf}
 use Rattle.tree.specs.Pieces.{cut-up, stated}
 use Rattle.tables.specs.Words.{Bit, width, run, Marked, Holds, Clean-below, Clean}
 use Rattle.finder.specs.Computed.{Test, Passing, start-test, after-test, computed-models}
 
 -- the words hold the marks X of the tree's automaton, cut up, and no bit past the last state is set
-pub record Held (t : Tree ℕ) (words : List ℕ) (X : States) : Type 0 where
+pub record Held (t : Tree Leaf) (words : List ℕ) (X : States) : Type 0 where
   pub clean : Clean (cut-up t) words
   pub models : Models (cut-up t) (Holds (cut-up t) words) X
 
@@ -71,15 +72,18 @@ unfoldable pub agrees : {A : Type 0} → Nested A → ℕ → ℕ → List ℕ �
 agrees (leaf a) w i ws f = ends w i (i + 1) f
 agrees (catenation x y) w i ws f =
     also (ends w i (i + (1 + width x + width y)) f)
-    (also (agrees x w (i + 1) ws (λ p. f (left p))) (agrees y w (i + (1 + width x)) (drop (run x) ws) (λ p. f (right p))))
+    (also (agrees x w (i + 1) ws (λ p. f (left p)))
+    (agrees y w (i + (1 + width x)) (drop (run x) ws) (λ p. f (right p))))
 agrees (union x y) w i ws f =
     also (ends w i (i + (1 + width x + width y)) f)
-    (also (agrees x w (i + 1) ws (λ p. f (left p))) (agrees y w (i + (1 + width x)) (drop (run x) ws) (λ p. f (right p))))
+    (also (agrees x w (i + 1) ws (λ p. f (left p)))
+    (agrees y w (i + (1 + width x)) (drop (run x) ws) (λ p. f (right p))))
 agrees (star x) w i ws f = also (ends w i (i + (1 + width x)) f) (agrees x w (i + 1) ws (λ p. f (left p)))
 agrees (below x) w i ws f = also (ends w i (i + 1) f) (agrees x (getD ws 0 0) 0 (drop 1 ws) (λ p. f (left p)))
 
 -- where the bits say what the test says, the words mark what passes
-agrees-exactly : {A : Type 0} (x : Nested A) (w i : ℕ) (ws : List ℕ) (f : Test) → agrees x w i ws f ≡ true → (q : State) → Has x q → Marked x w i ws q ↔ Passing f q
+agrees-exactly : {A : Type 0} (x : Nested A) (w i : ℕ) (ws : List ℕ) (f : Test) → agrees x w i ws f ≡ true → (q : State)
+    → Has x q → Marked x w i ws q ↔ Passing f q
 unfolding agrees
 agrees-exactly (leaf a) w i ws f e start has = at-start w i (i + 1) f e
 agrees-exactly (leaf a) w i ws f e accepting has = at-accepting w i (i + 1) f e
@@ -87,19 +91,27 @@ agrees-exactly (leaf a) w i ws f e (left q) has = absurd has
 agrees-exactly (leaf a) w i ws f e (right q) has = absurd has
 agrees-exactly (catenation x y) w i ws f e start has = at-start w i _ f (also-first _ _ e)
 agrees-exactly (catenation x y) w i ws f e accepting has = at-accepting w i _ f (also-first _ _ e)
-agrees-exactly (catenation x y) w i ws f e (left q) has = agrees-exactly x w (i + 1) ws (λ p. f (left p)) (also-first _ _ (also-second _ _ e)) q has
-agrees-exactly (catenation x y) w i ws f e (right q) has = agrees-exactly y w (i + (1 + width x)) (drop (run x) ws) (λ p. f (right p)) (also-second _ _ (also-second _ _ e)) q has
+agrees-exactly (catenation x y) w i ws f e (left q) has =
+    agrees-exactly x w (i + 1) ws (λ p. f (left p)) (also-first _ _ (also-second _ _ e)) q has
+agrees-exactly (catenation x y) w i ws f e (right q) has =
+    agrees-exactly y w (i + (1 + width x)) (drop (run x) ws) (λ p. f (right p)) (also-second _ _ (also-second _ _ e)) q
+    has
 agrees-exactly (union x y) w i ws f e start has = at-start w i _ f (also-first _ _ e)
 agrees-exactly (union x y) w i ws f e accepting has = at-accepting w i _ f (also-first _ _ e)
-agrees-exactly (union x y) w i ws f e (left q) has = agrees-exactly x w (i + 1) ws (λ p. f (left p)) (also-first _ _ (also-second _ _ e)) q has
-agrees-exactly (union x y) w i ws f e (right q) has = agrees-exactly y w (i + (1 + width x)) (drop (run x) ws) (λ p. f (right p)) (also-second _ _ (also-second _ _ e)) q has
+agrees-exactly (union x y) w i ws f e (left q) has =
+    agrees-exactly x w (i + 1) ws (λ p. f (left p)) (also-first _ _ (also-second _ _ e)) q has
+agrees-exactly (union x y) w i ws f e (right q) has =
+    agrees-exactly y w (i + (1 + width x)) (drop (run x) ws) (λ p. f (right p)) (also-second _ _ (also-second _ _ e)) q
+    has
 agrees-exactly (star x) w i ws f e start has = at-start w i _ f (also-first _ _ e)
 agrees-exactly (star x) w i ws f e accepting has = at-accepting w i _ f (also-first _ _ e)
-agrees-exactly (star x) w i ws f e (left q) has = agrees-exactly x w (i + 1) ws (λ p. f (left p)) (also-second _ _ e) q has
+agrees-exactly (star x) w i ws f e (left q) has = agrees-exactly x w (i + 1) ws (λ p. f (left p)) (also-second _ _ e) q
+    has
 agrees-exactly (star x) w i ws f e (right q) has = absurd has
 agrees-exactly (below x) w i ws f e start has = at-start w i _ f (also-first _ _ e)
 agrees-exactly (below x) w i ws f e accepting has = at-accepting w i _ f (also-first _ _ e)
-agrees-exactly (below x) w i ws f e (left q) has = agrees-exactly x (getD ws 0 0) 0 (drop 1 ws) (λ p. f (left p)) (also-second _ _ e) q has
+agrees-exactly (below x) w i ws f e (left q) has =
+    agrees-exactly x (getD ws 0 0) 0 (drop 1 ws) (λ p. f (left p)) (also-second _ _ e) q has
 agrees-exactly (below x) w i ws f e (right q) has = absurd has
 
 -- no bit past the last state is set in the words of the child pieces below x
@@ -114,25 +126,29 @@ tidy (below x) ws = also (ltb (getD ws 0 0) (2 ^ width x)) (tidy x (drop 1 ws))
 tidy-clean : {A : Type 0} (x : Nested A) (ws : List ℕ) → tidy x ws ≡ true → Clean-below x ws
 unfolding tidy
 tidy-clean (leaf a) ws e = tt
-tidy-clean (catenation x y) ws e = (tidy-clean x ws (also-first _ _ e), tidy-clean y (drop (run x) ws) (also-second _ _ e))
+tidy-clean (catenation x y) ws e =
+    (tidy-clean x ws (also-first _ _ e), tidy-clean y (drop (run x) ws) (also-second _ _ e))
 tidy-clean (union x y) ws e = (tidy-clean x ws (also-first _ _ e), tidy-clean y (drop (run x) ws) (also-second _ _ e))
 tidy-clean (star x) ws e = tidy-clean x ws e
-tidy-clean (below x) ws e = (ltb-true (getD ws 0 0) (2 ^ width x) (also-first _ _ e), tidy-clean x (drop 1 ws) (also-second _ _ e))
+tidy-clean (below x) ws e =
+    (ltb-true (getD ws 0 0) (2 ^ width x) (also-first _ _ e), tidy-clean x (drop 1 ws) (also-second _ _ e))
 
 -- the words hold the marks of a tree after a text
-unfoldable pub holds-after : Tree ℕ → List ℕ → List ℕ → Bool
+unfoldable pub holds-after : Tree Leaf → List ℕ → List ℕ → Bool
 holds-after t text words =
-    let x : Nested ℕ = cut-up t in
+    let x : Nested Leaf = cut-up t in
     also (tidy (below x) words) (agrees x (getD words 0 0) 0 (drop 1 words) (after-test eqb x text (start-test x)))
 
 -- they do where the test passes
-pub held-after : (t : Tree ℕ) (text words : List ℕ) → holds-after t text words ≡ true → Held t words (After Is t text (Started t))
+pub held-after : (t : Tree Leaf) (text words : List ℕ) → holds-after t text words ≡ true
+    → Held t words (After Is t text (Started t))
 unfolding holds-after
 held-after t text words e =
-    let x : Nested ℕ = cut-up t in
+    let x : Nested Leaf = cut-up t in
     let computed = computed-models Is eqb (λ a b. (eqb-true a b, eq-eqb a b)) x text in
     let same : whole x ≡ t = stated t .same-tree in
     record {
       clean = tidy-clean (below x) words (also-first _ _ e);
-      models = λ q has. Iff·trans (agrees-exactly x (getD words 0 0) 0 (drop 1 words) _ (also-second _ _ e) q has) (rw same at (computed q has));
+      models = λ q has. Iff·trans (agrees-exactly x (getD words 0 0) 0 (drop 1 words) _ (also-second _ _ e) q has)
+          (rw same at (computed q has));
     }

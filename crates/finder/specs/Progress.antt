@@ -53,7 +53,11 @@ module _ (L : List ℕ → Type 0) (text : List ℕ) where
   -- one place further where no part ends
   none-ends-next : (s i e : ℕ) → None-ends s i e → Says false s (e + 1) → None-ends s i (e + 1)
   none-ends-next s i e so-far says j h k p =
-      elim (decLt e j) [ yes l ↦ let at : j ≡ e + 1 = omega arith in false≢true (says .1 (rw at at p)) | no l ↦ so-far j h (omega arith) p ]
+      elim (decLt e j) [
+        | yes l ↦ let at : j ≡ e + 1 = omega arith in false≢true (says .1 (rw at at p))
+        | no l
+            ↦ so-far j h (omega arith) p
+      ]
 
   -- a part that ends at e ends latest so far
   hit : (s e : ℕ) → Says true s e → Latest s e e
@@ -65,17 +69,28 @@ module _ (L : List ℕ → Type 0) (text : List ℕ) where
   so-far-first false s says = λ j h k p. let at : j ≡ s = omega arith in false≢true (says .1 (rw at at p))
 
   -- one place further
-  pub so-far-next : (test : Bool) (best : Option ℕ) (s e : ℕ) → So-far s e best → Says test s (e + 1) → So-far s (e + 1) (better test (e + 1) best)
+  pub so-far-next : (test : Bool) (best : Option ℕ) (s e : ℕ) → So-far s e best → Says test s (e + 1)
+      → So-far s (e + 1) (better test (e + 1) best)
   so-far-next true best s e far says = hit s (e + 1) says
   so-far-next false none s e far says = none-ends-next s s e far says
   so-far-next false (some best) s e far says =
-      record { reached = omega (arith, far .reached); here = far .here; latest = none-ends-next s (best + 1) e (far .latest) says }
+      record {
+        reached = omega (arith, far .reached);
+        here = far .here;
+        latest =
+            none-ends-next s (best + 1) e (far .latest) says;
+      }
 
   -- where no part ends any later, the latest end so far is the latest of all
   pub so-far-settled : (best : Option ℕ) (s e : ℕ) → So-far s e best → None-after s e → Settled s best
-  so-far-settled none s e far after = λ j p. elim (decLt e j) [ yes l ↦ after j l p | no l ↦ far j (p .ordered) (omega arith) p ]
+  so-far-settled none s e far after =
+      λ j p. elim (decLt e j) [ yes l ↦ after j l p | no l ↦ far j (p .ordered) (omega arith) p ]
   so-far-settled (some best) s e far after =
-      record { here = far .here; latest = λ j h p. elim (decLt e j) [ yes l ↦ after j l p | no l ↦ far .latest j (omega arith) (omega arith) p ] }
+      record {
+        here = far .here;
+        latest =
+            λ j h p. elim (decLt e j) [ yes l ↦ after j l p | no l ↦ far .latest j (omega arith) (omega arith) p ];
+      }
 
   -- no part ends after the text's end
   pub none-past-end : (s : ℕ) → None-after s (length text)
@@ -91,7 +106,8 @@ module _ (L : List ℕ → Type 0) (text : List ℕ) where
 
   -- where none begins at s either, none begins before the next place
   pub settled-next : (s : ℕ) → None-before L text s → Settled s none → None-before L text (s + 1)
-  settled-next s before here i j h p = elim (decLt i s) [ yes l ↦ before i j l p | no l ↦ let at : i ≡ s = omega arith in here j (rw at at p) ]
+  settled-next s before here i j h p =
+      elim (decLt i s) [ yes l ↦ before i j l p | no l ↦ let at : i ≡ s = omega arith in here j (rw at at p) ]
 
   -- where none begins up to the text's end, there is none
   pub none-before-end : None-before L text (length text + 1) → Nothing-found L text

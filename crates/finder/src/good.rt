@@ -9,6 +9,7 @@ ghost use mathlib.Core.Bool.{true};
 ghost use mathlib.Core.Logic.{_↔_};
 ghost use Rattle.language.specs.Tree.{Tree};
 ghost use Rattle.language.specs.Language.{Matches};
+ghost use Rattle.tree.specs.Leaf.{Leaf};
 ghost use Rattle.tree.specs.Records.{Good};
 ghost use Rattle.tables.specs.Given.{Good-list};
 ghost use Rattle.finder.specs.Found.{Answers};
@@ -16,7 +17,7 @@ ghost use Rattle.finder.specs.Parts.{answer-of};
 
 pub fn matches_good(list: &[u8], text: &[u8]) -> bool
     requires { ⌜ Good-list (now list) ⌝ }
-    ensures { λ r. ⌜ ((t : Tree ℕ) → Good (now (list .entry)) t → (r ≡ true) ↔ Matches t (now (text .entry))) ⌝ }
+    ensures { λ r. ⌜ ((t : Tree Leaf) → Good (now (list .entry)) t → (r ≡ true) ↔ Matches t (now (text .entry))) ⌝ }
 {
     let mut reach = [0u64; 8192];
     let mut labels = [0u16; 8192];
@@ -36,7 +37,8 @@ pub fn matches_good(list: &[u8], text: &[u8]) -> bool
 
 pub fn search_good(list: &[u8], text: &[u8]) -> Part
     requires { ⌜ Good-list (now list) ⌝ }
-    ensures { λ r. ⌜ ((t : Tree ℕ) → Good (now (list .entry)) t → Answers (Matches t) (now (text .entry)) (answer-of r)) ⌝ }
+    ensures { λ r. ⌜ ((t : Tree Leaf) → Good (now (list .entry)) t
+        → Answers (Matches t) (now (text .entry)) (answer-of r)) ⌝ }
 {
     let mut reach = [0u64; 8192];
     let mut labels = [0u16; 8192];

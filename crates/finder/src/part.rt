@@ -9,6 +9,7 @@ ghost use mathlib.Core.Logic.{_↔_};
 ghost use lib.ListN.{length};
 ghost use Rattle.language.specs.Tree.{Tree};
 ghost use Rattle.language.specs.Language.{Matches};
+ghost use Rattle.tree.specs.Leaf.{Leaf};
 ghost use mathlib.Core.List.{[]};
 ghost use Rattle.tables.specs.Tables.{Prepared, Ready, Answered};
 ghost use Rattle.finder.specs.Progress.{Settled, better};
@@ -34,7 +35,8 @@ fn with_end(yes: bool, end: usize, best: End) -> End
     if yes { End::At(end) } else { best }
 }
 
-// The furthest end, from the marks to start with, which are those of the empty text: `empty` says whether that is in the language.
+// The furthest end, from the marks to start with, which are those of the empty text: `empty` says whether that is in
+// the language.
 fn furthest_end(
     reach: &[u64],
     labels: &[u16],
@@ -49,8 +51,12 @@ fn furthest_end(
 ) -> End
     requires { ⌜ Ready (now reach) (now labels) (now runs) (now stands) (now tops) count ⌝ }
     requires { ⌜ (start ≤ length (now text)) × (length (now first) ≡ 128) ⌝ }
-    requires { ⌜ ((t : Tree ℕ) → Prepared t (now reach) (now labels) (now runs) (now stands) (now tops) count → Answered t [] (now first) empty) ⌝ }
-    ensures { λ r. ⌜ ((t : Tree ℕ) → Prepared t (now (reach .entry)) (now (labels .entry)) (now (runs .entry)) (now (stands .entry)) (now (tops .entry)) count → Settled (Matches t) (now (text .entry)) start (end-of r)) ⌝ }
+    requires { ⌜ ((t : Tree Leaf) → Prepared t (now reach) (now labels) (now runs) (now stands) (now tops) count
+        → Answered t [] (now first) empty) ⌝ }
+    ensures { λ r.
+        ⌜ ((t : Tree Leaf)
+        → Prepared t (now (reach .entry)) (now (labels .entry)) (now (runs .entry)) (now (stands .entry))
+        (now (tops .entry)) count → Settled (Matches t) (now (text .entry)) start (end-of r)) ⌝ }
 {
     let mut words = [0u64; 128];
     copy(first, count, &mut words);
@@ -76,7 +82,8 @@ fn furthest_end(
     best
 }
 
-// The part that starts earliest and then ends furthest, among the parts in the language of the tree that the tables are of. The marks to start
+// The part that starts earliest and then ends furthest, among the parts in the language of the tree that the tables are
+// of. The marks to start
 // with are made once for all places.
 pub fn first_part(
     reach: &[u64],
@@ -88,7 +95,10 @@ pub fn first_part(
     text: &[u8],
 ) -> Part
     requires { ⌜ Ready (now reach) (now labels) (now runs) (now stands) (now tops) count ⌝ }
-    ensures { λ r. ⌜ ((t : Tree ℕ) → Prepared t (now (reach .entry)) (now (labels .entry)) (now (runs .entry)) (now (stands .entry)) (now (tops .entry)) count → Answers (Matches t) (now (text .entry)) (answer-of r)) ⌝ }
+    ensures { λ r.
+        ⌜ ((t : Tree Leaf)
+        → Prepared t (now (reach .entry)) (now (labels .entry)) (now (runs .entry)) (now (stands .entry))
+        (now (tops .entry)) count → Answers (Matches t) (now (text .entry)) (answer-of r)) ⌝ }
 {
     let mut first = [0u64; 128];
     let empty = begin(reach, labels, runs, stands, tops, count, &mut first);

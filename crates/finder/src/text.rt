@@ -8,9 +8,11 @@ ghost use mathlib.Core.Bool.{true};
 ghost use mathlib.Core.Logic.{_↔_};
 ghost use Rattle.language.specs.Tree.{Tree};
 ghost use Rattle.language.specs.Language.{Matches};
+ghost use Rattle.tree.specs.Leaf.{Leaf};
 ghost use Rattle.tables.specs.Tables.{Prepared, Ready};
 
-// Whether the text is in the language of the tree that the tables are of. Where no mark is left, none comes back: the rest is not read.
+// Whether the text is in the language of the tree that the tables are of. Where no mark is left, none comes back: the
+// rest is not read.
 pub fn text_matches(
     reach: &[u64],
     labels: &[u16],
@@ -21,7 +23,10 @@ pub fn text_matches(
     text: &[u8],
 ) -> bool
     requires { ⌜ Ready (now reach) (now labels) (now runs) (now stands) (now tops) count ⌝ }
-    ensures { λ r. ⌜ ((t : Tree ℕ) → Prepared t (now (reach .entry)) (now (labels .entry)) (now (runs .entry)) (now (stands .entry)) (now (tops .entry)) count → (r ≡ true) ↔ Matches t (now (text .entry))) ⌝ }
+    ensures { λ r.
+        ⌜ ((t : Tree Leaf)
+        → Prepared t (now (reach .entry)) (now (labels .entry)) (now (runs .entry)) (now (stands .entry))
+        (now (tops .entry)) count → (r ≡ true) ↔ Matches t (now (text .entry))) ⌝ }
 {
     let mut words = [0u64; 128];
     let mut yes = begin(reach, labels, runs, stands, tops, count, &mut words);

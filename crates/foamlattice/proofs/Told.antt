@@ -14,7 +14,12 @@ use Rattle.finder.specs.declared.Matched.{Matched}
 use Rattle.finder.specs.declared.Matched.the-variants.{Yes, No, NotGood as Match-not-good, TooLong as Match-too-long}
 use Rattle.finder.proofs.Matched.{the-type as matched-type}
 use Rattle.finder.specs.declared.Searched.{Searched}
-use Rattle.finder.specs.declared.Searched.the-variants.{Found, Nothing, NotGood as Search-not-good, TooLong as Search-too-long}
+use Rattle.finder.specs.declared.Searched.the-variants.{
+  Found,
+  Nothing,
+  NotGood as Search-not-good,
+  TooLong as Search-too-long,
+}
 use Rattle.finder.proofs.Searched.{the-type as searched-type}
 use Rattle.picker.specs.declared.Picked.{Picked}
 use Rattle.picker.specs.declared.Picked.the-variants.{Written, NoRoom}
@@ -32,20 +37,23 @@ match-number-at No = refl
 match-number-at Match-not-good = refl
 match-number-at Match-too-long = refl
 
-pub told-match : (answer : Matched) (tag : ℕ) → tagOf matched-type answer ≡ tag → match-packed answer ≡ getD match-numbers tag 0
+pub told-match : (answer : Matched) (tag : ℕ) → tagOf matched-type answer ≡ tag
+    → match-packed answer ≡ getD match-numbers tag 0
 told-match answer tag e = match-number-at answer ∙ ap (λ (k : ℕ). getD match-numbers k 0) e
 
 -- a search's numbers: that of a part found is its own
 abbrev pub search-numbers : Searched → List ℕ
 search-numbers answer = search-packed answer ∷ packed 0 0 0 0 ∷ packed 10 0 0 0 ∷ packed 11 0 0 0 ∷ []
 
-search-number-at : (answer : Searched) → search-packed answer ≡ getD (search-numbers answer) (tagOf searched-type answer) 0
+search-number-at : (answer : Searched)
+    → search-packed answer ≡ getD (search-numbers answer) (tagOf searched-type answer) 0
 search-number-at (Found start end) = refl
 search-number-at Nothing = refl
 search-number-at Search-not-good = refl
 search-number-at Search-too-long = refl
 
-pub told-search : (answer : Searched) (tag : ℕ) → tagOf searched-type answer ≡ tag → search-packed answer ≡ getD (search-numbers answer) tag 0
+pub told-search : (answer : Searched) (tag : ℕ) → tagOf searched-type answer ≡ tag
+    → search-packed answer ≡ getD (search-numbers answer) tag 0
 told-search answer tag e = search-number-at answer ∙ ap (λ (k : ℕ). getD (search-numbers answer) k 0) e
 
 -- the numbers of a start or a step: that of marks made is their own
@@ -58,7 +66,8 @@ marks-number-at NotGood = refl
 marks-number-at TooFewWords = refl
 marks-number-at NotMarks = refl
 
-pub told-marks : (answer : Answer) (tag : ℕ) → tagOf marks-type answer ≡ tag → marks-packed answer ≡ getD (marks-numbers answer) tag 0
+pub told-marks : (answer : Answer) (tag : ℕ) → tagOf marks-type answer ≡ tag
+    → marks-packed answer ≡ getD (marks-numbers answer) tag 0
 told-marks answer tag e = marks-number-at answer ∙ ap (λ (k : ℕ). getD (marks-numbers answer) k 0) e
 
 -- the numbers of a picking: that of an output written is its own
@@ -69,11 +78,13 @@ pick-number-at : (answer : Picked) → pick-packed answer ≡ getD (pick-numbers
 pick-number-at (Written size) = refl
 pick-number-at NoRoom = refl
 
-pub told-pick : (answer : Picked) (tag : ℕ) → tagOf picked-type answer ≡ tag → pick-packed answer ≡ getD (pick-numbers answer) tag 0
+pub told-pick : (answer : Picked) (tag : ℕ) → tagOf picked-type answer ≡ tag
+    → pick-packed answer ≡ getD (pick-numbers answer) tag 0
 told-pick answer tag e = pick-number-at answer ∙ ap (λ (k : ℕ). getD (pick-numbers answer) k 0) e
 
 -- of a reading's place and count of records one is 0, so that x is the other
-pub read-number : (records pieces : ℕ) → packed 0 0 records pieces ≡ read-packed (record { refusal = 0; place = 0; records = records; pieces = pieces })
+pub read-number : (records pieces : ℕ) → packed 0 0 records pieces
+    ≡ read-packed (record { refusal = 0; place = 0; records = records; pieces = pieces })
 read-number records pieces = omega arith
 
 pub refused-number : (number place : ℕ) → packed number 0 place 0 ≡ read-packed (refusing number place)

@@ -8,6 +8,7 @@ use mathlib.Core.List.{List}
 use lib.Dec.{ltb}
 use borrow.Author.Tests.{ltb-false}
 use Rattle.language.specs.Tree.{Tree, nodes}
+use Rattle.tree.specs.Leaf.{Leaf}
 use Rattle.tree.specs.Records.{piece-count}
 use Rattle.tree.specs.Pieces.{nodes-per-piece}
 use Rattle.reader.specs.Scanner.{Outcome, tree, refused, scanned}
@@ -19,7 +20,12 @@ use Rattle.marks.specs.Promise.{number-of}
 use Rattle.finder.specs.declared.Matched.{Matched}
 use Rattle.finder.specs.declared.Matched.the-variants.{Yes, No, NotGood as Match-not-good, TooLong as Match-too-long}
 use Rattle.finder.specs.declared.Searched.{Searched}
-use Rattle.finder.specs.declared.Searched.the-variants.{Found, Nothing, NotGood as Search-not-good, TooLong as Search-too-long}
+use Rattle.finder.specs.declared.Searched.the-variants.{
+  Found,
+  Nothing,
+  NotGood as Search-not-good,
+  TooLong as Search-too-long,
+}
 use Rattle.finder.specs.Promise.{match-number, search-number, Search-answers}
 use Rattle.finder.specs.Decide.{matches}
 use Rattle.picker.specs.declared.Picked.{Picked}
@@ -27,7 +33,21 @@ use Rattle.picker.specs.declared.Picked.the-variants.{Written, NoRoom}
 use Rattle.picker.specs.Room.{output-length}
 use Rattle.picker.specs.Promise.{Picks}
 use Rattle.foamlattice.specs.Packed.{packed, Unpacks, unpacks}
-use Rattle.foamlattice.specs.Promise.{read-packed, match-flag, search-flag, search-start, search-end, marks-flag, pick-flag, pick-length, Matching, Searching, Starting, Stepping, Picking}
+use Rattle.foamlattice.specs.Promise.{
+  read-packed,
+  match-flag,
+  search-flag,
+  search-start,
+  search-end,
+  marks-flag,
+  pick-flag,
+  pick-length,
+  Matching,
+  Searching,
+  Starting,
+  Stepping,
+  Picking,
+}
 
 -- the numbers that reading can answer
 pub record Read-ranges (n : Numbers) : Type 0 where
@@ -37,17 +57,42 @@ pub record Read-ranges (n : Numbers) : Type 0 where
   pub pieces-small : n .pieces ≤ 128
 
 -- by the two tests of an expression that is read: the records have at most 15 nodes for each of at most 128 pieces
-picked-ranges : (t : Tree ℕ) (many short : Bool) → ltb 128 (piece-count t) ≡ many → Read-ranges (pick many (refusing 8 0) (pick short (refusing 9 0) (reading t)))
-picked-ranges t true short e = record { refusal-small = omega arith; place-small = omega arith; records-small = omega arith; pieces-small = omega arith }
-picked-ranges t false true e = record { refusal-small = omega arith; place-small = omega arith; records-small = omega arith; pieces-small = omega arith }
+picked-ranges : (t : Tree Leaf) (many short : Bool) → ltb 128 (piece-count t) ≡ many
+    → Read-ranges (pick many (refusing 8 0) (pick short (refusing 9 0) (reading t)))
+picked-ranges t true short e = record {
+  refusal-small = omega arith;
+  place-small = omega arith;
+  records-small =
+      omega arith;
+  pieces-small = omega arith;
+}
+picked-ranges t false true e = record {
+  refusal-small = omega arith;
+  place-small = omega arith;
+  records-small =
+      omega arith;
+  pieces-small = omega arith;
+}
 picked-ranges t false false e =
     let few : piece-count t ≤ 128 = ltb-false 128 (piece-count t) e in
-    record { refusal-small = omega arith; place-small = omega arith; records-small = omega (arith, few, nodes-per-piece t); pieces-small = few }
+    record {
+      refusal-small = omega arith;
+      place-small = omega arith;
+      records-small =
+          omega (arith, few, nodes-per-piece t);
+      pieces-small = few;
+    }
 
-outcome-ranges : (bytes : List ℕ) (room : ℕ) (outcome : Outcome) → scanned bytes ≡ outcome → Read-ranges (answer-for outcome room)
+outcome-ranges : (bytes : List ℕ) (room : ℕ) (outcome : Outcome) → scanned bytes ≡ outcome
+    → Read-ranges (answer-for outcome room)
 outcome-ranges bytes room (refused number place) e =
     let known = scanned-refusal bytes number place e in
-    record { refusal-small = omega (arith, known .most); place-small = known .inside; records-small = omega arith; pieces-small = omega arith }
+    record {
+      refusal-small = omega (arith, known .most);
+      place-small = known .inside;
+      records-small = omega arith;
+      pieces-small = omega arith;
+    }
 outcome-ranges bytes room (tree t) e = picked-ranges t (ltb 128 (piece-count t)) (ltb room (8 * nodes t)) refl
 
 -- what is answered for any bytes and any buffer
@@ -65,13 +110,17 @@ pub record Search-ranges (answer : Searched) : Type 0 where
 
 pub search-ranges : (list text : List ℕ) (answer : Searched) → Search-answers list text answer → Search-ranges answer
 search-ranges list text (Found start end) right =
-    record { start-small = omega (arith, right .short, right .holds .here .ordered, right .holds .here .inside); end-small = omega (arith, right .short, right .holds .here .inside) }
+    record {
+      start-small = omega (arith, right .short, right .holds .here .ordered, right .holds .here .inside);
+      end-small = omega (arith, right .short, right .holds .here .inside);
+    }
 search-ranges list text Nothing right = record { start-small = omega arith; end-small = omega arith }
 search-ranges list text Search-not-good right = record { start-small = omega arith; end-small = omega arith }
 search-ranges list text Search-too-long right = record { start-small = omega arith; end-small = omega arith }
 
 -- an output has at most 1,048,575 bytes
-pub pick-length-small : (input before after : List ℕ) (answer : Picked) → Picks input before after answer → pick-length answer ≤ 1048575
+pub pick-length-small : (input before after : List ℕ) (answer : Picked) → Picks input before after answer
+    → pick-length answer ≤ 1048575
 pick-length-small input before after (Written size) right = omega (arith, right .sized, output-length matches input)
 pick-length-small input before after NoRoom right = omega arith
 
@@ -107,31 +156,53 @@ pick-small (Written size) = small 0 1 (omega arith) (omega arith)
 pick-small NoRoom = small 0 0 (omega arith) (omega arith)
 
 -- a small number and flag are in range beside x and y of at most 1,048,575
-case-unpacks : (r number flag x y : ℕ) → Small number flag → x ≤ 1048575 → y ≤ 1048575 → r ≡ packed number flag x y → Unpacks r number flag x y
+case-unpacks : (r number flag x y : ℕ) → Small number flag → x ≤ 1048575 → y ≤ 1048575 → r ≡ packed number flag x y
+    → Unpacks r number flag x y
 case-unpacks r number flag x y h k l e =
-    unpacks r number flag x y (record { number-small = omega (arith, h .number-small); flag-small = omega (arith, h .flag-small); x-small = omega arith; y-small = omega arith }) e
+    unpacks r number flag x y
+    (record {
+      number-small = omega (arith, h .number-small);
+      flag-small = omega (arith, h .flag-small);
+      x-small =
+          omega arith;
+      y-small = omega arith;
+    }) e
 
 -- the number that reading answers gives its parts back
-pub read-unpacks : (bytes : List ℕ) (room r : ℕ) → r ≡ read-packed (answered bytes room) → Unpacks r (answered bytes room .refusal) 0 (answered bytes room .place + answered bytes room .records) (answered bytes room .pieces)
+pub read-unpacks : (bytes : List ℕ) (room r : ℕ) → r ≡ read-packed (answered bytes room)
+    → Unpacks r (answered bytes room .refusal) 0 (answered bytes room .place + answered bytes room .records)
+    (answered bytes room .pieces)
 read-unpacks bytes room r e =
     let known = answered-ranges bytes room in
-    case-unpacks r _ 0 _ _ (small _ 0 (omega (arith, known .refusal-small)) (omega arith)) (omega (arith, known .place-small, known .records-small)) (omega (arith, known .pieces-small)) e
+    case-unpacks r _ 0 _ _ (small _ 0 (omega (arith, known .refusal-small)) (omega arith))
+    (omega (arith, known .place-small, known .records-small)) (omega (arith, known .pieces-small)) e
 
 -- so does that of a match, of a search, of a start, of a step and of a picking
-pub matching-unpacks : (list text : List ℕ) (r : ℕ) (m : Matching list text r) → Unpacks r (match-number (m .answer)) (match-flag (m .answer)) 0 0
-matching-unpacks list text r m = case-unpacks r _ _ 0 0 (match-small (m .answer)) (omega arith) (omega arith) (m .as-number)
+pub matching-unpacks : (list text : List ℕ) (r : ℕ) (m : Matching list text r)
+    → Unpacks r (match-number (m .answer)) (match-flag (m .answer)) 0 0
+matching-unpacks list text r m = case-unpacks r _ _ 0 0 (match-small (m .answer)) (omega arith) (omega arith)
+    (m .as-number)
 
-pub searching-unpacks : (list text : List ℕ) (r : ℕ) (m : Searching list text r) → Unpacks r (search-number (m .answer)) (search-flag (m .answer)) (search-start (m .answer)) (search-end (m .answer))
+pub searching-unpacks : (list text : List ℕ) (r : ℕ) (m : Searching list text r)
+    → Unpacks r (search-number (m .answer)) (search-flag (m .answer)) (search-start (m .answer))
+    (search-end (m .answer))
 searching-unpacks list text r m =
     let known = search-ranges list text (m .answer) (m .right) in
-    case-unpacks r _ _ _ _ (search-small (m .answer)) (omega (arith, known .start-small)) (omega (arith, known .end-small)) (m .as-number)
+    case-unpacks r _ _ _ _ (search-small (m .answer)) (omega (arith, known .start-small))
+    (omega (arith, known .end-small)) (m .as-number)
 
-pub starting-unpacks : (list before after : List ℕ) (r : ℕ) (m : Starting list before after r) → Unpacks r (number-of (m .answer)) (marks-flag (m .answer)) 0 0
-starting-unpacks list before after r m = case-unpacks r _ _ 0 0 (marks-small (m .answer)) (omega arith) (omega arith) (m .as-number)
+pub starting-unpacks : (list before after : List ℕ) (r : ℕ) (m : Starting list before after r)
+    → Unpacks r (number-of (m .answer)) (marks-flag (m .answer)) 0 0
+starting-unpacks list before after r m = case-unpacks r _ _ 0 0 (marks-small (m .answer)) (omega arith) (omega arith)
+    (m .as-number)
 
-pub stepping-unpacks : (list : List ℕ) (byte : ℕ) (before after : List ℕ) (r : ℕ) (m : Stepping list byte before after r) → Unpacks r (number-of (m .answer)) (marks-flag (m .answer)) 0 0
-stepping-unpacks list byte before after r m = case-unpacks r _ _ 0 0 (marks-small (m .answer)) (omega arith) (omega arith) (m .as-number)
+pub stepping-unpacks : (list : List ℕ) (byte : ℕ) (before after : List ℕ) (r : ℕ)
+    (m : Stepping list byte before after r) → Unpacks r (number-of (m .answer)) (marks-flag (m .answer)) 0 0
+stepping-unpacks list byte before after r m =
+    case-unpacks r _ _ 0 0 (marks-small (m .answer)) (omega arith) (omega arith) (m .as-number)
 
-pub picking-unpacks : (input before after : List ℕ) (r : ℕ) (m : Picking input before after r) → Unpacks r 0 (pick-flag (m .answer)) (pick-length (m .answer)) 0
+pub picking-unpacks : (input before after : List ℕ) (r : ℕ) (m : Picking input before after r)
+    → Unpacks r 0 (pick-flag (m .answer)) (pick-length (m .answer)) 0
 picking-unpacks input before after r m =
-    case-unpacks r 0 _ _ 0 (pick-small (m .answer)) (pick-length-small input before after (m .answer) (m .right)) (omega arith) (m .as-number)
+    case-unpacks r 0 _ _ 0 (pick-small (m .answer)) (pick-length-small input before after (m .answer) (m .right))
+    (omega arith) (m .as-number)

@@ -1,4 +1,5 @@
--- What each call of the outside interface answers: the number that an answer is packed into, and that the answer is right.
+-- What each call of the outside interface answers: the number that an answer is packed into, and that the answer is
+-- right.
 -- Assumes nothing.
 use Prim.Native.Nat.{ℕ, _+_}
 use mathlib.Core.Path.{_≡_}
@@ -11,7 +12,12 @@ use Rattle.marks.specs.Promise.{number-of, Starts, Steps}
 use Rattle.finder.specs.declared.Matched.{Matched}
 use Rattle.finder.specs.declared.Matched.the-variants.{Yes, No, NotGood as Match-not-good, TooLong as Match-too-long}
 use Rattle.finder.specs.declared.Searched.{Searched}
-use Rattle.finder.specs.declared.Searched.the-variants.{Found, Nothing, NotGood as Search-not-good, TooLong as Search-too-long}
+use Rattle.finder.specs.declared.Searched.the-variants.{
+  Found,
+  Nothing,
+  NotGood as Search-not-good,
+  TooLong as Search-too-long,
+}
 use Rattle.finder.specs.Promise.{match-number, search-number, Match-answers, Search-answers}
 use Rattle.picker.specs.declared.Picked.{Picked}
 use Rattle.picker.specs.declared.Picked.the-variants.{Written, NoRoom}

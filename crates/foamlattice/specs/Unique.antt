@@ -1,4 +1,5 @@
--- Two results that both fit a call's promise are equal: the answers behind them are. What `foam_read` promises is two equations.
+-- Two results that both fit a call's promise are equal: the answers behind them are. What `foam_read` promises is two
+-- equations.
 -- Assumes nothing.
 use Prim.Native.Nat.{ℕ}
 use mathlib.Core.Path.{_≡_, ap, sym, _∙_}
@@ -6,30 +7,47 @@ use mathlib.Core.List.{List}
 use Rattle.marks.specs.Unique.{starts-unique, steps-unique}
 use Rattle.finder.specs.Unique.{match-unique, search-unique-answer}
 use Rattle.picker.specs.Promise.{picks-unique}
-use Rattle.foamlattice.specs.Promise.{match-packed, search-packed, marks-packed, pick-packed, Matching, Searching, Starting, Stepping, Picking}
+use Rattle.foamlattice.specs.Promise.{
+  match-packed,
+  search-packed,
+  marks-packed,
+  pick-packed,
+  Matching,
+  Searching,
+  Starting,
+  Stepping,
+  Picking,
+}
 
 -- numbers that are packed from equal answers are equal
-same-number : {A : Type 0} (packed-from : A → ℕ) (r s : ℕ) (a b : A) → r ≡ packed-from a → s ≡ packed-from b → a ≡ b → r ≡ s
+same-number : {A : Type 0} (packed-from : A → ℕ) (r s : ℕ) (a b : A) → r ≡ packed-from a → s ≡ packed-from b → a ≡ b
+    → r ≡ s
 same-number packed-from r s a b e f same = e ∙ ap packed-from same ∙ sym f
 
 pub matching-unique : (list text : List ℕ) (r s : ℕ) → Matching list text r → Matching list text s → r ≡ s
-matching-unique list text r s m n = same-number match-packed r s _ _ (m .as-number) (n .as-number) (match-unique list text (m .answer) (n .answer) (m .right) (n .right))
+matching-unique list text r s m n =
+    same-number match-packed r s _ _ (m .as-number) (n .as-number)
+    (match-unique list text (m .answer) (n .answer) (m .right) (n .right))
 
 pub searching-unique : (list text : List ℕ) (r s : ℕ) → Searching list text r → Searching list text s → r ≡ s
 searching-unique list text r s m n =
-    same-number search-packed r s _ _ (m .as-number) (n .as-number) (search-unique-answer list text (m .answer) (n .answer) (m .right) (n .right))
+    same-number search-packed r s _ _ (m .as-number) (n .as-number)
+    (search-unique-answer list text (m .answer) (n .answer) (m .right) (n .right))
 
-pub starting-unique : (list before after after' : List ℕ) (r s : ℕ) → Starting list before after r → Starting list before after' s → (r ≡ s) × (after ≡ after')
+pub starting-unique : (list before after after' : List ℕ) (r s : ℕ) → Starting list before after r
+    → Starting list before after' s → (r ≡ s) × (after ≡ after')
 starting-unique list before after after' r s m n =
     let same = starts-unique list before after after' (m .answer) (n .answer) (m .right) (n .right) in
     (same-number marks-packed r s _ _ (m .as-number) (n .as-number) (same .0), same .1)
 
-pub stepping-unique : (list : List ℕ) (byte : ℕ) (before after after' : List ℕ) (r s : ℕ) → Stepping list byte before after r → Stepping list byte before after' s → (r ≡ s) × (after ≡ after')
+pub stepping-unique : (list : List ℕ) (byte : ℕ) (before after after' : List ℕ) (r s : ℕ)
+    → Stepping list byte before after r → Stepping list byte before after' s → (r ≡ s) × (after ≡ after')
 stepping-unique list byte before after after' r s m n =
     let same = steps-unique list byte before after after' (m .answer) (n .answer) (m .right) (n .right) in
     (same-number marks-packed r s _ _ (m .as-number) (n .as-number) (same .0), same .1)
 
-pub picking-unique : (input before after after' : List ℕ) (r s : ℕ) → Picking input before after r → Picking input before after' s → (r ≡ s) × (after ≡ after')
+pub picking-unique : (input before after after' : List ℕ) (r s : ℕ) → Picking input before after r
+    → Picking input before after' s → (r ≡ s) × (after ≡ after')
 picking-unique input before after after' r s m n =
     let same = picks-unique input before after after' (m .answer) (n .answer) (m .right) (n .right) in
     (same-number pick-packed r s _ _ (m .as-number) (n .as-number) (same .0), same .1)

@@ -1,4 +1,5 @@
-// The outside interface: reading, matching, searching, starting, stepping and picking for callers in C and Rust, each of which answers one number.
+// The outside interface: reading, matching, searching, starting, stepping and picking for callers in C and Rust, each
+// of which answers one number.
 mod pack;
 
 use finder::Matched;
@@ -15,7 +16,15 @@ use reader::read;
 ghost use mathlib.Core.Path.{_≡_};
 ghost use lib.ListN.{length};
 ghost use Rattle.reader.specs.Answer.{answered, stored};
-ghost use Rattle.foamlattice.specs.Promise.{read-packed, marks-packed, Matching, Searching, Starting, Stepping, Picking};
+ghost use Rattle.foamlattice.specs.Promise.{
+  read-packed,
+  marks-packed,
+  Matching,
+  Searching,
+  Starting,
+  Stepping,
+  Picking,
+};
 
 // Reads an expression into tree records.
 #[no_mangle]
@@ -88,7 +97,8 @@ pub extern "C" fn foam_step(records: &[u8], words: &mut [u64], byte: u8) -> u64
     pack_marked(answer)
 }
 
-// Writes the whole output of `pick` for an input: the expression is read once, and its tables are made once for all texts.
+// Writes the whole output of `pick` for an input: the expression is read once, and its tables are made once for all
+// texts.
 #[no_mangle]
 pub extern "C" fn foam_pick(input: &[u8], output: &mut [u8]) -> u64
     ensures { λ r. ⌜ Picking (now (input .entry)) (now (output .entry)) (now (output .exit)) r ⌝ }

@@ -9,5 +9,6 @@ use Rattle.language.specs.Automaton.{Accepts}
 use Rattle.language.specs.Rest.{accepted-language}
 use Rattle.language.specs.Runs.{language-accepted}
 
-pub accepts-exactly : {A : Type 0} (Takes : A → ℕ → Type 0) (t : Tree A) (w : List ℕ) → Accepts Takes t w ↔ Language Takes t w
+pub accepts-exactly : {A : Type 0} (Takes : A → ℕ → Type 0) (t : Tree A) (w : List ℕ)
+    → Accepts Takes t w ↔ Language Takes t w
 accepts-exactly Takes t w = (accepted-language Takes t w, language-accepted Takes t w)

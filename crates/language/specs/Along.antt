@@ -1,4 +1,5 @@
--- The plain simulation along a text: in two parts, one byte further, where no mark is left, and that it marks states that there are.
+-- The plain simulation along a text: in two parts, one byte further, where no mark is left, and that it marks states
+-- that there are.
 -- Assumes nothing.
 use Prim.Native.Nat.{ℕ}
 use mathlib.Core.Path.{_≡_, refl, subst}
@@ -17,7 +18,8 @@ module _ {A : Type 0} (Takes : A → ℕ → Type 0) (t : Tree A) where
   after-append (b ∷ v) w X = after-append v w (Stepped Takes t b X)
 
   -- after one byte more: a step with that byte
-  pub after-step : (w : List ℕ) (b : ℕ) (X : States) → After Takes t (w ++ (b ∷ [])) X ≡ Stepped Takes t b (After Takes t w X)
+  pub after-step : (w : List ℕ) (b : ℕ) (X : States) → After Takes t (w ++ (b ∷ [])) X
+      ≡ Stepped Takes t b (After Takes t w X)
   after-step w b X = after-append w (b ∷ []) X
 
   -- where no mark is left, none comes back

@@ -1,4 +1,5 @@
--- The automaton of a tree, after document 002: two fresh states for every node, catenation too. And its plain simulation.
+-- The automaton of a tree, after document 002: two fresh states for every node, catenation too. And its plain
+-- simulation.
 -- Assumes nothing.
 use Prim.Native.Nat.{ℕ}
 use mathlib.Core.Path.{_≡_}
@@ -34,8 +35,10 @@ pub data Empty {A : Type 0} : Tree A → State → State → Type 0 where
 -- the transitions that read the byte b: at each leaf that takes b, from its start to its accepting state
 pub data Reads {A : Type 0} (Takes : A → ℕ → Type 0) (b : ℕ) : Tree A → State → State → Type 0 where
   at-leaf : {a : A} → Takes a b → Reads Takes b (leaf a) start accepting
-  catenation-left : {s t : Tree A} {p q : State} → Reads Takes b s p q → Reads Takes b (catenation s t) (left p) (left q)
-  catenation-right : {s t : Tree A} {p q : State} → Reads Takes b t p q → Reads Takes b (catenation s t) (right p) (right q)
+  catenation-left : {s t : Tree A} {p q : State} → Reads Takes b s p q
+      → Reads Takes b (catenation s t) (left p) (left q)
+  catenation-right : {s t : Tree A} {p q : State} → Reads Takes b t p q
+      → Reads Takes b (catenation s t) (right p) (right q)
   union-left : {s t : Tree A} {p q : State} → Reads Takes b s p q → Reads Takes b (union s t) (left p) (left q)
   union-right : {s t : Tree A} {p q : State} → Reads Takes b t p q → Reads Takes b (union s t) (right p) (right q)
   star-inside : {s : Tree A} {p q : State} → Reads Takes b s p q → Reads Takes b (star s) (left p) (left q)

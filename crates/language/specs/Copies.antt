@@ -1,4 +1,5 @@
--- A state of the uncut automaton and its copies in the cut one: a node's own state, and those of the stand-ins of its piece.
+-- A state of the uncut automaton and its copies in the cut one: a node's own state, and those of the stand-ins of its
+-- piece.
 -- Assumes nothing.
 use Prim.Native.Nat.{ℕ}
 use mathlib.Core.Path.{_≡_, refl, ap}
@@ -49,10 +50,12 @@ module _ {A : Type 0} where
   -- where the start lies in a settled set, all its copies do: it is passed down
   pub start-full : (x : Nested A) (N : States) → Settled x N → N start → Full x N start
   start-full x N settled m start of-start = m
-  start-full (below x) N settled m (left q) (in-child c) = start-full x _ (settled .1) (settled .0 _ _ Wire.pass-down m) q c
+  start-full (below x) N settled m (left q) (in-child c) =
+      start-full x _ (settled .1) (settled .0 _ _ Wire.pass-down m) q c
 
   -- what is full in a child piece is full with its stand-in, but for the start: the accepting state is passed up
-  child-full : (x : Nested A) (N : States) → Settled (below x) N → {p : State} → (p ≡ start → ⊥) → Full x (λ q. N (left q)) p → Full (below x) N p
+  child-full : (x : Nested A) (N : States) → Settled (below x) N → {p : State} → (p ≡ start → ⊥)
+      → Full x (λ q. N (left q)) p → Full (below x) N p
   child-full x N settled other full start of-start = absurd (other refl)
   child-full x N settled other full accepting of-accepting = settled .0 _ _ Wire.pass-up (full accepting of-accepting)
   child-full x N settled other full (left q) (in-child c) = full q c
@@ -65,45 +68,74 @@ module _ {A : Type 0} where
   never-reads = elim [ ]
 
   -- an empty transition of the uncut automaton leads from full to full in a settled set
-  pub empty-full : (x : Nested A) (N : States) → Settled x N → {p q : State} → Empty (whole x) p q → Full x N p → Full x N q
-  empty-full (catenation x y) N s Empty.catenation-in full (left q) (Copy.catenation-left c) = start-full x _ (s .1) (s .0 _ _ Wire.catenation-in (full start of-start)) q c
+  pub empty-full : (x : Nested A) (N : States) → Settled x N → {p q : State} → Empty (whole x) p q → Full x N p
+      → Full x N q
+  empty-full (catenation x y) N s Empty.catenation-in full (left q) (Copy.catenation-left c) =
+      start-full x _ (s .1) (s .0 _ _ Wire.catenation-in (full start of-start)) q c
   empty-full (catenation x y) N s Empty.catenation-over full (right q) (Copy.catenation-right c) =
-      start-full y _ (s .2) (s .0 _ _ Wire.catenation-over (full (left accepting) (Copy.catenation-left of-accepting))) q c
-  empty-full (catenation x y) N s Empty.catenation-out full accepting of-accepting = s .0 _ _ Wire.catenation-out (full (right accepting) (Copy.catenation-right of-accepting))
-  empty-full (catenation x y) N s (Empty.catenation-left e) full (left q) (Copy.catenation-left c) = empty-full x _ (s .1) e (λ p d. full (left p) (Copy.catenation-left d)) q c
-  empty-full (catenation x y) N s (Empty.catenation-right e) full (right q) (Copy.catenation-right c) = empty-full y _ (s .2) e (λ p d. full (right p) (Copy.catenation-right d)) q c
-  empty-full (union x y) N s Empty.union-in-left full (left q) (Copy.union-left c) = start-full x _ (s .1) (s .0 _ _ Wire.union-in-left (full start of-start)) q c
-  empty-full (union x y) N s Empty.union-in-right full (right q) (Copy.union-right c) = start-full y _ (s .2) (s .0 _ _ Wire.union-in-right (full start of-start)) q c
-  empty-full (union x y) N s Empty.union-out-left full accepting of-accepting = s .0 _ _ Wire.union-out-left (full (left accepting) (Copy.union-left of-accepting))
-  empty-full (union x y) N s Empty.union-out-right full accepting of-accepting = s .0 _ _ Wire.union-out-right (full (right accepting) (Copy.union-right of-accepting))
-  empty-full (union x y) N s (Empty.union-left e) full (left q) (Copy.union-left c) = empty-full x _ (s .1) e (λ p d. full (left p) (Copy.union-left d)) q c
-  empty-full (union x y) N s (Empty.union-right e) full (right q) (Copy.union-right c) = empty-full y _ (s .2) e (λ p d. full (right p) (Copy.union-right d)) q c
-  empty-full (star x) N s Empty.star-in full (left q) (Copy.star-inside c) = start-full x _ (s .1) (s .0 _ _ Wire.star-in (full start of-start)) q c
+      start-full y _ (s .2) (s .0 _ _ Wire.catenation-over (full (left accepting) (Copy.catenation-left of-accepting)))
+      q c
+  empty-full (catenation x y) N s Empty.catenation-out full accepting of-accepting =
+      s .0 _ _ Wire.catenation-out (full (right accepting) (Copy.catenation-right of-accepting))
+  empty-full (catenation x y) N s (Empty.catenation-left e) full (left q) (Copy.catenation-left c) =
+      empty-full x _ (s .1) e (λ p d. full (left p) (Copy.catenation-left d)) q c
+  empty-full (catenation x y) N s (Empty.catenation-right e) full (right q) (Copy.catenation-right c) =
+      empty-full y _ (s .2) e (λ p d. full (right p) (Copy.catenation-right d)) q c
+  empty-full (union x y) N s Empty.union-in-left full (left q) (Copy.union-left c) =
+      start-full x _ (s .1) (s .0 _ _ Wire.union-in-left (full start of-start)) q c
+  empty-full (union x y) N s Empty.union-in-right full (right q) (Copy.union-right c) =
+      start-full y _ (s .2) (s .0 _ _ Wire.union-in-right (full start of-start)) q c
+  empty-full (union x y) N s Empty.union-out-left full accepting of-accepting =
+      s .0 _ _ Wire.union-out-left (full (left accepting) (Copy.union-left of-accepting))
+  empty-full (union x y) N s Empty.union-out-right full accepting of-accepting =
+      s .0 _ _ Wire.union-out-right (full (right accepting) (Copy.union-right of-accepting))
+  empty-full (union x y) N s (Empty.union-left e) full (left q) (Copy.union-left c) =
+      empty-full x _ (s .1) e (λ p d. full (left p) (Copy.union-left d)) q c
+  empty-full (union x y) N s (Empty.union-right e) full (right q) (Copy.union-right c) =
+      empty-full y _ (s .2) e (λ p d. full (right p) (Copy.union-right d)) q c
+  empty-full (star x) N s Empty.star-in full (left q) (Copy.star-inside c) =
+      start-full x _ (s .1) (s .0 _ _ Wire.star-in (full start of-start)) q c
   empty-full (star x) N s Empty.star-past full accepting of-accepting = s .0 _ _ Wire.star-past (full start of-start)
-  empty-full (star x) N s Empty.star-out full accepting of-accepting = s .0 _ _ Wire.star-out (full (left accepting) (Copy.star-inside of-accepting))
-  empty-full (star x) N s Empty.star-back full (left q) (Copy.star-inside c) = start-full x _ (s .1) (s .0 _ _ Wire.star-back (full (left accepting) (Copy.star-inside of-accepting))) q c
-  empty-full (star x) N s (Empty.star-inside e) full (left q) (Copy.star-inside c) = empty-full x _ (s .1) e (λ p d. full (left p) (Copy.star-inside d)) q c
-  empty-full (below x) N s e full q c = child-full x N s (λ begins. never-empty (rw begins at e)) (empty-full x _ (s .1) e (λ p d. full (left p) (in-child d))) q c
+  empty-full (star x) N s Empty.star-out full accepting of-accepting =
+      s .0 _ _ Wire.star-out (full (left accepting) (Copy.star-inside of-accepting))
+  empty-full (star x) N s Empty.star-back full (left q) (Copy.star-inside c) =
+      start-full x _ (s .1) (s .0 _ _ Wire.star-back (full (left accepting) (Copy.star-inside of-accepting))) q c
+  empty-full (star x) N s (Empty.star-inside e) full (left q) (Copy.star-inside c) =
+      empty-full x _ (s .1) e (λ p d. full (left p) (Copy.star-inside d)) q c
+  empty-full (below x) N s e full q c =
+      child-full x N s (λ begins. never-empty (rw begins at e))
+      (empty-full x _ (s .1) e (λ p d. full (left p) (in-child d))) q c
 
   module _ (Takes : A → ℕ → Type 0) (b : ℕ) where
     -- a transition that reads b leads from full in some marks to full in a settled set that has what these move to
-    pub reads-full : (x : Nested A) (marks N : States) → Settled x N → ((p q : State) → Reading Takes b x p q → marks p → N q) → {p q : State} → Reads Takes b (whole x) p q → Full x marks p → Full x N q
-    reads-full (leaf a) marks N s moved (Reads.at-leaf takes) full accepting of-accepting = moved start accepting (Reading.at-leaf takes) (full start of-start)
+    pub reads-full : (x : Nested A) (marks N : States) → Settled x N
+        → ((p q : State) → Reading Takes b x p q → marks p → N q) → {p q : State} → Reads Takes b (whole x) p q
+        → Full x marks p → Full x N q
+    reads-full (leaf a) marks N s moved (Reads.at-leaf takes) full accepting of-accepting =
+        moved start accepting (Reading.at-leaf takes) (full start of-start)
     reads-full (catenation x y) marks N s moved (Reads.catenation-left e) full (left q) (Copy.catenation-left c) =
-        reads-full x _ _ (s .1) (λ p q r. moved (left p) (left q) (Reading.catenation-left r)) e (λ p d. full (left p) (Copy.catenation-left d)) q c
+        reads-full x _ _ (s .1) (λ p q r. moved (left p) (left q) (Reading.catenation-left r)) e
+        (λ p d. full (left p) (Copy.catenation-left d)) q c
     reads-full (catenation x y) marks N s moved (Reads.catenation-right e) full (right q) (Copy.catenation-right c) =
-        reads-full y _ _ (s .2) (λ p q r. moved (right p) (right q) (Reading.catenation-right r)) e (λ p d. full (right p) (Copy.catenation-right d)) q c
+        reads-full y _ _ (s .2) (λ p q r. moved (right p) (right q) (Reading.catenation-right r)) e
+        (λ p d. full (right p) (Copy.catenation-right d)) q c
     reads-full (union x y) marks N s moved (Reads.union-left e) full (left q) (Copy.union-left c) =
-        reads-full x _ _ (s .1) (λ p q r. moved (left p) (left q) (Reading.union-left r)) e (λ p d. full (left p) (Copy.union-left d)) q c
+        reads-full x _ _ (s .1) (λ p q r. moved (left p) (left q) (Reading.union-left r)) e
+        (λ p d. full (left p) (Copy.union-left d)) q c
     reads-full (union x y) marks N s moved (Reads.union-right e) full (right q) (Copy.union-right c) =
-        reads-full y _ _ (s .2) (λ p q r. moved (right p) (right q) (Reading.union-right r)) e (λ p d. full (right p) (Copy.union-right d)) q c
+        reads-full y _ _ (s .2) (λ p q r. moved (right p) (right q) (Reading.union-right r)) e
+        (λ p d. full (right p) (Copy.union-right d)) q c
     reads-full (star x) marks N s moved (Reads.star-inside e) full (left q) (Copy.star-inside c) =
-        reads-full x _ _ (s .1) (λ p q r. moved (left p) (left q) (Reading.star-inside r)) e (λ p d. full (left p) (Copy.star-inside d)) q c
+        reads-full x _ _ (s .1) (λ p q r. moved (left p) (left q) (Reading.star-inside r)) e
+        (λ p d. full (left p) (Copy.star-inside d)) q c
     reads-full (below x) marks N s moved e full q c =
-        child-full x N s (λ begins. never-reads (rw begins at e)) (reads-full x _ _ (s .1) (λ p q r. moved (left p) (left q) (Reading.in-child r)) e (λ p d. full (left p) (in-child d))) q c
+        child-full x N s (λ begins. never-reads (rw begins at e))
+        (reads-full x _ _ (s .1) (λ p q r. moved (left p) (left q) (Reading.in-child r)) e
+        (λ p d. full (left p) (in-child d))) q c
 
     -- the other way round, each reading transition of the cut automaton is one of the uncut automaton
-    pub reading-reads : {x : Nested A} {p q : State} → Reading Takes b x p q → Has x p × Reads Takes b (whole x) (origin x p) (origin x q)
+    pub reading-reads : {x : Nested A} {p q : State} → Reading Takes b x p q
+        → Has x p × Reads Takes b (whole x) (origin x p) (origin x q)
     reading-reads (Reading.at-leaf takes) = (tt, Reads.at-leaf takes)
     reading-reads (Reading.catenation-left r) = (reading-reads r .0, Reads.catenation-left (reading-reads r .1))
     reading-reads (Reading.catenation-right r) = (reading-reads r .0, Reads.catenation-right (reading-reads r .1))
@@ -112,8 +144,10 @@ module _ {A : Type 0} where
     reading-reads (Reading.star-inside r) = (reading-reads r .0, Reads.star-inside (reading-reads r .1))
     reading-reads (Reading.in-child r) = reading-reads r
 
-  -- and each other transition of the cut automaton is an empty one of the uncut automaton, or leads to a copy of the same state
-  wires-origin : (x : Nested A) (X : States) → Settled-by (Empty (whole x)) X → Settled-by (Wire x) (λ q. X (origin x q))
+  -- and each other transition of the cut automaton is an empty one of the uncut automaton, or leads to a copy of the
+  -- same state
+  wires-origin : (x : Nested A) (X : States) → Settled-by (Empty (whole x)) X
+      → Settled-by (Wire x) (λ q. X (origin x q))
   wires-origin (catenation x y) X closed p q Wire.catenation-in = closed _ _ Empty.catenation-in
   wires-origin (catenation x y) X closed p q Wire.catenation-over = closed _ _ Empty.catenation-over
   wires-origin (catenation x y) X closed p q Wire.catenation-out = closed _ _ Empty.catenation-out
@@ -131,9 +165,16 @@ module _ {A : Type 0} where
   -- so the copies of a closed set are settled
   pub origin-settled : (x : Nested A) (X : States) → Settled-by (Empty (whole x)) X → Settled x (λ q. X (origin x q))
   origin-settled (leaf a) X closed = tt
-  origin-settled (catenation x y) X closed =
-      (wires-origin (catenation x y) X closed, origin-settled x (λ p. X (left p)) (λ p q e. closed _ _ (Empty.catenation-left e)), origin-settled y (λ p. X (right p)) (λ p q e. closed _ _ (Empty.catenation-right e)))
-  origin-settled (union x y) X closed =
-      (wires-origin (union x y) X closed, origin-settled x (λ p. X (left p)) (λ p q e. closed _ _ (Empty.union-left e)), origin-settled y (λ p. X (right p)) (λ p q e. closed _ _ (Empty.union-right e)))
-  origin-settled (star x) X closed = (wires-origin (star x) X closed, origin-settled x (λ p. X (left p)) (λ p q e. closed _ _ (Empty.star-inside e)))
+  origin-settled (catenation x y) X closed = (
+    wires-origin (catenation x y) X closed,
+    origin-settled x (λ p. X (left p)) (λ p q e. closed _ _ (Empty.catenation-left e)),
+    origin-settled y (λ p. X (right p)) (λ p q e. closed _ _ (Empty.catenation-right e)),
+  )
+  origin-settled (union x y) X closed = (
+    wires-origin (union x y) X closed,
+    origin-settled x (λ p. X (left p)) (λ p q e. closed _ _ (Empty.union-left e)),
+    origin-settled y (λ p. X (right p)) (λ p q e. closed _ _ (Empty.union-right e)),
+  )
+  origin-settled (star x) X closed =
+      (wires-origin (star x) X closed, origin-settled x (λ p. X (left p)) (λ p q e. closed _ _ (Empty.star-inside e)))
   origin-settled (below x) X closed = (wires-origin (below x) X closed, origin-settled x X closed)

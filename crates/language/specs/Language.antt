@@ -12,7 +12,8 @@ pub data Repeated (L : List ℕ → Type 0) : List ℕ → Type 0 where
   more : {u v : List ℕ} → L u → Repeated L v → Repeated L (u ++ v)
 
 module _ {A : Type 0} (Takes : A → ℕ → Type 0) where
-  -- a leaf gives its one-byte texts; catenation a text of the first followed by one of the second; union texts of either; star zero or more texts of its operand joined
+  -- a leaf gives its one-byte texts; catenation a text of the first followed by one of the second; union texts of
+  -- either; star zero or more texts of its operand joined
   abbrev pub Language : Tree A → List ℕ → Type 0
   Language (leaf a) w = (b : ℕ) × (w ≡ b ∷ []) × Takes a b
   Language (catenation s t) w = (u : List ℕ) × (v : List ℕ) × (w ≡ u ++ v) × Language s u × Language t v

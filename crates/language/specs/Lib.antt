@@ -1,4 +1,5 @@
--- What the matcher is measured against: trees, their language, the automaton of document 002, and the same automaton cut into pieces.
+-- What the matcher is measured against: trees, their language, the automaton of document 002, and the same automaton
+-- cut into pieces.
 pub mod Tree
 pub mod Language
 pub mod Automaton

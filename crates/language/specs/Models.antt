@@ -1,4 +1,5 @@
--- Marks of a cut automaton and the set of states of the uncut one that they model: when they model one, and that it is one only.
+-- Marks of a cut automaton and the set of states of the uncut one that they model: when they model one, and that it is
+-- one only.
 -- Assumes nothing.
 use Prim.Native.Nat.{ℕ}
 use mathlib.Core.Path.{_≡_, refl}
@@ -40,23 +41,29 @@ module _ {A : Type 0} where
   origin-onto x p is = let (q, c) = copy-onto x p is in (q, copy-has c .0, copy-has c .1)
 
   -- marks model one set only, as far as there are states
-  pub models-unique : (x : Nested A) (marks X Y : States) → Models x marks X → Models x marks Y → (q : State) → Has x q → X (origin x q) ↔ Y (origin x q)
+  pub models-unique : (x : Nested A) (marks X Y : States) → Models x marks X → Models x marks Y → (q : State) → Has x q
+      → X (origin x q) ↔ Y (origin x q)
   models-unique x marks X Y first second q has = Iff·trans (Iff·symm (first q has)) (second q has)
 
-  pub models-unique-set : (x : Nested A) (marks X Y : States) → Models x marks X → Models x marks Y → (p : State) → State-of (whole x) p → X p ↔ Y p
-  models-unique-set x marks X Y first second p is = let (q, has, stands) = origin-onto x p is in rw stands at (models-unique x marks X Y first second q has)
+  pub models-unique-set : (x : Nested A) (marks X Y : States) → Models x marks X → Models x marks Y → (p : State)
+      → State-of (whole x) p → X p ↔ Y p
+  models-unique-set x marks X Y first second p is = let (q, has, stands) =
+      origin-onto x p is in rw stands at (models-unique x marks X Y first second q has)
 
   -- states of the cut automaton that are one state are marked alike, where the marks model a set
-  pub models-alike : (x : Nested A) (marks X : States) → Models x marks X → (p q : State) → Has x p → Has x q → origin x p ≡ origin x q → marks p → marks q
+  pub models-alike : (x : Nested A) (marks X : States) → Models x marks X → (p q : State) → Has x p → Has x q
+      → origin x p ≡ origin x q → marks p → marks q
   models-alike x marks X models p q has-p has-q same m = models q has-q .1 (rw same at (models p has-p .0 m))
 
   -- and where they are, the marks model a set: that of the origins of the marked states
-  pub alike-models : (x : Nested A) (marks : States) → ((p q : State) → Has x p → Has x q → origin x p ≡ origin x q → marks p → marks q) →
+  pub alike-models : (x : Nested A) (marks : States)
+      → ((p q : State) → Has x p → Has x q → origin x p ≡ origin x q → marks p → marks q) →
       Models x marks (λ p. (q : State) × Has x q × (origin x q ≡ p) × marks q)
   alike-models x marks alike q has = (λ m. (q, has, refl, m), λ (o, is, same, m). alike o q is has same m)
 
   -- a set of states that there are, which marks model, is that of the origins of the marked states
-  pub models-origins : (x : Nested A) (marks X : States) → Models x marks X → X ⊆ State-of (whole x) → (p : State) → X p ↔ ((q : State) × Has x q × (origin x q ≡ p) × marks q)
+  pub models-origins : (x : Nested A) (marks X : States) → Models x marks X → X ⊆ State-of (whole x) → (p : State)
+      → X p ↔ ((q : State) × Has x q × (origin x q ≡ p) × marks q)
   models-origins x marks X models states p = (
     λ m. let (q, has, stands) = origin-onto x p (states p m) in (q, has, stands, models q has .1 (rw stands m)),
     λ (q, has, stands, m). rw stands at (models q has .0 m),

@@ -15,9 +15,9 @@ pub data Nested (A : Type 0) : Type 0 where
   below : Nested A → Nested A
 
 -- a leaf of a piece's own tree: one of the tree's leaves, or the stand-in of a child piece
-pub data Leaf (A : Type 0) : Type 0 where
-  given : A → Leaf A
-  stand-in : Leaf A
+pub data Own-leaf (A : Type 0) : Type 0 where
+  given : A → Own-leaf A
+  stand-in : Own-leaf A
 
 -- the tree with no edge cut
 abbrev pub whole : {A : Type 0} → Nested A → Tree A
@@ -28,7 +28,7 @@ whole (star x) = Tree.star (whole x)
 whole (below x) = whole x
 
 -- the top piece's own tree: its nodes, with a stand-in leaf for each child piece
-abbrev pub own : {A : Type 0} → Nested A → Tree (Leaf A)
+abbrev pub own : {A : Type 0} → Nested A → Tree (Own-leaf A)
 own (leaf a) = Tree.leaf (given a)
 own (catenation x y) = Tree.catenation (own x) (own y)
 own (union x y) = Tree.union (own x) (own y)
@@ -65,7 +65,8 @@ origin (star x) (right q) = right q
 origin (below x) (left q) = origin x q
 origin (below x) (right q) = right q
 
--- marks of the cut automaton model a set of states of the uncut one: each state is marked exactly when the state that it is lies in the set
+-- marks of the cut automaton model a set of states of the uncut one: each state is marked exactly when the state that
+-- it is lies in the set
 abbrev pub Models : {A : Type 0} → Nested A → States → States → Type 0
 Models x marks X = (q : State) → Has x q → marks q ↔ X (origin x q)
 
@@ -88,11 +89,13 @@ module _ {A : Type 0} (Takes : A → ℕ → Type 0) (b : ℕ) where
 abbrev pub Down : (State → State) → States → States
 Down e marks p = marks (e (left p)) ⊎ ((p ≡ start) × marks (e start))
 
--- the marks with those of the child piece at e become `child`, and the stand-in's accepting state marked where the child's is
+-- the marks with those of the child piece at e become `child`, and the stand-in's accepting state marked where the
+-- child's is
 abbrev pub Up : (State → State) → States → States → States
 Up e child marks q = marks q ⊎ (((p : State) × (q ≡ e (left p)) × child p) ⊎ ((q ≡ e accepting) × child accepting))
 
--- go through the child pieces below x from left to right: pass a marked start down, sweep the child, pass a marked accepting state up, close the piece again.
+-- go through the child pieces below x from left to right: pass a marked start down, sweep the child, pass a marked
+-- accepting state up, close the piece again.
 -- x stands at e in its piece, and `close` closes the piece
 abbrev pub Visit : {A : Type 0} → Nested A → (State → State) → (States → States) → States → States
 Visit (leaf a) e close marks = marks

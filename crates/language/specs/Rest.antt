@@ -6,7 +6,23 @@ use mathlib.Core.List.{List, [], _∷_, _++_}
 use mathlib.Core.Logic.{inl, inr}
 use Rattle.language.specs.Tree.{Tree, leaf, catenation, union, star}
 use Rattle.language.specs.Language.{Language, Repeated, none, more}
-use Rattle.language.specs.Automaton.{State, start, accepting, left, right, States, Empty, Reads, Path-of, here, step, Started, Stepped, After, Accepts}
+use Rattle.language.specs.Automaton.{
+  State,
+  start,
+  accepting,
+  left,
+  right,
+  States,
+  Empty,
+  Reads,
+  Path-of,
+  here,
+  step,
+  Started,
+  Stepped,
+  After,
+  Accepts,
+}
 
 -- a text of L before one of M
 abbrev pub Joined : (List ℕ → Type 0) → (List ℕ → Type 0) → List ℕ → Type 0
@@ -52,11 +68,13 @@ module _ {A : Type 0} (Takes : A → ℕ → Type 0) where
   -- what a transition reading b ends in, its beginning has too, after b
   rest-reads : {t : Tree A} {b : ℕ} {p q : State} → Reads Takes b t p q → (w : List ℕ) → Rest t q w → Rest t p (b ∷ w)
   rest-reads {b} (Reads.at-leaf takes) w r = (b, ap (λ (v : List ℕ). b ∷ v) r, takes)
-  rest-reads {b} (Reads.catenation-left e) w r = (b ∷ r .0, r .1, ap (λ (v : List ℕ). b ∷ v) (r .2), rest-reads e (r .0) (r .3), r .4)
+  rest-reads {b} (Reads.catenation-left e) w r =
+      (b ∷ r .0, r .1, ap (λ (v : List ℕ). b ∷ v) (r .2), rest-reads e (r .0) (r .3), r .4)
   rest-reads (Reads.catenation-right e) w r = rest-reads e w r
   rest-reads (Reads.union-left e) w r = rest-reads e w r
   rest-reads (Reads.union-right e) w r = rest-reads e w r
-  rest-reads {b} (Reads.star-inside e) w r = (b ∷ r .0, r .1, ap (λ (v : List ℕ). b ∷ v) (r .2), rest-reads e (r .0) (r .3), r .4)
+  rest-reads {b} (Reads.star-inside e) w r =
+      (b ∷ r .0, r .1, ap (λ (v : List ℕ). b ∷ v) (r .2), rest-reads e (r .0) (r .3), r .4)
 
   -- a path of empty transitions likewise
   pub rest-path : {t : Tree A} {p q : State} → Path-of (Empty t) p q → (w : List ℕ) → Rest t q w → Rest t p w

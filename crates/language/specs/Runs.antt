@@ -6,7 +6,19 @@ use mathlib.Core.List.{List, [], _∷_, _++_}
 use mathlib.Core.Logic.{inl, inr}
 use Rattle.language.specs.Tree.{Tree, leaf, catenation, union, star}
 use Rattle.language.specs.Language.{Language, Repeated, none, more}
-use Rattle.language.specs.Automaton.{State, start, accepting, left, right, States, Empty, Reads, Moved, After, Accepts}
+use Rattle.language.specs.Automaton.{
+  State,
+  start,
+  accepting,
+  left,
+  right,
+  States,
+  Empty,
+  Reads,
+  Moved,
+  After,
+  Accepts,
+}
 use Rattle.language.specs.Simulation.{Settled-by, closed-keeps, closed-settled}
 
 module _ {A : Type 0} (Takes : A → ℕ → Type 0) where
@@ -34,7 +46,8 @@ module _ {A : Type 0} (Takes : A → ℕ → Type 0) where
     readings : (b : ℕ) (p q : State) → Reads Takes b s p q → Reads Takes b t (e p) (e q)
 
   -- so its runs are runs of t
-  run-within : {s t : Tree A} {e : State → State} {p q : State} {w : List ℕ} → Within s t e → Run s p w q → Run t (e p) w (e q)
+  run-within : {s t : Tree A} {e : State → State} {p q : State} {w : List ℕ} → Within s t e → Run s p w q
+      → Run t (e p) w (e q)
   run-within i done = done
   run-within i (empty {p} {q} e run) = empty (i .empties p q e) (run-within i run)
   run-within i (reads {b} {p} {q} e run) = reads (i .readings b p q e) (run-within i run)
@@ -43,7 +56,8 @@ module _ {A : Type 0} (Takes : A → ℕ → Type 0) where
   in-catenation-left s t = record { empties = λ p q. Empty.catenation-left; readings = λ b p q. Reads.catenation-left }
 
   in-catenation-right : (s t : Tree A) → Within t (catenation s t) right
-  in-catenation-right s t = record { empties = λ p q. Empty.catenation-right; readings = λ b p q. Reads.catenation-right }
+  in-catenation-right s t =
+      record { empties = λ p q. Empty.catenation-right; readings = λ b p q. Reads.catenation-right }
 
   in-union-left : (s t : Tree A) → Within s (union s t) left
   in-union-left s t = record { empties = λ p q. Empty.union-left; readings = λ b p q. Reads.union-left }
@@ -55,14 +69,18 @@ module _ {A : Type 0} (Takes : A → ℕ → Type 0) where
   in-star s = record { empties = λ p q. Empty.star-inside; readings = λ b p q. Reads.star-inside }
 
   -- through a child: in, a run of the child, out
-  through : {s t : Tree A} {e : State → State} {p q : State} {w : List ℕ} → Within s t e → Empty t p (e start) → Run s start w accepting → Empty t (e accepting) q → Run t p w q
+  through : {s t : Tree A} {e : State → State} {p q : State} {w : List ℕ} → Within s t e → Empty t p (e start)
+      → Run s start w accepting → Empty t (e accepting) q → Run t p w q
   through i enter run leave = empty enter (run-out (run-within i run) leave)
 
   -- round a star: from where one can enter or leave it, a run for each text joined
   round : (s : Tree A) → ((w : List ℕ) → Language Takes s w → Run s start w accepting) → (p : State) →
-      Empty (star s) p (left start) → Empty (star s) p accepting → {w : List ℕ} → Repeated (Language Takes s) w → Run (star s) p w accepting
+      Empty (star s) p (left start) → Empty (star s) p accepting → {w : List ℕ} → Repeated (Language Takes s) w
+      → Run (star s) p w accepting
   round s runs p enter leave none = empty leave done
-  round s runs p enter leave (more {u} l rest) = run-then (empty enter (run-within (in-star s) (runs u l))) (round s runs (left accepting) Empty.star-back Empty.star-out rest)
+  round s runs p enter leave (more {u} l rest) =
+      run-then (empty enter (run-within (in-star s) (runs u l)))
+      (round s runs (left accepting) Empty.star-back Empty.star-out rest)
 
   -- each text of the language has a run from the start to the accepting state
   pub language-run : (t : Tree A) (w : List ℕ) → Language Takes t w → Run t start w accepting
@@ -71,15 +89,19 @@ module _ {A : Type 0} (Takes : A → ℕ → Type 0) where
       rw joined (run-then
       (through (in-catenation-left s t) Empty.catenation-in (language-run s u first) Empty.catenation-over)
       (run-out (run-within (in-catenation-right s t) (language-run t v second)) Empty.catenation-out))
-  language-run (union s t) w (inl l) = through (in-union-left s t) Empty.union-in-left (language-run s w l) Empty.union-out-left
-  language-run (union s t) w (inr l) = through (in-union-right s t) Empty.union-in-right (language-run t w l) Empty.union-out-right
+  language-run (union s t) w (inl l) = through (in-union-left s t) Empty.union-in-left (language-run s w l)
+      Empty.union-out-left
+  language-run (union s t) w (inr l) = through (in-union-right s t) Empty.union-in-right (language-run t w l)
+      Empty.union-out-right
   language-run (star s) w l = round s (language-run s) start Empty.star-in Empty.star-past l
 
   -- a run from marks that are closed is followed by the simulation
-  pub run-after : {t : Tree A} {p q : State} {w : List ℕ} {X : States} → Settled-by (Empty t) X → X p → Run t p w q → After Takes t w X q
+  pub run-after : {t : Tree A} {p q : State} {w : List ℕ} {X : States} → Settled-by (Empty t) X → X p → Run t p w q
+      → After Takes t w X q
   run-after settled x done = x
   run-after settled x (empty {p} {q} e run) = run-after settled (settled p q e x) run
-  run-after {t} {X} settled x (reads {b} {p} {q} e run) = run-after (closed-settled t _) (closed-keeps t (Moved Takes t b X) q (p, x, e)) run
+  run-after {t} {X} settled x (reads {b} {p} {q} e run) =
+      run-after (closed-settled t _) (closed-keeps t (Moved Takes t b X) q (p, x, e)) run
 
   -- what lies in the language is accepted: follow its run from the closed start
   pub language-accepted : (t : Tree A) (w : List ℕ) → Language Takes t w → Accepts Takes t w

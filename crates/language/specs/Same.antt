@@ -1,11 +1,28 @@
--- Marks matter only at the states that there are: moves and sweeps make marks that agree there of marks that agree there.
+-- Marks matter only at the states that there are: moves and sweeps make marks that agree there of marks that agree
+-- there.
 -- Assumes nothing.
 use Prim.Native.Nat.{ℕ}
 use mathlib.Core.Path.{_≡_}
 use mathlib.Core.Logic.{_↔_, Iff·rfl, Iff·trans, inl, inr}
 use Rattle.language.specs.Tree.{Tree}
 use Rattle.language.specs.Automaton.{State, start, accepting, left, right, States, Empty, here, step, Closed}
-use Rattle.language.specs.Nested.{Nested, leaf, catenation, union, star, below, Leaf, own, Has, Models, Move, Down, Up, Visit, Sweep}
+use Rattle.language.specs.Nested.{
+  Nested,
+  leaf,
+  catenation,
+  union,
+  star,
+  below,
+  Own-leaf,
+  own,
+  Has,
+  Models,
+  Move,
+  Down,
+  Up,
+  Visit,
+  Sweep,
+}
 use Rattle.language.specs.Copies.{reading-reads}
 
 -- what Y marks in D, Z marks too
@@ -17,15 +34,18 @@ abbrev pub Agree : {A : Type 0} → Nested A → States → States → Type 0
 Agree x Y Z = (q : State) → Has x q → Y q ↔ Z q
 
 -- passing down makes more of more
-down-more-in : (e : State → State) (D Y Z : States) → More-in D (λ p. Y (e (left p))) (λ p. Z (e (left p))) → (Y (e start) → Z (e start)) → More-in D (Down e Y) (Down e Z)
+down-more-in : (e : State → State) (D Y Z : States) → More-in D (λ p. Y (e (left p))) (λ p. Z (e (left p)))
+    → (Y (e start) → Z (e start)) → More-in D (Down e Y) (Down e Z)
 down-more-in e D Y Z more above p d (inl m) = inl (more p d m)
 down-more-in e D Y Z more above p d (inr (begins, m)) = inr (begins, above m)
 
 -- passing up likewise
 pub up-more-in : (e : State → State) (below-Y below-Z Y Z : States) (q : State) →
-    (Y q → Z q) → More-in (λ p. q ≡ e (left p)) below-Y below-Z → (below-Y accepting → below-Z accepting) → Up e below-Y Y q → Up e below-Z Z q
+    (Y q → Z q) → More-in (λ p. q ≡ e (left p)) below-Y below-Z → (below-Y accepting → below-Z accepting)
+    → Up e below-Y Y q → Up e below-Z Z q
 up-more-in e below-Y below-Z Y Z q more child accepts (inl m) = inl (more m)
-up-more-in e below-Y below-Z Y Z q more child accepts (inr (inl (p, stands, m))) = inr (inl (p, stands, child p stands m))
+up-more-in e below-Y below-Z Y Z q more child accepts (inr (inl (p, stands, m))) =
+    inr (inl (p, stands, child p stands m))
 up-more-in e below-Y below-Z Y Z q more child accepts (inr (inr (stands, m))) = inr (inr (stands, accepts m))
 
 module _ {A : Type 0} where
@@ -49,38 +69,56 @@ module _ {A : Type 0} where
   own-has (star x) (left p) (left q) (Empty.star-inside e) = own-has x p q e
 
   -- more marks within D close to more within D, where each transition begins in D
-  pub closed-more-in : (r : Tree (Leaf A)) (D Y Z : States) → ((p q : State) → Empty r p q → D p) → More-in D Y Z → More-in D (Closed r Y) (Closed r Z)
+  pub closed-more-in : (r : Tree (Own-leaf A)) (D Y Z : States) → ((p q : State) → Empty r p q → D p) → More-in D Y Z
+      → More-in D (Closed r Y) (Closed r Z)
   closed-more-in r D Y Z begins more q d (p, m, here) = (p, more p d m, here)
   closed-more-in r D Y Z begins more q d (p, m, step e path) = (p, more p (begins _ _ e) m, step e path)
 
-  -- more marks within D come to more within D when the child pieces below x are gone through; x stands at e, where D has its states
-  pub visit-more-in : (r : Tree (Leaf A)) (x : Nested A) (e : State → State) (D Y Z : States) → ((p q : State) → Empty r p q → D p) → ((p : State) → D (e p) ↔ Has x p) →
+  -- more marks within D come to more within D when the child pieces below x are gone through; x stands at e, where D
+  -- has its states
+  pub visit-more-in : (r : Tree (Own-leaf A)) (x : Nested A) (e : State → State) (D Y Z : States)
+      → ((p q : State) → Empty r p q → D p) → ((p : State) → D (e p) ↔ Has x p) →
       More-in D Y Z → More-in D (Visit x e (Closed r) Y) (Visit x e (Closed r) Z)
   visit-more-in r (leaf a) e D Y Z begins states more = more
-  visit-more-in r (catenation x y) e D Y Z begins states more = visit-more-in r y _ D _ _ begins (λ p. states (right p)) (visit-more-in r x _ D Y Z begins (λ p. states (left p)) more)
-  visit-more-in r (union x y) e D Y Z begins states more = visit-more-in r y _ D _ _ begins (λ p. states (right p)) (visit-more-in r x _ D Y Z begins (λ p. states (left p)) more)
+  visit-more-in r (catenation x y) e D Y Z begins states more =
+      visit-more-in r y _ D _ _ begins (λ p. states (right p))
+      (visit-more-in r x _ D Y Z begins (λ p. states (left p)) more)
+  visit-more-in r (union x y) e D Y Z begins states more =
+      visit-more-in r y _ D _ _ begins (λ p. states (right p))
+      (visit-more-in r x _ D Y Z begins (λ p. states (left p)) more)
   visit-more-in r (star x) e D Y Z begins states more = visit-more-in r x _ D Y Z begins (λ p. states (left p)) more
   visit-more-in r (below x) e D Y Z begins states more =
-      let down : More-in (Has x) (Down e Y) (Down e Z) = down-more-in e (Has x) Y Z (λ p h. more _ (states (left p) .1 h)) (more _ (states start .1 tt)) in
-      let child : More-in (Has x) (Sweep x (Down e Y)) (Sweep x (Down e Z)) = visit-more-in (own x) x (λ p. p) (Has x) _ _ (own-has x) (λ p. Iff·rfl) (closed-more-in (own x) (Has x) _ _ (own-has x) down) in
-      closed-more-in r D _ _ begins (λ q d. up-more-in e _ _ Y Z q (more q d) (λ p stands. child p (states (left p) .0 (rw stands at d))) (child accepting tt))
+      let down : More-in (Has x) (Down e Y) (Down e Z) =
+      down-more-in e (Has x) Y Z (λ p h. more _ (states (left p) .1 h)) (more _ (states start .1 tt)) in
+      let child : More-in (Has x) (Sweep x (Down e Y)) (Sweep x (Down e Z)) =
+      visit-more-in (own x) x (λ p. p) (Has x) _ _ (own-has x) (λ p. Iff·rfl)
+      (closed-more-in (own x) (Has x) _ _ (own-has x) down) in
+      closed-more-in r D _ _ begins
+      (λ q d. up-more-in e _ _ Y Z q (more q d) (λ p stands. child p (states (left p) .0 (rw stands at d)))
+      (child accepting tt))
 
   -- a sweep makes more marks at the states that there are of more marks at these
   pub sweep-more : (x : Nested A) {Y Z : States} → More-in (Has x) Y Z → More-in (Has x) (Sweep x Y) (Sweep x Z)
-  sweep-more x more = visit-more-in (own x) x (λ p. p) (Has x) _ _ (own-has x) (λ p. Iff·rfl) (closed-more-in (own x) (Has x) _ _ (own-has x) more)
+  sweep-more x more = visit-more-in (own x) x (λ p. p) (Has x) _ _ (own-has x) (λ p. Iff·rfl)
+      (closed-more-in (own x) (Has x) _ _ (own-has x) more)
 
   -- so marks that agree are swept to marks that agree
   pub sweep-same : (x : Nested A) {Y Z : States} → Agree x Y Z → Agree x (Sweep x Y) (Sweep x Z)
   sweep-same x same q has = (sweep-more x (λ p h. same p h .0) q has, sweep-more x (λ p h. same p h .1) q has)
 
   -- two sweeps, of which no more is known than what agrees with them
-  pub sweeps-same : (x : Nested A) {Y Z once twice : States} → Agree x Y Z → Agree x once (Sweep x Y) → Agree x twice (Sweep x once) → Agree x twice (Sweep x (Sweep x Z))
-  sweeps-same x same first second q has = Iff·trans (second q has) (Iff·trans (sweep-same x first q has) (sweep-same x (sweep-same x same) q has))
+  pub sweeps-same : (x : Nested A) {Y Z once twice : States} → Agree x Y Z → Agree x once (Sweep x Y)
+      → Agree x twice (Sweep x once) → Agree x twice (Sweep x (Sweep x Z))
+  sweeps-same x same first second q has =
+      Iff·trans (second q has) (Iff·trans (sweep-same x first q has) (sweep-same x (sweep-same x same) q has))
 
   -- marks that agree move alike
-  pub move-same : (Takes : A → ℕ → Type 0) (b : ℕ) (x : Nested A) {Y Z : States} → Agree x Y Z → (q : State) → Move Takes b x Y q ↔ Move Takes b x Z q
-  move-same Takes b x same q =
-      (λ (p, m, r). (p, same p (reading-reads Takes b r .0) .0 m, r), λ (p, m, r). (p, same p (reading-reads Takes b r .0) .1 m, r))
+  pub move-same : (Takes : A → ℕ → Type 0) (b : ℕ) (x : Nested A) {Y Z : States} → Agree x Y Z → (q : State)
+      → Move Takes b x Y q ↔ Move Takes b x Z q
+  move-same Takes b x same q = (
+    λ (p, m, r). (p, same p (reading-reads Takes b r .0) .0 m, r),
+    λ (p, m, r). (p, same p (reading-reads Takes b r .0) .1 m, r),
+  )
 
   -- marks that agree model the same sets
   pub models-same : (x : Nested A) (X : States) {Y Z : States} → Agree x Y Z → Models x Z X → Models x Y X

@@ -1,11 +1,13 @@
--- The sets of marks that the cut automaton adds nothing to: settled under each piece's empty transitions, passing down and passing up.
+-- The sets of marks that the cut automaton adds nothing to: settled under each piece's empty transitions, passing down
+-- and passing up.
 -- Assumes nothing.
 use mathlib.Core.Logic.{_↔_}
 use Rattle.language.specs.Automaton.{State, start, accepting, left, right, States, Empty}
 use Rattle.language.specs.Nested.{Nested, leaf, catenation, union, star, below, own}
 use Rattle.language.specs.Simulation.{Settled-by}
 
--- the empty transitions that the topmost node brings; a stand-in and the child piece below it are joined by passing down and passing up
+-- the empty transitions that the topmost node brings; a stand-in and the child piece below it are joined by passing
+-- down and passing up
 pub data Wire {A : Type 0} : Nested A → State → State → Type 0 where
   catenation-in : {x y : Nested A} → Wire (catenation x y) start (left start)
   catenation-over : {x y : Nested A} → Wire (catenation x y) (left accepting) (right start)
@@ -24,29 +26,42 @@ pub data Wire {A : Type 0} : Nested A → State → State → Type 0 where
 -- Z is settled under every transition of the cut automaton
 abbrev pub Settled : {A : Type 0} → Nested A → States → Type 0
 Settled (leaf a) Z = Unit {0}
-Settled (catenation x y) Z = Settled-by (Wire (catenation x y)) Z × Settled x (λ p. Z (left p)) × Settled y (λ p. Z (right p))
+Settled (catenation x y) Z = Settled-by (Wire (catenation x y)) Z × Settled x (λ p. Z (left p))
+    × Settled y (λ p. Z (right p))
 Settled (union x y) Z = Settled-by (Wire (union x y)) Z × Settled x (λ p. Z (left p)) × Settled y (λ p. Z (right p))
 Settled (star x) Z = Settled-by (Wire (star x)) Z × Settled x (λ p. Z (left p))
 Settled (below x) Z = Settled-by (Wire (below x)) Z × Settled x (λ p. Z (left p))
 
 -- a set with the same marks is settled too
-settled-by-same : (R : State → State → Type 0) {Y Z : States} → ((q : State) → Y q ↔ Z q) → Settled-by R Y → Settled-by R Z
+settled-by-same : (R : State → State → Type 0) {Y Z : States} → ((q : State) → Y q ↔ Z q) → Settled-by R Y
+    → Settled-by R Z
 settled-by-same R same settled p q r z = same q .0 (settled p q r (same p .1 z))
 
 pub settled-same : {A : Type 0} (x : Nested A) {Y Z : States} → ((q : State) → Y q ↔ Z q) → Settled x Y → Settled x Z
 settled-same (leaf a) same s = tt
-settled-same (catenation x y) same s = (settled-by-same (Wire (catenation x y)) same (s .0), settled-same x (λ q. same (left q)) (s .1), settled-same y (λ q. same (right q)) (s .2))
-settled-same (union x y) same s = (settled-by-same (Wire (union x y)) same (s .0), settled-same x (λ q. same (left q)) (s .1), settled-same y (λ q. same (right q)) (s .2))
+settled-same (catenation x y) same s = (
+  settled-by-same (Wire (catenation x y)) same (s .0),
+  settled-same x (λ q. same (left q)) (s .1),
+  settled-same y (λ q. same (right q)) (s .2),
+)
+settled-same (union x y) same s = (
+  settled-by-same (Wire (union x y)) same (s .0),
+  settled-same x (λ q. same (left q)) (s .1),
+  settled-same y (λ q. same (right q)) (s .2),
+)
 settled-same (star x) same s = (settled-by-same (Wire (star x)) same (s .0), settled-same x (λ q. same (left q)) (s .1))
-settled-same (below x) same s = (settled-by-same (Wire (below x)) same (s .0), settled-same x (λ q. same (left q)) (s .1))
+settled-same (below x) same s =
+    (settled-by-same (Wire (below x)) same (s .0), settled-same x (λ q. same (left q)) (s .1))
 
 -- what is settled is settled under the top piece's own empty transitions
 pub settled-own : {A : Type 0} (x : Nested A) (Z : States) → Settled x Z → Settled-by (Empty (own x)) Z
 settled-own (catenation x y) Z s p q Empty.catenation-in = s .0 p q Wire.catenation-in
 settled-own (catenation x y) Z s p q Empty.catenation-over = s .0 p q Wire.catenation-over
 settled-own (catenation x y) Z s p q Empty.catenation-out = s .0 p q Wire.catenation-out
-settled-own (catenation x y) Z s (left p) (left q) (Empty.catenation-left e) = settled-own x (λ p. Z (left p)) (s .1) p q e
-settled-own (catenation x y) Z s (right p) (right q) (Empty.catenation-right e) = settled-own y (λ p. Z (right p)) (s .2) p q e
+settled-own (catenation x y) Z s (left p) (left q) (Empty.catenation-left e) =
+    settled-own x (λ p. Z (left p)) (s .1) p q e
+settled-own (catenation x y) Z s (right p) (right q) (Empty.catenation-right e) =
+    settled-own y (λ p. Z (right p)) (s .2) p q e
 settled-own (union x y) Z s p q Empty.union-in-left = s .0 p q Wire.union-in-left
 settled-own (union x y) Z s p q Empty.union-in-right = s .0 p q Wire.union-in-right
 settled-own (union x y) Z s p q Empty.union-out-left = s .0 p q Wire.union-out-left

@@ -1,4 +1,5 @@
--- The plain simulation as a function of its marks: more marks give more, the same marks give the same, and no mark gives none.
+-- The plain simulation as a function of its marks: more marks give more, the same marks give the same, and no mark
+-- gives none.
 -- Assumes nothing.
 use Prim.Native.Nat.{ℕ}
 use mathlib.Core.List.{List, [], _∷_}
@@ -53,7 +54,8 @@ module _ {A : Type 0} (Takes : A → ℕ → Type 0) (t : Tree A) where
   after-more (b ∷ w) more = after-more w (stepped-more b more)
 
   -- the same marks come to the same after a text
-  pub after-same : (w : List ℕ) {X Y : States} → ((p : State) → X p ↔ Y p) → (p : State) → After Takes t w X p ↔ After Takes t w Y p
+  pub after-same : (w : List ℕ) {X Y : States} → ((p : State) → X p ↔ Y p) → (p : State)
+      → After Takes t w X p ↔ After Takes t w Y p
   after-same w same p = (after-more w (λ q. same q .0) p, after-more w (λ q. same q .1) p)
 
   -- no mark stays no mark

@@ -25,16 +25,23 @@ module _ {A : Type 0} where
   wire-has Wire.pass-down = (tt, tt)
   wire-has Wire.pass-up = (tt, tt)
 
-  wires-agree : (x : Nested A) {Y Z : States} → Agree x Y Z → ((p q : State) → Wire x p q → Y p → Y q) → (p q : State) → Wire x p q → Z p → Z q
+  wires-agree : (x : Nested A) {Y Z : States} → Agree x Y Z → ((p q : State) → Wire x p q → Y p → Y q) → (p q : State)
+      → Wire x p q → Z p → Z q
   wires-agree x same settled p q r z = same q (wire-has r .1) .0 (settled p q r (same p (wire-has r .0) .1 z))
 
   -- marks that agree with settled ones at the states that there are, are settled
   pub settled-agree : (x : Nested A) {Y Z : States} → Agree x Y Z → Settled x Y → Settled x Z
   settled-agree (leaf a) same s = tt
-  settled-agree (catenation x y) same s =
-      (wires-agree (catenation x y) same (s .0), settled-agree x (λ q. same (left q)) (s .1), settled-agree y (λ q. same (right q)) (s .2))
-  settled-agree (union x y) same s =
-      (wires-agree (union x y) same (s .0), settled-agree x (λ q. same (left q)) (s .1), settled-agree y (λ q. same (right q)) (s .2))
+  settled-agree (catenation x y) same s = (
+    wires-agree (catenation x y) same (s .0),
+    settled-agree x (λ q. same (left q)) (s .1),
+    settled-agree y (λ q. same (right q)) (s .2),
+  )
+  settled-agree (union x y) same s = (
+    wires-agree (union x y) same (s .0),
+    settled-agree x (λ q. same (left q)) (s .1),
+    settled-agree y (λ q. same (right q)) (s .2),
+  )
   settled-agree (star x) same s = (wires-agree (star x) same (s .0), settled-agree x (λ q. same (left q)) (s .1))
   settled-agree (below x) same s = (wires-agree (below x) same (s .0), settled-agree x (λ q. same (left q)) (s .1))
 
@@ -48,8 +55,11 @@ module _ {A : Type 0} where
 
   -- a sweep changes nothing where the marks are settled
   pub sweep-settled : (x : Nested A) (M : States) → Settled x M → (q : State) → Sweep x M q ↔ M q
-  sweep-settled x M settled q = (sweep-within x M M settled (λ p m. m) q, λ m. sweep-walked x M q (walked-keeps x M q m))
+  sweep-settled x M settled q =
+      (sweep-within x M M settled (λ p m. m) q, λ m. sweep-walked x M q (walked-keeps x M q m))
 
   -- and makes no marks of none
-  pub sweep-none : (x : Nested A) (M : States) → ((q : State) → Has x q → M q → ⊥) → (q : State) → Has x q → Sweep x M q → ⊥
-  sweep-none x M none q has m = sweep-within x (λ p. ⊥) (λ p. ⊥) (settled-none x) (λ p n. n) q (sweep-more x {Y = M} {Z = λ p. ⊥} none q has m)
+  pub sweep-none : (x : Nested A) (M : States) → ((q : State) → Has x q → M q → ⊥) → (q : State) → Has x q → Sweep x M q
+      → ⊥
+  sweep-none x M none q has m =
+      sweep-within x (λ p. ⊥) (λ p. ⊥) (settled-none x) (λ p n. n) q (sweep-more x {Y = M} {Z = λ p. ⊥} none q has m)

@@ -1,4 +1,5 @@
--- One walk over the states of the cut automaton in their order, each star's backward transition taken once, after its operand.
+-- One walk over the states of the cut automaton in their order, each star's backward transition taken once, after its
+-- operand.
 -- Assumes nothing.
 use mathlib.Core.Logic.{_↔_, Iff·rfl, _⊎_, inl, inr, ⊎-elim, ⊎-map}
 use Rattle.language.specs.Automaton.{State, start, accepting, left, right, States}
@@ -95,23 +96,32 @@ Growing f = (X Y : States) → X ⊆ Y → f X ⊆ f Y
 first-more : {walk : States → States} → Growing walk → Growing (First walk)
 first-more growing X Y more = growing _ _ (entered-more (λ p. more (left p)) (more start))
 
-second-more : {walk : States → States} → Growing walk → {P Q : Type 0} → (P → Q) → (X Y : States) → X ⊆ Y → Second walk P X ⊆ Second walk Q Y
+second-more : {walk : States → States} → Growing walk → {P Q : Type 0} → (P → Q) → (X Y : States) → X ⊆ Y
+    → Second walk P X ⊆ Second walk Q Y
 second-more growing enter X Y more = growing _ _ (entered-more (λ p. more (right p)) enter)
 
 -- a walk makes more of more marks
 pub walked-more : {A : Type 0} (x : Nested A) → Growing (Walked x)
 walked-more (leaf a) X Y more q m = more q m
 walked-more (catenation x y) X Y more start m = more start m
-walked-more (catenation x y) X Y more accepting m = ⊎-map (more accepting) (second-more (walked-more y) (first-more (walked-more x) X Y more accepting) X Y more accepting) m
+walked-more (catenation x y) X Y more accepting m =
+    ⊎-map (more accepting) (second-more (walked-more y) (first-more (walked-more x) X Y more accepting) X Y more
+    accepting) m
 walked-more (catenation x y) X Y more (left q) m = first-more (walked-more x) X Y more q m
-walked-more (catenation x y) X Y more (right q) m = second-more (walked-more y) (first-more (walked-more x) X Y more accepting) X Y more q m
+walked-more (catenation x y) X Y more (right q) m =
+    second-more (walked-more y) (first-more (walked-more x) X Y more accepting) X Y more q m
 walked-more (union x y) X Y more start m = more start m
-walked-more (union x y) X Y more accepting m = ⊎-map (more accepting) (⊎-map (first-more (walked-more x) X Y more accepting) (second-more (walked-more y) (more start) X Y more accepting)) m
+walked-more (union x y) X Y more accepting m =
+    ⊎-map (more accepting)
+    (⊎-map (first-more (walked-more x) X Y more accepting)
+    (second-more (walked-more y) (more start) X Y more accepting)) m
 walked-more (union x y) X Y more (left q) m = first-more (walked-more x) X Y more q m
 walked-more (union x y) X Y more (right q) m = second-more (walked-more y) (more start) X Y more q m
 walked-more (star x) X Y more start m = more start m
-walked-more (star x) X Y more accepting m = ⊎-map (more accepting) (⊎-map (more start) (first-more (walked-more x) X Y more accepting)) m
-walked-more (star x) X Y more (left q) m = entered-more (first-more (walked-more x) X Y more) (first-more (walked-more x) X Y more accepting) q m
+walked-more (star x) X Y more accepting m =
+    ⊎-map (more accepting) (⊎-map (more start) (first-more (walked-more x) X Y more accepting)) m
+walked-more (star x) X Y more (left q) m =
+    entered-more (first-more (walked-more x) X Y more) (first-more (walked-more x) X Y more accepting) q m
 walked-more (star x) X Y more (right q) m = more (right q) m
 walked-more (below x) X Y more start m = more start m
 walked-more (below x) X Y more accepting m = ⊎-map (more accepting) (first-more (walked-more x) X Y more accepting) m

@@ -1,4 +1,5 @@
--- The row of a state as it is first made: the word of its transitions, its own bit, and the rows of the states ahead that they lead to.
+-- The row of a state as it is first made: the word of its transitions, its own bit, and the rows of the states ahead
+-- that they lead to.
 -- Assumes nothing.
 use Prim.Native.Nat.{ℕ, _+_, _-_, _/_, _%_, _^_, _<_}
 use mathlib.Core.Path.{_≡_, refl, sym, ap, _∙_, subst}
@@ -12,14 +13,17 @@ use Rattle.tables.specs.Words.{Bit}
 use Rattle.marks.specs.Bits.{bit-or, bit-with, bit-zero, bit-below}
 use Rattle.marks.specs.LowestBit.{Lowest}
 
--- the row w of the state k: `left` has the bits, counted from k on, of the states ahead whose rows are still to be joined
+-- the row w of the state k: `left` has the bits, counted from k on, of the states ahead whose rows are still to be
+-- joined
 pub record Joined-ahead (table : List ℕ) (base k left w : ℕ) : Type 0 where
   pub inside : (j : ℕ) → Bit w j
-      → (Bit (getD table (base + k) 0) j ⊎ (j ≡ k)) ⊎ ((m : ℕ) × Bit (getD table (base + k) 0) (k + m) × Bit (getD table (base + (k + m)) 0) j)
+      → (Bit (getD table (base + k) 0) j ⊎ (j ≡ k))
+      ⊎ ((m : ℕ) × Bit (getD table (base + k) 0) (k + m) × Bit (getD table (base + (k + m)) 0) j)
   pub own : Bit w k
   pub kept : (j : ℕ) → Bit (getD table (base + k) 0) j → Bit w j
   pub to-join : (m : ℕ) → Bit left m → Bit (getD table (base + k) 0) (k + m)
-  pub joined : (m j : ℕ) → Bit (getD table (base + k) 0) (k + m) → Bit (getD table (base + (k + m)) 0) j → Bit left m ⊎ Bit w j
+  pub joined : (m j : ℕ) → Bit (getD table (base + k) 0) (k + m) → Bit (getD table (base + (k + m)) 0) j
+      → Bit left m ⊎ Bit w j
 
 -- at first no row is joined
 pub joined-none : (table : List ℕ) (base k w : ℕ) → w ≡ bitOr (getD table (base + k) 0) (2 ^ k)
@@ -33,7 +37,8 @@ joined-none table base k w e = record {
 }
   where
     bits : (j : ℕ) → Bit w j ↔ (Bit (getD table (base + k) 0) j ⊎ (j ≡ k))
-    bits j = subst (λ (v : ℕ). Bit v j ↔ (Bit (getD table (base + k) 0) j ⊎ (j ≡ k))) (sym e) (bit-with (getD table (base + k) 0) k j)
+    bits j = subst (λ (v : ℕ). Bit v j ↔ (Bit (getD table (base + k) 0) j ⊎ (j ≡ k))) (sym e)
+        (bit-with (getD table (base + k) 0) k j)
 
 -- the row of the nearest of those left is joined
 pub joined-more : {table : List ℕ} {base k left w s : ℕ} → Joined-ahead table base k left w → Lowest left s
@@ -53,11 +58,13 @@ joined-more {table} {base} {k} {left} {w} {s} so-far lowest = record {
     more j b = bit-or w _ j .1 (inl b)
 
 -- the nearest of those left is a bit of the state's word
-pub joined-below : {table : List ℕ} {base k left w s n : ℕ} → Joined-ahead table base k left w → Lowest left s → getD table (base + k) 0 < 2 ^ n → k + s < n
+pub joined-below : {table : List ℕ} {base k left w s n : ℕ} → Joined-ahead table base k left w → Lowest left s
+    → getD table (base + k) 0 < 2 ^ n → k + s < n
 joined-below {s = s} so-far lowest h = bit-below h (so-far .to-join s (lowest .is-set))
 
 -- at last none is left
-pub joined-ended : {table : List ℕ} {base k left w : ℕ} → left ≡ 0 → Joined-ahead table base k left w → Joined-ahead table base k 0 w
+pub joined-ended : {table : List ℕ} {base k left w : ℕ} → left ≡ 0 → Joined-ahead table base k left w
+    → Joined-ahead table base k 0 w
 joined-ended {table} {base} {k} {left} {w} e so-far = subst (λ (v : ℕ). Joined-ahead table base k v w) e so-far
 
 -- then the rows of all states ahead that the transitions lead to are joined

@@ -18,8 +18,11 @@ All-zero count words = (k : ℕ) → k < count → getD words k 0 ≡ 0
 -- no bit is set in words that are 0
 unlit : (s : Spot) (k m : ℕ) (words : List ℕ) → All-zero (1 + m) words → Within k m s → Held s words → ⊥
 unlit (own b) k m words zeros within held = bit-zero b (subst (λ (n : ℕ). Bit n b) (zeros 0 (omega arith)) held)
-unlit (under o b) k m words zeros within held = bit-zero b (subst (λ (n : ℕ). Bit n b) (zeros (suc o) (omega arith)) held)
+unlit (under o b) k m words zeros within held =
+    bit-zero b (subst (λ (n : ℕ). Bit n b) (zeros (suc o) (omega arith)) held)
 
 -- words that are 0 hold no mark
-pub zero-holds : {A : Type 0} (x : Nested A) (words : List ℕ) → All-zero (1 + run x) words → (q : State) → Has x q → Holds x words q → ⊥
-zero-holds x words zeros q has held = unlit (spot x q) (width x) (run x) words zeros (spot-within x q has) (holds-held x words q has .0 held)
+pub zero-holds : {A : Type 0} (x : Nested A) (words : List ℕ) → All-zero (1 + run x) words → (q : State) → Has x q
+    → Holds x words q → ⊥
+zero-holds x words zeros q has held = unlit (spot x q) (width x) (run x) words zeros (spot-within x q has)
+    (holds-held x words q has .0 held)

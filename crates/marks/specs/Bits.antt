@@ -1,4 +1,5 @@
--- The laws of bits that marks in words rest on: of no bits, of one bit, of two words joined, and that a word is its bits.
+-- The laws of bits that marks in words rest on: of no bits, of one bit, of two words joined, and that a word is its
+-- bits.
 -- Nothing else of words is used.
 -- Assumes nothing.
 use Prim.Native.Nat.{ℕ, zero, suc, _+_, _*_, _/_, _%_, _^_, _≤_, _<_, min, max}
@@ -108,11 +109,17 @@ below-of-bits n w h =
 -- two words with the same bits are equal
 pub same-bits : (v w : ℕ) → ((i : ℕ) → Bit v i ↔ Bit w i) → v ≡ w
 same-bits =
-    bin-ind (λ (v : ℕ). (w : ℕ) → ((i : ℕ) → Bit v i ↔ Bit w i) → v ≡ w) (λ w h. sym (no-bits w (λ i b. bit-zero i (h i .1 b))))
+    bin-ind (λ (v : ℕ). (w : ℕ) → ((i : ℕ) → Bit v i ↔ Bit w i) → v ≡ w)
+    (λ w h. sym (no-bits w (λ i b. bit-zero i (h i .1 b))))
     (λ v ih w h. omega (arith, halves v w h ih, parities v w (h 0)))
   where
-    halves : (v w : ℕ) → ((i : ℕ) → Bit v i ↔ Bit w i) → ((w : ℕ) → ((i : ℕ) → Bit (v / 2) i ↔ Bit w i) → v / 2 ≡ w) → v / 2 ≡ w / 2
-    halves v w h ih = ih (w / 2) (λ i. (λ b. bit-suc w i .0 (h (suc i) .0 (bit-suc v i .1 b)), λ b. bit-suc v i .0 (h (suc i) .1 (bit-suc w i .1 b))))
+    halves : (v w : ℕ) → ((i : ℕ) → Bit v i ↔ Bit w i) → ((w : ℕ) → ((i : ℕ) → Bit (v / 2) i ↔ Bit w i) → v / 2 ≡ w)
+        → v / 2 ≡ w / 2
+    halves v w h ih =
+        ih (w / 2) (λ i. (
+          λ b. bit-suc w i .0 (h (suc i) .0 (bit-suc v i .1 b)),
+          λ b. bit-suc v i .0 (h (suc i) .1 (bit-suc w i .1 b)),
+        ))
 
     parities : (v w : ℕ) → Bit v 0 ↔ Bit w 0 → v % 2 ≡ w % 2
     parities v w h = elim (dec-bit v 0) [

@@ -11,6 +11,7 @@ use Rattle.language.specs.Automaton.{start}
 use Rattle.language.specs.Nested.{Nested}
 use Rattle.language.specs.Settled.{Settled}
 use Rattle.language.specs.Unmoved.{settled-agree, settled-none, sweep-none}
+use Rattle.tree.specs.Leaf.{Leaf}
 use Rattle.tables.specs.Words.{Bit, width, run, Holds}
 use Rattle.tables.specs.Plan.{Closes}
 use Rattle.marks.specs.Bits.{dec-bit, bit-zero, same-bits}
@@ -22,12 +23,16 @@ use Rattle.marks.specs.Visiting.{own-holds, part-at, started-own, starte
 use Rattle.marks.specs.Reclosing.{closes-keeps}
 use Rattle.marks.specs.Chains.{Gone, Further, Visitable}
 
-module _ {reach runs stands tops : List ℕ} {x : Nested ℕ} {c : Child} {k at : ℕ} {words : List ℕ} (can : Visitable reach runs stands tops x c k at words) where
+module _ {reach runs stands tops : List ℕ} {x : Nested Leaf} {c : Child} {k at : ℕ} {words : List ℕ}
+    (can : Visitable reach runs stands tops x c k at words) where
   -- the own word with the accepting state passed up has no bit past the last state
-  raised-small : (after : List ℕ) → passed (getD after (c .from) 0) (width (c .tree) - 1) (getD words 0 0) (c .stand + 1) < 2 ^ width x
-  raised-small after = passed-below (getD after (c .from) 0) (width (c .tree) - 1) (getD words 0 0) (c .stand + 1) (width x) (can .own-clean) (can .inside)
+  raised-small : (after : List ℕ)
+      → passed (getD after (c .from) 0) (width (c .tree) - 1) (getD words 0 0) (c .stand + 1) < 2 ^ width x
+  raised-small after = passed-below (getD after (c .from) 0) (width (c .tree) - 1) (getD words 0 0) (c .stand + 1)
+      (width x) (can .own-clean) (can .inside)
 
-  module _ (after : List ℕ) (visited : Visited x c words after) (waiting waiting' : ℕ) (missed : Missed (getD words 0 0) (c .stand) waiting waiting')
+  module _ (after : List ℕ) (visited : Visited x c words after) (waiting waiting' : ℕ)
+      (missed : Missed (getD words 0 0) (c .stand) waiting waiting')
       (settled settled' : Bool) where
     -- what was gone through before stays as it was
     pub further : (settled' ≡ true → settled ≡ true) → Further words after waiting waiting' settled settled' at
@@ -53,24 +58,33 @@ module _ {reach runs stands tops : List ℕ} {x : Nested ℕ} {c : Child} {k at 
         in
         let kept : Holds (c .tree) (part c after) start =
         visited .swept .marks start tt .1
-        (sweep-extends (c .tree) (Holds (c .tree) (started c words)) start (own-holds (c .tree) (started c words) start tt tt .1 begun))
+        (sweep-extends (c .tree) (Holds (c .tree) (started c words)) start
+        (own-holds (c .tree) (started c words) start tt tt .1 begun))
         in
         subst (λ (w : ℕ). Bit w 0) first (own-holds (c .tree) (part c after) start tt tt .0 kept)
 
     -- and the child piece stands as one that was gone through
-    pub gone : (settled' ≡ true → Settled (c .tree) (Holds (c .tree) (part c after))) → Gone after waiting' settled' (at + (1 + run (c .tree))) c
+    pub gone : (settled' ≡ true → Settled (c .tree) (Holds (c .tree) (part c after)))
+        → Gone after waiting' settled' (at + (1 + run (c .tree))) c
     gone rests = record {
       behind = omega (arith, can .here);
       after-own = omega (arith, can .here, can .after-own);
-      started = elim (dec-bit (getD words 0 0) (c .stand)) [ yes b ↦ inl (started-down b) | no b ↦ inr (missed .one b) ];
+      started = elim (dec-bit (getD words 0 0) (c .stand)) [
+        | yes b ↦ inl (started-down b)
+        | no b
+            ↦ inr (missed .one b)
+      ];
       raised = λ b. closes-keeps (visited .closed) (raised-small after) (c .stand + 1)
-          (bit-passed (getD after (c .from) 0) (width (c .tree) - 1) (getD words 0 0) (c .stand + 1) (c .stand + 1) .1 (inr (refl, b)));
+          (bit-passed (getD after (c .from) 0) (width (c .tree) - 1) (getD words 0 0) (c .stand + 1) (c .stand + 1) .1
+          (inr (refl, b)));
       closed = visited .swept .each-closed;
       at-rest = rests;
     }
 
-module _ {reach runs stands tops : List ℕ} {x : Nested ℕ} {c : Child} {k at : ℕ} {words : List ℕ} (can : Visitable reach runs stands tops x c k at words)
-    (unmarked : Bit (getD words 0 0) (c .stand) → ⊥) (none : (o : ℕ) → o < 1 + run (c .tree) → getD words (at + o) 0 ≡ 0) where
+module _ {reach runs stands tops : List ℕ} {x : Nested Leaf} {c : Child} {k at : ℕ} {words : List ℕ}
+    (can : Visitable reach runs stands tops x c k at words)
+    (unmarked : Bit (getD words 0 0) (c .stand) → ⊥) (none : (o : ℕ) → o < 1 + run (c .tree)
+    → getD words (at + o) 0 ≡ 0) where
   zero-part : (o : ℕ) → o < 1 + run (c .tree) → getD (part c words) o 0 ≡ 0
   zero-part o l = part-at c words o l ∙ ap (λ (a : ℕ). getD words (a + o) 0) (can .here) ∙ none o l
 
@@ -80,7 +94,8 @@ module _ {reach runs stands tops : List ℕ} {x : Nested ℕ} {c : Child} {k at 
   -- no bit is passed down
   start-same : getD (started c words) 0 0 ≡ 0
   start-same = same-bits (getD (started c words) 0 0) 0 (λ i. (
-    λ b. absurd (⊎-elim (λ m. bit-zero i (subst (λ (w : ℕ). Bit w i) (zero-part 0 (omega arith)) m)) (λ m. unmarked (m .1))
+    λ b. absurd (⊎-elim (λ m. bit-zero i (subst (λ (w : ℕ). Bit w i) (zero-part 0 (omega arith)) m))
+        (λ m. unmarked (m .1))
         (bit-passed (getD words 0 0) (c .stand) (getD (part c words) 0 0) 0 i .0
         (subst (λ (w : ℕ). Bit w i) (started-own c words (omega (arith, can .here, can .room))) b))),
     λ b. absurd (bit-zero i b),
@@ -93,7 +108,9 @@ module _ {reach runs stands tops : List ℕ} {x : Nested ℕ} {c : Child} {k at 
   -- nor up
   own-same : passed (getD words (c .from) 0) (width (c .tree) - 1) (getD words 0 0) (c .stand + 1) ≡ getD words 0 0
   own-same = same-bits _ (getD words 0 0) (λ i. (
-    λ b. ⊎-elim (λ m. m) (λ m. absurd (bit-zero (width (c .tree) - 1) (subst (λ (w : ℕ). Bit w (width (c .tree) - 1)) zero-first (m .1))))
+    λ b. ⊎-elim (λ m. m)
+        (λ m. absurd
+        (bit-zero (width (c .tree) - 1) (subst (λ (w : ℕ). Bit w (width (c .tree) - 1)) zero-first (m .1))))
         (bit-passed (getD words (c .from) 0) (width (c .tree) - 1) (getD words 0 0) (c .stand + 1) i .0 b),
     λ b. bit-passed (getD words (c .from) 0) (width (c .tree) - 1) (getD words 0 0) (c .stand + 1) i .1 (inl b),
   ))
@@ -104,7 +121,8 @@ module _ {reach runs stands tops : List ℕ} {x : Nested ℕ} {c : Child} {k at 
     swept = record {
       marks = λ q h. (
         λ m. absurd (zero-holds (c .tree) (part c words) zero-part q h m),
-        λ m. absurd (sweep-none (c .tree) (Holds (c .tree) (started c words)) (zero-holds (c .tree) (started c words) zero-started) q h m),
+        λ m. absurd (sweep-none (c .tree) (Holds (c .tree) (started c words))
+            (zero-holds (c .tree) (started c words) zero-started) q h m),
       );
       clean = can .child-clean;
       each-closed = can .child-closed;
@@ -116,4 +134,5 @@ module _ {reach runs stands tops : List ℕ} {x : Nested ℕ} {c : Child} {k at 
 
   -- and it is settled
   pub settled-at-rest : Settled (c .tree) (Holds (c .tree) (part c words))
-  settled-at-rest = settled-agree (c .tree) (λ q h. (λ m. absurd m, zero-holds (c .tree) (part c words) zero-part q h)) (settled-none (c .tree))
+  settled-at-rest = settled-agree (c .tree) (λ q h. (λ m. absurd m, zero-holds (c .tree) (part c words) zero-part q h))
+      (settled-none (c .tree))

@@ -18,6 +18,7 @@ use Rattle.language.specs.Simulation.{_⊆_, stepped-more}
 use Rattle.language.specs.Acceptance.{accepts-exactly}
 use Rattle.language.specs.Models.{State-of, alike-models, models-alike, models-origins}
 use Rattle.language.specs.Along.{reached-state}
+use Rattle.tree.specs.Leaf.{Leaf}
 use Rattle.tree.specs.Records.{Good}
 use Rattle.tree.specs.Nesting.{Small, Every-below}
 use Rattle.tree.specs.Pieces.{cut-up, stated}
@@ -35,9 +36,27 @@ use Rattle.marks.specs.Table.{Closed-all}
 use Rattle.marks.specs.Leaves.{Leaves-noted, kept-each}
 use Rattle.marks.specs.Low.{low-tops, checkable}
 use Rattle.marks.specs.Checked.{Checkable}
-use Rattle.marks.specs.MovedClosed.{Moved-closed, moved-length, moved-others, moved-keeps, moved-within, moved-each-closed, moved-clean}
+use Rattle.marks.specs.MovedClosed.{
+  Moved-closed,
+  moved-length,
+  moved-others,
+  moved-keeps,
+  moved-within,
+  moved-each-closed,
+  moved-clean,
+}
 use Rattle.marks.specs.Twice.{Run-of, Closable, Closed-twice, front-holds, front-clean}
-use Rattle.marks.specs.Simulated.{laid-whole, Start-marked, start-holds, start-clean, start-nearly, start-closed, closed-start, closed-step, accepting-bit}
+use Rattle.marks.specs.Simulated.{
+  laid-whole,
+  Start-marked,
+  start-holds,
+  start-clean,
+  start-nearly,
+  start-closed,
+  closed-start,
+  closed-step,
+  accepting-bit,
+}
 use Rattle.marks.specs.Texts.{all-words, holding-first, holding-next, accepting-answer}
 use Rattle.marks.specs.Visiting.{accepting-holds}
 
@@ -47,22 +66,26 @@ told-exactly true told = (told .holds, λ p. refl)
 told-exactly false told = (told .holds, λ p. absurd (told .fails refl p))
 
 -- words with the same first words hold the same marks
-same-front : (x : Nested ℕ) (n : ℕ) (v w : List ℕ) → n ≡ 1 + run x → take n v ≡ take n w → Agree x (Holds x v) (Holds x w)
+same-front : (x : Nested Leaf) (n : ℕ) (v w : List ℕ) → n ≡ 1 + run x → take n v ≡ take n w
+    → Agree x (Holds x v) (Holds x w)
 same-front x n v w e same q has =
     Iff·trans (Iff·symm (front-holds x n v e q has))
-    (Iff·trans (subst (λ (l : List ℕ). Holds x (take n v) q ↔ Holds x l q) same (λ h. h, λ h. h)) (front-holds x n w e q has))
+    (Iff·trans (subst (λ (l : List ℕ). Holds x (take n v) q ↔ Holds x l q) same (λ h. h, λ h. h))
+    (front-holds x n w e q has))
 
 -- and have no bit past a last state alike
-same-clean : (x : Nested ℕ) (n : ℕ) (v w : List ℕ) → n ≡ 1 + run x → take n v ≡ take n w → Clean x w → Clean x v
+same-clean : (x : Nested Leaf) (n : ℕ) (v w : List ℕ) → n ≡ 1 + run x → take n v ≡ take n w → Clean x w → Clean x v
 same-clean x n v w e same clean = front-clean x n v e .0 (subst (Clean x) (sym same) (front-clean x n w e .1 clean))
 
 -- lists that agree from n on
-ext-drop : (n : ℕ) (v w : List ℕ) → length v ≡ length w → ((k : ℕ) → n ≤ k → getD v k 0 ≡ getD w k 0) → drop n v ≡ drop n w
+ext-drop : (n : ℕ) (v w : List ℕ) → length v ≡ length w → ((k : ℕ) → n ≤ k → getD v k 0 ≡ getD w k 0)
+    → drop n v ≡ drop n w
 ext-drop n v w long same =
-    ext-getD 0 (drop n v) (drop n w) (simp length-drop (omega arith)) (λ i inside. rw (getD-drop n v i 0, getD-drop n w i 0) (same (n + i) (omega arith)))
+    ext-getD 0 (drop n v) (drop n w) (simp length-drop (omega arith))
+    (λ i inside. rw (getD-drop n v i 0, getD-drop n w i 0) (same (n + i) (omega arith)))
 
 -- every child piece of a tree has at most 62 states, where each is small
-narrow-below : (x : Nested ℕ) → Every-below Small x → Narrow-below x
+narrow-below : (x : Nested Leaf) → Every-below Small x → Narrow-below x
 narrow-below (leaf a) h = tt
 narrow-below (catenation x y) h = (narrow-below x (h .0), narrow-below y (h .1))
 narrow-below (union x y) h = (narrow-below x (h .0), narrow-below y (h .1))
@@ -70,19 +93,19 @@ narrow-below (star x) h = narrow-below x h
 narrow-below (below x) h = (omega (arith, width-own x, h .0 .few-own-nodes), narrow-below x (h .1))
 
 -- so it is with the pieces of every tree
-pub all-narrow : (t : Tree ℕ) → Narrow-below (cut-up t)
+pub all-narrow : (t : Tree Leaf) → Narrow-below (cut-up t)
 all-narrow t = narrow-below (cut-up t) (stated t .every-small .1)
 
-pub narrow : (t : Tree ℕ) → width (cut-up t) ≤ 62
+pub narrow : (t : Tree Leaf) → width (cut-up t) ≤ 62
 narrow t = omega (arith, width-own (cut-up t), stated t .every-small .0 .few-own-nodes)
 
 -- the marks to start with, and whether the accepting state is among them
-pub record Begun (t : Tree ℕ) (before after : List ℕ) (yes' : Bool) : Type 0 where
+pub record Begun (t : Tree Leaf) (before after : List ℕ) (yes' : Bool) : Type 0 where
   pub hold : Hold t (Started t) before after
   pub answer : (yes' ≡ true) ↔ Started t accepting
 
 -- the marks after one more byte, from the set that the words held before, and whether the accepting state is among them
-pub record Advanced (t : Tree ℕ) (byte : ℕ) (before after : List ℕ) (yes' : Bool) : Type 0 where
+pub record Advanced (t : Tree Leaf) (byte : ℕ) (before after : List ℕ) (yes' : Bool) : Type 0 where
   pub hold : Hold t (Stepped Is t byte (Set-of (cut-up t) before)) before after
   pub answer : (yes' ≡ true) ↔ Stepped Is t byte (Set-of (cut-up t) before) accepting
 
@@ -93,28 +116,46 @@ pub record Running (reach labels runs stands tops : List ℕ) (count : ℕ) (wor
   pub clean : Clean (cut-up (ready .of-tree .0)) words
 
 -- 128 words that are clean for every tree that the tables are of can be stepped
-pub running : {reach labels runs stands tops words : List ℕ} {count : ℕ} → Ready reach labels runs stands tops count → length words ≡ 128
-    → ((t : Tree ℕ) → Prepared t reach labels runs stands tops count → Clean (cut-up t) words) → Running reach labels runs stands tops count words
+pub running : {reach labels runs stands tops words : List ℕ} {count : ℕ} → Ready reach labels runs stands tops count
+    → length words ≡ 128
+    → ((t : Tree Leaf) → Prepared t reach labels runs stands tops count → Clean (cut-up t) words)
+    → Running reach labels runs stands tops count words
 running ready long clean =
     let prepared = ready .of-tree .1 in
-    record { ready = ready; enough = omega (arith, prepared .counted, prepared .few); clean = clean (ready .of-tree .0) prepared }
+    record {
+      ready = ready;
+      enough = omega (arith, prepared .counted, prepared .few);
+      clean =
+          clean (ready .of-tree .0) prepared;
+    }
 
-module _ {t : Tree ℕ} {reach labels runs stands tops : List ℕ} {count : ℕ} (prepared : Prepared t reach labels runs stands tops count) where
+module _ {t : Tree Leaf} {reach labels runs stands tops : List ℕ} {count : ℕ}
+    (prepared : Prepared t reach labels runs stands tops count) where
   -- the tables speak of every piece
   pub prepared-laid : Laid reach runs stands tops (cut-up t) 0
-  prepared-laid = laid-whole reach labels runs stands tops (cut-up t) (prepared .planned) (prepared .reached) (narrow t) (all-narrow t)
+  prepared-laid = laid-whole reach labels runs stands tops (cut-up t) (prepared .planned) (prepared .reached) (narrow t)
+      (all-narrow t)
 
   -- there is a word for each piece
   pub prepared-count : count ≡ 1 + run (cut-up t)
   prepared-count = prepared .counted ∙ sym (all-words t)
 
   -- words that are clean, and closed piece by piece but for the root's start, are the run of the pieces
-  pub prepared-run : {words : List ℕ} → Clean (cut-up t) words → Nearly-closed (cut-up t) start (getD words 0 0) → Each-closed-below (cut-up t) (drop 1 words)
+  pub prepared-run : {words : List ℕ} → Clean (cut-up t) words → Nearly-closed (cut-up t) start (getD words 0 0)
+      → Each-closed-below (cut-up t) (drop 1 words)
       → Run-of reach runs stands tops count (cut-up t) words
-  prepared-run clean nearly closed = record { laid = prepared-laid; counted = prepared-count; clean = clean; nearly = nearly; closed-below = closed }
+  prepared-run clean nearly closed = record {
+    laid = prepared-laid;
+    counted = prepared-count;
+    clean = clean;
+    nearly =
+        nearly;
+    closed-below = closed;
+  }
 
   -- and can be closed
-  pub prepared-closable : {words : List ℕ} {from to : ℕ} → Roomy reach labels runs stands tops → count ≤ length words → Run-of reach runs stands tops count (cut-up t) words
+  pub prepared-closable : {words : List ℕ} {from to : ℕ} → Roomy reach labels runs stands tops → count ≤ length words
+      → Run-of reach runs stands tops count (cut-up t) words
       → Quiet 0 from to (take count words) → Closable reach runs stands tops count from to words
   prepared-closable {words} roomy enough on quiet = record {
     sized = record {
@@ -135,94 +176,125 @@ module _ {t : Tree ℕ} {reach labels runs stands tops : List ℕ} {count : ℕ}
   top-low = omega (arith, prepared .planned .0 .topped, narrow t)
 
   -- the bit of the last state of the top piece tells whether the accepting state is marked
-  pub answer-told : (words : List ℕ) (X : States) (yes' : Bool) → Models (cut-up t) (Holds (cut-up t) words) X → Told (Bit (getD words 0 0) (getD tops 0 0)) yes' → (yes' ≡ true) ↔ X accepting
+  pub answer-told : (words : List ℕ) (X : States) (yes' : Bool) → Models (cut-up t) (Holds (cut-up t) words) X
+      → Told (Bit (getD words 0 0) (getD tops 0 0)) yes' → (yes' ≡ true) ↔ X accepting
   answer-told words X yes' models told =
-      Iff·trans (told-exactly yes' told) (Iff·trans (same-bit (prepared .planned .0 .topped)) (accepting-bit (cut-up t) words X models))
+      Iff·trans (told-exactly yes' told)
+      (Iff·trans (same-bit (prepared .planned .0 .topped)) (accepting-bit (cut-up t) words X models))
     where
       same-bit : {i j : ℕ} → i ≡ j → Bit (getD words 0 0) i ↔ Bit (getD words 0 0) j
       same-bit e = (subst (λ (i : ℕ). Bit (getD words 0 0) i) e, subst (λ (i : ℕ). Bit (getD words 0 0) i) (sym e))
 
   -- whether words are marks can be tested
-  pub prepared-checkable : {words : List ℕ} → Roomy reach labels runs stands tops → count ≤ length words → Checkable runs stands tops words count
+  pub prepared-checkable : {words : List ℕ} → Roomy reach labels runs stands tops → count ≤ length words
+      → Checkable runs stands tops words count
   prepared-checkable {words} roomy enough =
-      checkable (record { labels = labels; runs = runs; stands = stands; tops = tops }) (cut-up t) count (prepared .planned) (sym prepared-count) (narrow t) (all-narrow t) words
-      (omega (arith, prepared .counted, prepared .few, roomy .runs-room)) (omega (arith, prepared .counted, prepared .few, roomy .stands-room)) (omega (arith, prepared .counted, prepared .few, roomy .tops-room)) enough
+      checkable (record { labels = labels; runs = runs; stands = stands; tops = tops }) (cut-up t) count
+      (prepared .planned) (sym prepared-count) (narrow t) (all-narrow t) words
+      (omega (arith, prepared .counted, prepared .few, roomy .runs-room))
+      (omega (arith, prepared .counted, prepared .few, roomy .stands-room))
+      (omega (arith, prepared .counted, prepared .few, roomy .tops-room)) enough
 
   -- and what the test tells
-  pub prepared-told : (words : List ℕ) {answer : Bool} → ((tables : Pieces) (x : Nested ℕ) → tables .runs ≡ runs → tables .stands ≡ stands → tables .tops ≡ tops → Planned tables x → 1 + run x ≡ count → Told (Clean x words × Agreeing x words) answer)
+  pub prepared-told : (words : List ℕ) {answer : Bool}
+      → ((tables : Pieces) (x : Nested Leaf) → tables .runs ≡ runs → tables .stands ≡ stands → tables .tops ≡ tops
+      → Planned tables x → 1 + run x ≡ count → Told (Clean x words × Agreeing x words) answer)
       → Told (Clean (cut-up t) words × Agreeing (cut-up t) words) answer
-  prepared-told words tells = tells (record { labels = labels; runs = runs; stands = stands; tops = tops }) (cut-up t) refl refl refl (prepared .planned) (sym prepared-count)
+  prepared-told words tells = tells (record { labels = labels; runs = runs; stands = stands; tops = tops }) (cut-up t)
+      refl refl refl (prepared .planned) (sym prepared-count)
 
   -- from words with the root's start alone marked, closed twice, and the first of them put into the lent words
-  pub begun : (marked closed lent after : List ℕ) (yes' : Bool) → Start-marked (cut-up t) marked → Closed-twice reach runs stands tops count marked closed
-      → count ≤ length closed → count ≤ length lent → after ≡ take count closed ++ drop count lent → Told (Bit (getD after 0 0) (getD tops 0 0)) yes' → Begun t lent after yes'
+  pub begun : (marked closed lent after : List ℕ) (yes' : Bool) → Start-marked (cut-up t) marked
+      → Closed-twice reach runs stands tops count marked closed
+      → count ≤ length closed → count ≤ length lent → after ≡ take count closed ++ drop count lent
+      → Told (Bit (getD after 0 0) (getD tops 0 0)) yes' → Begun t lent after yes'
   begun marked closed lent after yes' starts twice enough room put told =
       let x = cut-up t in
-      let on = prepared-run (start-clean x marked starts) (start-nearly x marked starts) (start-closed x marked starts) in
+      let on = prepared-run (start-clean x marked starts) (start-nearly x marked starts)
+      (start-closed x marked starts) in
       let front : length (take count closed) ≡ count = length-take-le count closed enough in
-      let same : take count after ≡ take count closed = ap (take count) put ∙ take-at (take count closed) (drop count lent) count front in
+      let same : take count after ≡ take count closed = ap (take count) put
+      ∙ take-at (take count closed) (drop count lent) count front in
       let agree : Agree x (Holds x after) (Holds x closed) = same-front x count after closed prepared-count same in
       let models : Models x (Holds x after) (Started t) =
-      subst (λ (s : Tree ℕ). Models x (Holds x after) (Started s)) (stated t .same-tree)
-      (models-same x (Started (whole x)) agree (closed-start reach runs stands tops count x marked closed twice on (start-holds x marked starts)))
+      subst (λ (s : Tree Leaf). Models x (Holds x after) (Started s)) (stated t .same-tree)
+      (models-same x (Started (whole x)) agree
+      (closed-start reach runs stands tops count x marked closed twice on (start-holds x marked starts)))
       in
       record {
         hold = record {
           marks = models;
           clean = same-clean x count after closed prepared-count same (twice .clean x on);
-          others = subst (λ (n : ℕ). drop n after ≡ drop n lent) (prepared .counted) (ap (drop count) put ∙ drop-at (take count closed) (drop count lent) count front);
-          same-length = ap length put ∙ length-append (take count closed) (drop count lent) ∙ omega (arith, front, length-drop count lent);
+          others = subst (λ (n : ℕ). drop n after ≡ drop n lent) (prepared .counted)
+              (ap (drop count) put ∙ drop-at (take count closed) (drop count lent) count front);
+          same-length = ap length put ∙ length-append (take count closed) (drop count lent)
+              ∙ omega (arith, front, length-drop count lent);
         };
         answer = answer-told after (Started t) yes' models told;
       }
 
   -- words that were moved are the run of the pieces
-  pub moved-run : {byte : ℕ} {before moved : List ℕ} → Moved-closed reach labels before moved byte count → Clean (cut-up t) before → Run-of reach runs stands tops count (cut-up t) moved
+  pub moved-run : {byte : ℕ} {before moved : List ℕ} → Moved-closed reach labels before moved byte count
+      → Clean (cut-up t) before → Run-of reach runs stands tops count (cut-up t) moved
   moved-run went clean =
       let x = cut-up t in
       let tables : Pieces = record { labels = labels; runs = runs; stands = stands; tops = tops } in
       let room : 1 + run x ≤ count = omega (arith, prepared-count) in
-      let closed = moved-each-closed went tables x refl (prepared .planned) (prepared .reached) room (narrow t) (all-narrow t) clean in
-      prepared-run (moved-clean went tables x refl (prepared .planned) (prepared .reached) room (narrow t) (all-narrow t) clean) (closed-nearly (closed .0)) (closed .1)
+      let closed = moved-each-closed went tables x refl (prepared .planned) (prepared .reached) room (narrow t)
+      (all-narrow t) clean in
+      prepared-run (moved-clean went tables x refl (prepared .planned) (prepared .reached) room (narrow t)
+      (all-narrow t) clean) (closed-nearly (closed .0)) (closed .1)
 
   -- from words moved along the byte, and closed twice
-  pub advanced : (byte : ℕ) (before moved after : List ℕ) (yes' : Bool) → Marks-of t before → Moved-closed reach labels before moved byte count → Closed-twice reach runs stands tops count moved after
-      → length after ≡ length moved → Told (Bit (getD after 0 0) (getD tops 0 0)) yes' → Advanced t byte before after yes'
+  pub advanced : (byte : ℕ) (before moved after : List ℕ) (yes' : Bool) → Marks-of t before
+      → Moved-closed reach labels before moved byte count → Closed-twice reach runs stands tops count moved after
+      → length after ≡ length moved → Told (Bit (getD after 0 0) (getD tops 0 0)) yes'
+      → Advanced t byte before after yes'
   advanced byte before moved after yes' marks went twice long told =
       let x = cut-up t in
       let tables : Pieces = record { labels = labels; runs = runs; stands = stands; tops = tops } in
       let room : 1 + run x ≤ count = omega (arith, prepared-count) in
       let on = moved-run went (marks .clean) in
       let models : Models x (Holds x after) (Stepped Is t byte (Set-of x before)) =
-      subst (λ (s : Tree ℕ). Models x (Holds x after) (Stepped Is s byte (Set-of x before))) (stated t .same-tree)
-      (closed-step reach runs stands tops count x moved after twice on byte (Holds x before) (Set-of x before) (alike-models x (Holds x before) (marks .agreeing))
-      (moved-keeps went tables x refl (prepared .planned) (prepared .reached) room (narrow t) (all-narrow t) (marks .clean))
-      (moved-within went tables x refl (prepared .planned) (prepared .reached) room (narrow t) (all-narrow t) (marks .clean)))
+      subst (λ (s : Tree Leaf). Models x (Holds x after) (Stepped Is s byte (Set-of x before))) (stated t .same-tree)
+      (closed-step reach runs stands tops count x moved after twice on byte (Holds x before) (Set-of x before)
+      (alike-models x (Holds x before) (marks .agreeing))
+      (moved-keeps went tables x refl (prepared .planned) (prepared .reached) room (narrow t) (all-narrow t)
+      (marks .clean))
+      (moved-within went tables x refl (prepared .planned) (prepared .reached) room (narrow t) (all-narrow t)
+      (marks .clean)))
       in
       record {
         hold = record {
           marks = models;
           clean = twice .clean x on;
-          others = subst (λ (n : ℕ). drop n after ≡ drop n before) (prepared .counted) (twice .others ∙ ext-drop count moved before (moved-length went) (moved-others went));
+          others = subst (λ (n : ℕ). drop n after ≡ drop n before) (prepared .counted)
+              (twice .others ∙ ext-drop count moved before (moved-length went) (moved-others went));
           same-length = long ∙ moved-length went;
         };
         answer = answer-told after (Stepped Is t byte (Set-of x before)) yes' models told;
       }
 
 -- words that hold the marks after a text are marks
-pub holding-marks : {t : Tree ℕ} {w words : List ℕ} → Holding t w words → Marks-of t words
+pub holding-marks : {t : Tree Leaf} {w words : List ℕ} → Holding t w words → Marks-of t words
 holding-marks {t} {w} {words} holding = record {
   clean = holding .clean;
   agreeing = models-alike (cut-up t) (Holds (cut-up t) words) (After Is t w (Started t)) (holding .modelled);
 }
 
 -- after the start the words hold the marks after the empty text
-pub answered-first : {t : Tree ℕ} {before after : List ℕ} {yes' : Bool} → Begun t before after yes' → Answered t [] after yes'
+pub answered-first : {t : Tree Leaf} {before after : List ℕ} {yes' : Bool} → Begun t before after yes'
+    → Answered t [] after yes'
 answered-first {t} begins =
-    record { holding = holding-first (begins .hold .marks) (begins .hold .clean); answer = Iff·trans (begins .answer) (accepts-exactly Is t []) }
+    record {
+      holding = holding-first (begins .hold .marks) (begins .hold .clean);
+      answer =
+          Iff·trans (begins .answer) (accepts-exactly Is t []);
+    }
 
 -- words of which the first are put in the place of others answer the same
-pub answered-copy : {t : Tree ℕ} {reach labels runs stands tops w after : List ℕ} {count : ℕ} {yes' : Bool} (from to : List ℕ) → Prepared t reach labels runs stands tops count
+pub answered-copy : {t : Tree Leaf} {reach labels runs stands tops w after : List ℕ} {count : ℕ} {yes' : Bool}
+    (from to : List ℕ) → Prepared t reach labels runs stands tops count
     → count ≤ length from → after ≡ take count from ++ drop count to → Answered t w from yes' → Answered t w after yes'
 answered-copy {t} {w = w} {after = after} {count = count} from to prepared enough put answered =
     let x = cut-up t in
@@ -231,36 +303,47 @@ answered-copy {t} {w = w} {after = after} {count = count} from to prepared enoug
     in
     record {
       holding = record {
-        modelled = models-same x (After Is t w (Started t)) (same-front x count after from (prepared-count prepared) same) (answered .holding .modelled);
+        modelled = models-same x (After Is t w (Started t))
+            (same-front x count after from (prepared-count prepared) same) (answered .holding .modelled);
         clean = same-clean x count after from (prepared-count prepared) same (answered .holding .clean);
       };
       answer = answered .answer;
     }
 
 -- after one more byte they hold the marks after one more byte
-pub answered-next : {t : Tree ℕ} {w before after : List ℕ} {b : ℕ} {yes' : Bool} → Holding t w before → Advanced t b before after yes' → Answered t (w ++ (b ∷ [])) after yes'
+pub answered-next : {t : Tree Leaf} {w before after : List ℕ} {b : ℕ} {yes' : Bool} → Holding t w before
+    → Advanced t b before after yes' → Answered t (w ++ (b ∷ [])) after yes'
 answered-next {t} {w} {before} {after} {b} {yes'} holding went =
     let x = cut-up t in
     let X = After Is t w (Started t) in
-    let states : X ⊆ State-of (whole x) = subst (λ (s : Tree ℕ). X ⊆ State-of s) (sym (stated t .same-tree)) (reached-state Is t w) in
+    let states : X ⊆ State-of (whole x) = subst (λ (s : Tree Leaf). X ⊆ State-of s) (sym (stated t .same-tree))
+    (reached-state Is t w) in
     let same : (p : State) → X p ↔ Set-of x before p = models-origins x (Holds x before) X (holding .modelled) states in
-    let stepped : (p : State) → Stepped Is t b (Set-of x before) p ↔ Stepped Is t b X p = λ p. (stepped-more Is t b (λ q. same q .1) p, stepped-more Is t b (λ q. same q .0) p) in
-    let held : Holding t (w ++ (b ∷ [])) after = holding-next holding (λ q has. Iff·trans (went .hold .marks q has) (stepped (origin x q))) (went .hold .clean) in
+    let stepped : (p : State) → Stepped Is t b (Set-of x before) p ↔ Stepped Is t b X p =
+    λ p. (stepped-more Is t b (λ q. same q .1) p, stepped-more Is t b (λ q. same q .0) p) in
+    let held : Holding t (w ++ (b ∷ [])) after =
+    holding-next holding (λ q has. Iff·trans (went .hold .marks q has) (stepped (origin x q)))
+    (went .hold .clean) in
     record {
       holding = held;
-      answer = Iff·trans (went .answer) (Iff·trans (Iff·symm (went .hold .marks accepting tt)) (Iff·trans (accepting-holds x after) (accepting-answer held)));
+      answer = Iff·trans (went .answer)
+          (Iff·trans (Iff·symm (went .hold .marks accepting tt))
+          (Iff·trans (accepting-holds x after) (accepting-answer held)));
     }
 
 -- words that were moved can be closed, where the marks are from `from` up to `to`
-pub moved-closable : {reach labels runs stands tops : List ℕ} {count byte from to : ℕ} {before moved : List ℕ} → Running reach labels runs stands tops count before
-    → Moved-closed reach labels before moved byte count → ((o : ℕ) → o < from → getD moved o 0 ≡ 0) → ((o : ℕ) → to ≤ o → o < count → getD moved o 0 ≡ 0)
+pub moved-closable : {reach labels runs stands tops : List ℕ} {count byte from to : ℕ} {before moved : List ℕ}
+    → Running reach labels runs stands tops count before
+    → Moved-closed reach labels before moved byte count → ((o : ℕ) → o < from → getD moved o 0 ≡ 0)
+    → ((o : ℕ) → to ≤ o → o < count → getD moved o 0 ≡ 0)
     → Closable reach runs stands tops count from to moved
 moved-closable {count = count} {moved = moved} running went none-before none-after =
     let prepared = running .ready .of-tree .1 in
     let enough : count ≤ length moved = omega (arith, moved-length went, running .enough) in
     prepared-closable prepared (running .ready .roomy) enough (moved-run prepared went (running .clean))
     (λ o l h out. let inside : o < count = omega (arith, length-take-le count moved enough) in
-    getD-take count moved o 0 inside ∙ ⊎-elim (λ g. none-before o (omega arith)) (λ g. none-after o (omega arith) inside) out)
+    getD-take count moved o 0 inside
+    ∙ ⊎-elim (λ g. none-before o (omega arith)) (λ g. none-after o (omega arith) inside) out)
 
 -- 128 words of zero, then the root's start marked
 abbrev pub begins : List ℕ
@@ -271,17 +354,19 @@ zeros zero o = refl
 zeros (suc n) zero = refl
 zeros (suc n) (suc o) = zeros n o
 
-pub begins-marked : (x : Nested ℕ) → Start-marked x begins
+pub begins-marked : (x : Nested Leaf) → Start-marked x begins
 begins-marked x = record { first = refl; others = λ o inside. zeros 127 o }
 
 -- words with the root's start alone marked can be closed
-pub start-closable : {reach labels runs stands tops : List ℕ} {count : ℕ} → Ready reach labels runs stands tops count → Closable reach runs stands tops count 0 0 begins
+pub start-closable : {reach labels runs stands tops : List ℕ} {count : ℕ} → Ready reach labels runs stands tops count
+    → Closable reach runs stands tops count 0 0 begins
 start-closable {count = count} ready =
     let x = cut-up (ready .of-tree .0) in
     let prepared = ready .of-tree .1 in
     let enough : count ≤ 128 = omega (arith, prepared .counted, prepared .few) in
     prepared-closable prepared (ready .roomy) enough
-    (prepared-run prepared (start-clean x begins (begins-marked x)) (start-nearly x begins (begins-marked x)) (start-closed x begins (begins-marked x)))
+    (prepared-run prepared (start-clean x begins (begins-marked x)) (start-nearly x begins (begins-marked x))
+    (start-closed x begins (begins-marked x)))
     (λ o l h out. getD-take count begins o 0 (omega (arith, length-take-le count begins enough)) ∙ later o l)
   where
     later : (o : ℕ) → 0 < o → getD begins o 0 ≡ 0
@@ -289,20 +374,29 @@ start-closable {count = count} ready =
     later (suc o) l = zeros 127 o
 
 -- the tables that were made are those of t, once the table of the empty transitions is closed and the leaves are noted
-pub prepared-of : {list nexts closed reach labels runs stands tops : List ℕ} {count : ℕ} (t : Tree ℕ) → Good list t → Given.Laid t nexts labels runs stands tops count
-    → Closed-all tops nexts closed count → Leaves-noted labels closed reach count → Prepared t reach labels runs stands tops count
+pub prepared-of : {list nexts closed reach labels runs stands tops : List ℕ} {count : ℕ} (t : Tree Leaf) → Good list t
+    → Given.Laid t nexts labels runs stands tops count
+    → Closed-all tops nexts closed count → Leaves-noted labels closed reach count
+    → Prepared t reach labels runs stands tops count
 prepared-of t good made closes notes = record {
   planned = made .planned;
   reached = kept-each notes (cut-up t) (narrow t) (all-narrow t)
-      (closes .reached (record { labels = _; runs = _; stands = _; tops = _ }) (cut-up t) refl (made .planned) (omega (arith, made .counted, all-words t)) (made .words));
+      (closes .reached (record { labels = _; runs = _; stands = _; tops = _ }) (cut-up t) refl (made .planned)
+      (omega (arith, made .counted, all-words t)) (made .words));
   noted = notes .noted;
   counted = made .counted;
   few = good .few;
 }
 
 -- every top is a number of a state
-pub tops-low : {nexts labels runs stands tops : List ℕ} {count : ℕ} (t : Tree ℕ) → Given.Laid t nexts labels runs stands tops count → (k : ℕ) → k < count → getD tops k 0 < 64
-tops-low {count = count} t made k inside = omega (arith, low-tops _ (cut-up t) count (made .planned) (all-words t ∙ sym (made .counted)) (narrow t) (all-narrow t) k inside)
+pub tops-low : {nexts labels runs stands tops : List ℕ} {count : ℕ} (t : Tree Leaf)
+    → Given.Laid t nexts labels runs stands tops count → (k : ℕ) → k < count → getD tops k 0 < 64
+tops-low {count = count} t made k inside =
+    omega (
+      arith,
+      low-tops _ (cut-up t) count (made .planned) (all-words t ∙ sym (made .counted)) (narrow t)
+          (all-narrow t) k inside,
+    )
 
 -- the first i of `count` words are put in the place of the old ones
 pub record Copying (from old : List ℕ) (count : ℕ) (new : List ℕ) (i : ℕ) : Type 0 where
@@ -313,18 +407,21 @@ pub record Copying (from old : List ℕ) (count : ℕ) (new : List ℕ) (i : ℕ
   pub long : length new ≡ length old
 
 -- before the first
-pub copying-none : {from old : List ℕ} {count : ℕ} → count ≤ length from → count ≤ length old → Copying from old count old 0
+pub copying-none : {from old : List ℕ} {count : ℕ} → count ≤ length from → count ≤ length old
+    → Copying from old count old 0
 copying-none enough room = record { so-far = omega arith; enough = enough; room = room; put = refl; long = refl }
 
 -- one more
-pub copying-next : {from old new : List ℕ} {count i : ℕ} → Copying from old count new i → i < count → Copying from old count (set new i (getD from i 0)) (i + 1)
+pub copying-next : {from old new : List ℕ} {count i : ℕ} → Copying from old count new i → i < count
+    → Copying from old count (set new i (getD from i 0)) (i + 1)
 copying-next {from} {old} {new} {count} {i} h inside = record {
   so-far = omega arith;
   enough = h .enough;
   room = h .room;
   put = ap (λ (l : List ℕ). set l i (getD from i 0)) (h .put)
       ∙ ap (λ (l : List ℕ). set (take i from ++ l) i (getD from i 0)) (drop-cons old i 0 (omega (arith, h .room)))
-      ∙ set-at (take i from) (getD old i 0) (drop (suc i) old) (getD from i 0) i (length-take-le i from (omega (arith, h .enough)))
+      ∙ set-at (take i from) (getD old i 0) (drop (suc i) old) (getD from i 0) i
+      (length-take-le i from (omega (arith, h .enough)))
       ∙ sym (append-snoc (take i from) (getD from i 0) (drop (suc i) old))
       ∙ ap (λ (l : List ℕ). l ++ drop (suc i) old) (sym (take-suc from i 0 (omega (arith, h .enough))))
       ∙ ap (λ (n : ℕ). take n from ++ drop n old) (sym (add-one i));
@@ -332,7 +429,8 @@ copying-next {from} {old} {new} {count} {i} h inside = record {
 }
 
 -- after the last
-pub copying-done : {from old new : List ℕ} {count i : ℕ} → Copying from old count new i → count ≤ i → new ≡ take count from ++ drop count old
+pub copying-done : {from old new : List ℕ} {count i : ℕ} → Copying from old count new i → count ≤ i
+    → new ≡ take count from ++ drop count old
 copying-done {from} {old} {count = count} {i = i} h past =
     let all : i ≡ count = omega (arith, h .so-far) in
     h .put ∙ ap (λ (n : ℕ). take n from ++ drop n old) all

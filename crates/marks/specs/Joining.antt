@@ -18,10 +18,12 @@ pub record Joined (table : List ℕ) (base w rest r : ℕ) : Type 0 where
 
 -- at first none are
 pub joined-none : (table : List ℕ) (base w : ℕ) → Joined table base w w 0
-joined-none table base w = record { among = λ i b. b; exactly = λ j. (λ b. absurd (bit-zero j b), λ (i, b, gone, _). absurd (gone b)) }
+joined-none table base w =
+    record { among = λ i b. b; exactly = λ j. (λ b. absurd (bit-zero j b), λ (i, b, gone, _). absurd (gone b)) }
 
 -- the word of the lowest bit that is left is joined
-pub joined-more : {table : List ℕ} {base w rest rest′ r r′ s : ℕ} → Joined table base w rest r → Lowest rest s → r′ ≡ bitOr r (getD table (base + s) 0)
+pub joined-more : {table : List ℕ} {base w rest rest′ r r′ s : ℕ} → Joined table base w rest r → Lowest rest s
+    → r′ ≡ bitOr r (getD table (base + s) 0)
     → rest′ ≡ bitAnd rest (rest - 1) → Joined table base w rest′ r′
 joined-more {table} {base} {w} {rest} {r = r} {s = s} so-far lowest joins takes =
     subst₂ (λ (m v : ℕ). Joined table base w m v) (sym takes) (sym joins) record {

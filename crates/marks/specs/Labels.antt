@@ -1,4 +1,5 @@
--- The labels of the states hold the transitions that read a byte: they lead from a state with the byte's label to the next in number.
+-- The labels of the states hold the transitions that read a byte: they lead from a state with the byte's label to the
+-- next in number.
 -- Assumes nothing.
 use Prim.Native.Nat.{ℕ, _+_}
 use mathlib.Core.Path.{_≡_, refl, sym, ap, _∙_}
@@ -6,13 +7,14 @@ use native.Mathlib.Omega.{arith}
 use lib.ListN.{length, getD}
 use Rattle.language.specs.Automaton.{State, start, accepting, left, right, Reads}
 use Rattle.language.specs.Nested.{Nested, leaf, catenation, union, star, below, own, given}
+use Rattle.tree.specs.Leaf.{Leaf}
 use Rattle.tables.specs.Words.{width, Own, number}
 use Rattle.tables.specs.Plan.{takes, Is-own}
 use Rattle.marks.specs.Parts.{one-length, one-inside, one-end, two-length, two-left, two-right, two-end}
 use Rattle.marks.specs.Numbers.{number-below}
 
 -- one label for each state
-pub length-takes : (x : Nested ℕ) → length (takes x) ≡ width x
+pub length-takes : (x : Nested Leaf) → length (takes x) ≡ width x
 length-takes (leaf a) = refl
 length-takes (catenation x y) = two-length 0 0 (takes x) (takes y) (length-takes x) (length-takes y)
 length-takes (union x y) = two-length 0 0 (takes x) (takes y) (length-takes x) (length-takes y)
@@ -20,20 +22,23 @@ length-takes (star x) = one-length 0 0 (takes x) (length-takes x)
 length-takes (below x) = refl
 
 -- in the list for a node of two parts, where the labels of the parts' states are
-module _ (x y : Nested ℕ) where
+module _ (x y : Nested Leaf) where
   left-label : (p : State) → Own x p → getD (takes (catenation x y)) (1 + number x p) 0 ≡ getD (takes x) (number x p) 0
-  left-label p o = two-left 0 0 (takes x) (takes y) (length-takes x) (length-takes y) 0 (number x p) (number-below x p o)
+  left-label p o = two-left 0 0 (takes x) (takes y) (length-takes x) (length-takes y) 0 (number x p)
+      (number-below x p o)
 
   -- the label of a state of the second part
-  right-label : (p : State) → Own y p → getD (takes (catenation x y)) (1 + width x + number y p) 0 ≡ getD (takes y) (number y p) 0
-  right-label p o = two-right 0 0 (takes x) (takes y) (length-takes x) (length-takes y) 0 (number y p) (number-below y p o)
+  right-label : (p : State) → Own y p → getD (takes (catenation x y)) (1 + width x + number y p) 0
+      ≡ getD (takes y) (number y p) 0
+  right-label p o = two-right 0 0 (takes x) (takes y) (length-takes x) (length-takes y) 0 (number y p)
+      (number-below y p o)
 
   -- the accepting state's label
   end-label : getD (takes (catenation x y)) (1 + width x + width y) 0 ≡ 0
   end-label = two-end 0 0 (takes x) (takes y) (length-takes x) (length-takes y) 0
 
 -- and for a node of one part
-module _ (x : Nested ℕ) where
+module _ (x : Nested Leaf) where
   inside-label : (p : State) → Own x p → getD (takes (star x)) (1 + number x p) 0 ≡ getD (takes x) (number x p) 0
   inside-label p o = one-inside 0 0 (takes x) (length-takes x) 0 (number x p) (number-below x p o)
 
@@ -43,29 +48,61 @@ module _ (x : Nested ℕ) where
 
 module _ (b : ℕ) where
   -- a transition that reads b leads from a state with b's label to the next in number
-  pub record Reads-on (x : Nested ℕ) (p q : State) : Type 0 where
+  pub record Reads-on (x : Nested Leaf) (p q : State) : Type 0 where
     pub from-own : Own x p
     pub to-own : Own x q
     pub next : number x q ≡ number x p + 1
     pub label : getD (takes x) (number x p) 0 ≡ b + 1
 
   -- so each transition that reads b does
-  pub reads-on : (x : Nested ℕ) {p q : State} → Reads Is-own b (own x) p q → Reads-on x p q
-  reads-on (leaf a) (Reads.at-leaf e) = record { from-own = tt; to-own = tt; next = refl; label = ap (λ (n : ℕ). n + 1) e }
+  pub reads-on : (x : Nested Leaf) {p q : State} → Reads Is-own b (own x) p q → Reads-on x p q
+  reads-on (leaf a) (Reads.at-leaf e) =
+      record { from-own = tt; to-own = tt; next = refl; label = ap (λ (n : ℕ). n + 1) e }
   reads-on (catenation x y) (Reads.catenation-left {p = p} r) = let s = reads-on x r in
-      record { from-own = s .from-own; to-own = s .to-own; next = omega (arith, s .next); label = left-label x y p (s .from-own) ∙ s .label }
+      record {
+        from-own = s .from-own;
+        to-own = s .to-own;
+        next = omega (arith, s .next);
+        label =
+            left-label x y p (s .from-own) ∙ s .label;
+      }
   reads-on (catenation x y) (Reads.catenation-right {p = p} r) = let s = reads-on y r in
-      record { from-own = s .from-own; to-own = s .to-own; next = omega (arith, s .next); label = right-label x y p (s .from-own) ∙ s .label }
+      record {
+        from-own = s .from-own;
+        to-own = s .to-own;
+        next = omega (arith, s .next);
+        label =
+            right-label x y p (s .from-own) ∙ s .label;
+      }
   reads-on (union x y) (Reads.union-left {p = p} r) = let s = reads-on x r in
-      record { from-own = s .from-own; to-own = s .to-own; next = omega (arith, s .next); label = left-label x y p (s .from-own) ∙ s .label }
+      record {
+        from-own = s .from-own;
+        to-own = s .to-own;
+        next = omega (arith, s .next);
+        label =
+            left-label x y p (s .from-own) ∙ s .label;
+      }
   reads-on (union x y) (Reads.union-right {p = p} r) = let s = reads-on y r in
-      record { from-own = s .from-own; to-own = s .to-own; next = omega (arith, s .next); label = right-label x y p (s .from-own) ∙ s .label }
+      record {
+        from-own = s .from-own;
+        to-own = s .to-own;
+        next = omega (arith, s .next);
+        label =
+            right-label x y p (s .from-own) ∙ s .label;
+      }
   reads-on (star x) (Reads.star-inside {p = p} r) = let s = reads-on x r in
-      record { from-own = s .from-own; to-own = s .to-own; next = omega (arith, s .next); label = inside-label x p (s .from-own) ∙ s .label }
+      record {
+        from-own = s .from-own;
+        to-own = s .to-own;
+        next = omega (arith, s .next);
+        label =
+            inside-label x p (s .from-own) ∙ s .label;
+      }
   reads-on (below x) (Reads.at-leaf e) = absurd e
 
   -- from a state with b's label a transition that reads b leads
-  pub reads-from : (x : Nested ℕ) (p : State) → Own x p → getD (takes x) (number x p) 0 ≡ b + 1 → (q : State) × Reads Is-own b (own x) p q
+  pub reads-from : (x : Nested Leaf) (p : State) → Own x p → getD (takes x) (number x p) 0 ≡ b + 1
+      → (q : State) × Reads Is-own b (own x) p q
   reads-from (leaf a) start o e = (accepting, Reads.at-leaf {a = given a} (omega arith))
   reads-from (leaf a) accepting o e = absurd (omega arith)
   reads-from (catenation x y) start o e = absurd (omega arith)

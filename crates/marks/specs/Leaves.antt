@@ -1,4 +1,5 @@
--- Which states of a piece take a byte: those with a label. Their bits are noted in entry 63 of the piece, which is no state's.
+-- Which states of a piece take a byte: those with a label. Their bits are noted in entry 63 of the piece, which is no
+-- state's.
 -- Assumes nothing.
 use Prim.Native.Nat.{ℕ, _+_, _*_, _^_, _≤_, _<_}
 use mathlib.Core.Path.{_≡_, refl, sym, _∙_, subst}
@@ -10,6 +11,7 @@ use lib.Bits.{bitOr}
 use lib.ListN.{length, getD, set, length-set}
 use lib.Seq.{getD-set-same, getD-set-other}
 use Rattle.language.specs.Nested.{Nested, leaf, catenation, union, star, below}
+use Rattle.tree.specs.Leaf.{Leaf}
 use Rattle.tables.specs.Words.{Bit, width, run}
 use Rattle.tables.specs.Plan.{row, Reaches, Each-below, Each}
 use Rattle.tables.specs.Tables.{Noted}
@@ -29,7 +31,9 @@ module _ {labels : List ℕ} {k n w w′ : ℕ} (so-far : Leaves labels k n w) w
   -- a state with a label is noted
   pub leaves-more : w′ ≡ bitOr w (2 ^ n) → Leaves labels k (n + 1) w′
   leaves-more e = record {
-    each = λ i h has. subst (λ (v : ℕ). Bit v i) (sym e) (bit-with w n i .1 (elim (ℕ-discrete i n) [ yes at ↦ inr at | no other ↦ inl (so-far .each i (omega arith) has) ]));
+    each = λ i h has. subst (λ (v : ℕ). Bit v i) (sym e)
+        (bit-with w n i .1
+        (elim (ℕ-discrete i n) [ yes at ↦ inr at | no other ↦ inl (so-far .each i (omega arith) has) ]));
   }
 
   -- one without is passed
@@ -56,7 +60,8 @@ pub noted-none : (labels reach : List ℕ) → Leaves-noted labels reach reach 0
 noted-none labels reach = record { same-length = refl; noted = λ k h. absurd (omega arith); others = λ k i h. refl }
 
 -- those of one piece more
-pub noted-more : {labels before after : List ℕ} {n w : ℕ} → Leaves-noted labels before after n → 64 * n + 63 < length before → Leaves labels n 62 w
+pub noted-more : {labels before after : List ℕ} {n w : ℕ} → Leaves-noted labels before after n
+    → 64 * n + 63 < length before → Leaves labels n 62 w
     → Leaves-noted labels before (set after (64 * n + 63) w) (n + 1)
 noted-more {labels} {before} {after} {n} {w} so-far inside leaves = record {
   same-length = simp length-set (so-far .same-length);
@@ -73,22 +78,30 @@ noted-more {labels} {before} {after} {n} {w} so-far inside leaves = record {
 }
 
 -- those of all
-pub noted-all : {labels before after : List ℕ} {n m : ℕ} → m ≡ n → Leaves-noted labels before after m → Leaves-noted labels before after n
+pub noted-all : {labels before after : List ℕ} {n m : ℕ} → m ≡ n → Leaves-noted labels before after m
+    → Leaves-noted labels before after n
 noted-all {labels} {before} {after} e all = subst (λ (k : ℕ). Leaves-noted labels before after k) e all
 
 module _ {labels before after : List ℕ} {n : ℕ} (noted : Leaves-noted labels before after n) where
   -- the rows of a piece's states are as before
-  kept-row : (x : Nested ℕ) (k : ℕ) → width x ≤ 62 → Reaches x (row before k (width x)) → Reaches x (row after k (width x))
-  kept-row x k narrow = subst (Reaches x) (row-same before after k (width x) (sym (noted .same-length)) (λ i h. sym (noted .others k i (omega arith))))
+  kept-row : (x : Nested Leaf) (k : ℕ) → width x ≤ 62 → Reaches x (row before k (width x))
+      → Reaches x (row after k (width x))
+  kept-row x k narrow =
+      subst (Reaches x)
+      (row-same before after k (width x) (sym (noted .same-length)) (λ i h. sym (noted .others k i (omega arith))))
 
   -- those of the child pieces below x are
-  kept-below : (x : Nested ℕ) (new : ℕ) → Narrow-below x → Each-below Reaches before x new → Each-below Reaches after x new
+  kept-below : (x : Nested Leaf) (new : ℕ) → Narrow-below x → Each-below Reaches before x new
+      → Each-below Reaches after x new
   kept-below (leaf a) new narrow reached = tt
-  kept-below (catenation x y) new narrow reached = (kept-below x new (narrow .0) (reached .0), kept-below y (new + run x) (narrow .1) (reached .1))
-  kept-below (union x y) new narrow reached = (kept-below x new (narrow .0) (reached .0), kept-below y (new + run x) (narrow .1) (reached .1))
+  kept-below (catenation x y) new narrow reached =
+      (kept-below x new (narrow .0) (reached .0), kept-below y (new + run x) (narrow .1) (reached .1))
+  kept-below (union x y) new narrow reached =
+      (kept-below x new (narrow .0) (reached .0), kept-below y (new + run x) (narrow .1) (reached .1))
   kept-below (star x) new narrow reached = kept-below x new narrow reached
-  kept-below (below x) new narrow reached = (kept-row x new (narrow .0) (reached .0), kept-below x (new + 1) (narrow .1) (reached .1))
+  kept-below (below x) new narrow reached =
+      (kept-row x new (narrow .0) (reached .0), kept-below x (new + 1) (narrow .1) (reached .1))
 
   -- so the table of every piece is
-  pub kept-each : (x : Nested ℕ) → width x ≤ 62 → Narrow-below x → Each Reaches before x → Each Reaches after x
+  pub kept-each : (x : Nested Leaf) → width x ≤ 62 → Narrow-below x → Each Reaches before x → Each Reaches after x
   kept-each x narrow narrow-below reached = (kept-row x 0 narrow (reached .0), kept-below x 1 narrow-below (reached .1))

@@ -1,5 +1,6 @@
 -- The lowest bit that is set in a word: which one it is, and what is left of the word without it.
--- So the set bits of a word are gone over one by one: the lowest, then the lowest of what is left, until nothing is left.
+-- So the set bits of a word are gone over one by one: the lowest, then the lowest of what is left, until nothing is
+-- left.
 -- Assumes nothing.
 use Prim.Native.Nat.{ℕ, zero, suc, _+_, _-_, _*_, _/_, _%_, _^_, _<_, min}
 use mathlib.Core.Path.{_≡_, refl, sym, ap₂, _∙_, subst}
@@ -66,7 +67,10 @@ even w s e h lowest = record {
     none (suc i) l b = lowest .none-lower i (omega arith) (bit-suc w i .0 b)
 
     bits : (i : ℕ) → Bit (bitAnd w (w - 1)) i ↔ (Bit w i × (i ≡ suc s → ⊥))
-    bits zero = (λ b. absurd (omega (arith, without, bit-low (bitAnd w (w - 1)))), λ b. absurd (omega (arith, bit-low w, b .0)))
+    bits zero = (
+      λ b. absurd (omega (arith, without, bit-low (bitAnd w (w - 1)))),
+      λ b. absurd (omega (arith, bit-low w, b .0)),
+    )
     bits (suc i) = (
       λ b. let c = lowest .left i .0 (subst (λ (n : ℕ). Bit n i) half (bit-suc (bitAnd w (w - 1)) i .0 b)) in
           (bit-suc w i .1 (c .0), λ d. c .1 (omega arith)),

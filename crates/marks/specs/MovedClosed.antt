@@ -1,4 +1,5 @@
--- Moving every word along a byte and closing each piece in itself: the marks are moved along the byte, and some of the closing is done.
+-- Moving every word along a byte and closing each piece in itself: the marks are moved along the byte, and some of the
+-- closing is done.
 -- Assumes nothing.
 use Prim.Native.Nat.{ℕ, _+_, _^_, _≤_, _<_}
 use mathlib.Core.Path.{_≡_, sym, subst}
@@ -10,6 +11,7 @@ use Rattle.language.specs.Automaton.{States}
 use Rattle.language.specs.Nested.{Nested, Has, Move}
 use Rattle.language.specs.Settled.{Settled}
 use Rattle.language.specs.Same.{More-in}
+use Rattle.tree.specs.Leaf.{Leaf}
 use Rattle.tables.specs.Words.{width, run, number, Holds, Clean}
 use Rattle.tables.specs.Plan.{row, takes, Moves, Pieces, Planned, Reaches, Each, Closes}
 use Rattle.marks.specs.Bits.{bit-zero}
@@ -18,7 +20,15 @@ use Rattle.marks.specs.Rows.{Rows, rows-none}
 use Rattle.marks.specs.Swept.{Narrow-below}
 use Rattle.marks.specs.EachClosed.{Each-closed}
 use Rattle.marks.specs.Moved.{Word-moved, moved-more, Marks-moved, Moved-all, moved-all}
-use Rattle.marks.specs.ClosedWords.{Closed-words, closed-none, closed-more, closed-keeps, closed-within, closed-each, closed-clean}
+use Rattle.marks.specs.ClosedWords.{
+  Closed-words,
+  closed-none,
+  closed-more,
+  closed-keeps,
+  closed-within,
+  closed-each,
+  closed-clean,
+}
 
 -- the first n words are moved along b, and each is closed in itself; the others are as before
 pub record Moved-closed (reach labels before after : List ℕ) (b n : ℕ) : Type 0 where
@@ -34,13 +44,16 @@ pub record Moving-closing (reach labels before after : List ℕ) (b n : ℕ) : T
 
 -- at first none is
 pub moving-none : (reach labels words : List ℕ) (b : ℕ) → Moving-closing reach labels words words b 0
-moving-none reach labels words b = record { moved = words; moves = rows-none (Word-moved labels words b) words 0; closes = closed-none reach words }
+moving-none reach labels words b =
+    record { moved = words; moves = rows-none (Word-moved labels words b) words 0; closes = closed-none reach words }
 
 -- r is the word of the piece after the byte b: moved, and closed in the piece
 pub record Word-after (reach labels : List ℕ) (piece word b r : ℕ) : Type 0 where
   pub moved : ℕ
-  pub moves : (x : Nested ℕ) → width x ≤ 62 → row labels piece (width x) ≡ takes x → word < 2 ^ width x → Moves x b word moved
-  pub closes : (x : Nested ℕ) → width x ≤ 62 → Reaches x (row reach piece (width x)) → moved < 2 ^ width x → Closes x moved r
+  pub moves : (x : Nested Leaf) → width x ≤ 62 → row labels piece (width x) ≡ takes x → word < 2 ^ width x
+      → Moves x b word moved
+  pub closes : (x : Nested Leaf) → width x ≤ 62 → Reaches x (row reach piece (width x)) → moved < 2 ^ width x
+      → Closes x moved r
 
 -- a word of no marks stays one
 pub none-after : (reach labels : List ℕ) (piece word b : ℕ) → word ≡ 0 → Word-after reach labels piece word b 0
@@ -54,18 +67,21 @@ none-after reach labels piece word b none = subst (λ (w : ℕ). Word-after reac
 }
 
 -- one word more
-pub moving-more : {reach labels before after : List ℕ} {b n w : ℕ} → n < length before → Moving-closing reach labels before after b n
+pub moving-more : {reach labels before after : List ℕ} {b n w : ℕ} → n < length before
+    → Moving-closing reach labels before after b n
     → Word-after reach labels n (getD after n 0) b w → Moving-closing reach labels before (set after n w) b (n + 1)
 moving-more {labels = labels} {after = after} {b = b} {n = n} inside so-far next = record {
   moved = set (so-far .moved) n (next .moved);
   moves = moved-more inside (so-far .moves)
-      (subst (λ (u : ℕ). (x : Nested ℕ) → width x ≤ 62 → row labels n (width x) ≡ takes x → u < 2 ^ width x → Moves x b u (next .moved))
+      (subst (λ (u : ℕ). (x : Nested Leaf) → width x ≤ 62 → row labels n (width x) ≡ takes x → u < 2 ^ width x
+      → Moves x b u (next .moved))
       (so-far .closes .others n (omega arith)) (next .moves));
   closes = closed-more (omega (arith, so-far .moves .same-length)) (so-far .closes) (next .closes);
 }
 
 -- at last all are
-pub moving-all : {reach labels before after : List ℕ} {b n m : ℕ} → m ≡ n → Moving-closing reach labels before after b m → Moved-closed reach labels before after b n
+pub moving-all : {reach labels before after : List ℕ} {b n m : ℕ} → m ≡ n → Moving-closing reach labels before after b m
+    → Moved-closed reach labels before after b n
 moving-all {reach} {after = after} e all = record {
   moved = all .moved;
   moves = moved-all e (all .moves);
@@ -81,19 +97,23 @@ module _ {reach labels before after : List ℕ} {b n : ℕ} (went : Moved-closed
   pub moved-others : (k : ℕ) → n ≤ k → getD after k 0 ≡ getD before k 0
   moved-others k past = omega (arith, went .moves .others k past, went .closes .others k past)
 
-  module _ (tables : Pieces) (x : Nested ℕ) (same : tables .labels ≡ labels) (planned : Planned tables x) (reached : Each Reaches reach x) (room : 1 + run x ≤ n)
+  module _ (tables : Pieces) (x : Nested Leaf) (same : tables .labels ≡ labels) (planned : Planned tables x)
+      (reached : Each Reaches reach x) (room : 1 + run x ≤ n)
       (narrow : width x ≤ 62) (narrow-below : Narrow-below x) (clean : Clean x before) where
     alone : Marks-moved x b before (went .moved)
     alone = went .moves .marks tables x same planned room narrow narrow-below clean
 
     -- each moved mark is there
     pub moved-keeps : More-in (Has x) (Move Is b x (Holds x before)) (Holds x after)
-    moved-keeps q has m = closed-keeps (went .closes) x reached room narrow narrow-below (alone .clean) q has (alone .holds q has .1 m)
+    moved-keeps q has m = closed-keeps (went .closes) x reached room narrow narrow-below (alone .clean) q has
+        (alone .holds q has .1 m)
 
     -- the marks lie within each settled set that has the moved ones
-    pub moved-within : (Z : States) → Settled x Z → More-in (Has x) (Move Is b x (Holds x before)) Z → More-in (Has x) (Holds x after) Z
+    pub moved-within : (Z : States) → Settled x Z → More-in (Has x) (Move Is b x (Holds x before)) Z
+        → More-in (Has x) (Holds x after) Z
     moved-within Z settled within =
-        closed-within (went .closes) x reached room narrow narrow-below (alone .clean) Z settled (λ q has m. within q has (alone .holds q has .0 m))
+        closed-within (went .closes) x reached room narrow narrow-below (alone .clean) Z settled
+        (λ q has m. within q has (alone .holds q has .0 m))
 
     -- each piece is closed
     pub moved-each-closed : Each-closed x after

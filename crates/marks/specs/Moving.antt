@@ -12,6 +12,7 @@ use lib.Pow.{pow-mono}
 use lib.ListN.{getD}
 use Rattle.language.specs.Automaton.{State, Reads}
 use Rattle.language.specs.Nested.{Nested, own}
+use Rattle.tree.specs.Leaf.{Leaf}
 use Rattle.tables.specs.Words.{Bit, width, Own, number}
 use Rattle.tables.specs.Plan.{row, takes, Is-own, Moves}
 use Rattle.tables.specs.Tables.{Noted}
@@ -28,11 +29,14 @@ pub record Picked (labels : List ℕ) (base label w rest r : ℕ) : Type 0 where
 
 -- at first none are picked
 pub picked-none : (labels : List ℕ) (base label w : ℕ) → Picked labels base label w w 0
-picked-none labels base label w = record { among = λ i b. b; exactly = λ j. (λ b. absurd (bit-zero j b), λ (b, gone, _). absurd (gone b)) }
+picked-none labels base label w =
+    record { among = λ i b. b; exactly = λ j. (λ b. absurd (bit-zero j b), λ (b, gone, _). absurd (gone b)) }
 
-module _ {labels : List ℕ} {base label w rest r s : ℕ} (so-far : Picked labels base label w rest r) (lowest : Lowest rest s) where
+module _ {labels : List ℕ} {base label w rest r s : ℕ} (so-far : Picked labels base label w rest r)
+    (lowest : Lowest rest s) where
   -- the lowest bit that is left is picked where its state has the label
-  pub picked-more : {rest′ r′ : ℕ} → getD labels (base + s) 0 ≡ label → r′ ≡ bitOr r (2 ^ s) → rest′ ≡ bitAnd rest (rest - 1) → Picked labels base label w rest′ r′
+  pub picked-more : {rest′ r′ : ℕ} → getD labels (base + s) 0 ≡ label → r′ ≡ bitOr r (2 ^ s)
+      → rest′ ≡ bitAnd rest (rest - 1) → Picked labels base label w rest′ r′
   picked-more has picks takes = subst₂ (λ (m v : ℕ). Picked labels base label w m v) (sym takes) (sym picks) record {
     among = λ i b. so-far .among i (lowest .left i .0 b .0);
     exactly = λ j. (
@@ -52,7 +56,8 @@ module _ {labels : List ℕ} {base label w rest r s : ℕ} (so-far : Picked labe
   }
 
   -- and is not where it has another
-  pub picked-same : {rest′ r′ : ℕ} → (getD labels (base + s) 0 ≡ label → ⊥) → r′ ≡ r → rest′ ≡ bitAnd rest (rest - 1) → Picked labels base label w rest′ r′
+  pub picked-same : {rest′ r′ : ℕ} → (getD labels (base + s) 0 ≡ label → ⊥) → r′ ≡ r → rest′ ≡ bitAnd rest (rest - 1)
+      → Picked labels base label w rest′ r′
   picked-same lacks keeps takes = subst₂ (λ (m v : ℕ). Picked labels base label w m v) (sym takes) (sym keeps) record {
     among = λ i b. so-far .among i (lowest .left i .0 b .0);
     exactly = λ j. (
@@ -64,15 +69,18 @@ module _ {labels : List ℕ} {base label w rest r s : ℕ} (so-far : Picked labe
     );
   }
 
--- where the picked ones are those among the leaves, they are those of the whole word: a state with the label of a byte is a leaf
+-- where the picked ones are those among the leaves, they are those of the whole word: a state with the label of a byte
+-- is a leaf
 picked-leaves : (reach labels : List ℕ) (k b w : ℕ) {rest r : ℕ} → Noted reach labels k → w < 2 ^ 62 → rest ≡ 0
-    → Picked labels (64 * k) (b + 1) (bitAnd w (getD reach (64 * k + 63) 0)) rest r → Picked labels (64 * k) (b + 1) w 0 r
+    → Picked labels (64 * k) (b + 1) (bitAnd w (getD reach (64 * k + 63) 0)) rest r
+    → Picked labels (64 * k) (b + 1) w 0 r
 picked-leaves reach labels k b w noted small nothing picked = record {
   among = λ i c. absurd (bit-zero i c);
   exactly = λ j. (
     λ c. let (m, _, at) = picked .exactly j .0 c in (bit-and w (getD reach (64 * k + 63) 0) j .0 m .0, bit-zero j, at),
     λ (m, _, at). picked .exactly j .1 (
-      bit-and w (getD reach (64 * k + 63) 0) j .1 (m, noted .leaves j (bit-below small m) (λ none. omega (arith, at, none))),
+      bit-and w (getD reach (64 * k + 63) 0) j .1
+          (m, noted .leaves j (bit-below small m) (λ none. omega (arith, at, none))),
       λ l. bit-zero j (subst (λ (v : ℕ). Bit v j) nothing l),
       at,
     ),
@@ -81,8 +89,10 @@ picked-leaves reach labels k b w noted small nothing picked = record {
 
 -- a word one place up
 bit-up : (w j : ℕ) → Bit (w * 2) (suc j) ↔ Bit w j
-bit-up w j =
-    (λ b. subst (λ (v : ℕ). Bit v j) half (bit-suc (w * 2) j .0 b), λ b. bit-suc (w * 2) j .1 (subst (λ (v : ℕ). Bit v j) (sym half) b))
+bit-up w j = (
+  λ b. subst (λ (v : ℕ). Bit v j) half (bit-suc (w * 2) j .0 b),
+  λ b. bit-suc (w * 2) j .1 (subst (λ (v : ℕ). Bit v j) (sym half) b),
+)
   where
     half : w * 2 / 2 ≡ w
     half = omega arith
@@ -92,7 +102,7 @@ no-bit-up : (w : ℕ) → Bit (w * 2) 0 → ⊥
 no-bit-up w b = omega (arith, bit-low (w * 2), b)
 
 -- from a state of w a transition that reads b leads to the state numbered j
-record Comes (x : Nested ℕ) (b w j : ℕ) : Type 0 where
+record Comes (x : Nested Leaf) (b w j : ℕ) : Type 0 where
   from : State
   to : State
   from-own : Own x from
@@ -101,21 +111,23 @@ record Comes (x : Nested ℕ) (b w j : ℕ) : Type 0 where
   reads : Reads Is-own b (own x) from to
 
 -- that state is one of the piece
-comes-below : {x : Nested ℕ} {b w j : ℕ} → Comes x b w j → j < width x
+comes-below : {x : Nested Leaf} {b w j : ℕ} → Comes x b w j → j < width x
 comes-below {x} {b} m = omega (arith, number-below x (m .to) (reads-on b x (m .reads) .to-own), m .numbered)
 
 -- so one leads to the state of that number
-comes-to : {x : Nested ℕ} {b w : ℕ} (q : State) → Own x q → Comes x b w (number x q)
+comes-to : {x : Nested Leaf} {b w : ℕ} (q : State) → Own x q → Comes x b w (number x q)
     → (p : State) × Own x p × Bit w (number x p) × Reads Is-own b (own x) p q
 comes-to {x} {b} q o m = (
   m .from,
   m .from-own,
   m .marked,
-  subst (λ (s : State). Reads Is-own b (own x) (m .from) s) (number-injective x (m .to) q (reads-on b x (m .reads) .to-own) o (m .numbered)) (m .reads),
+  subst (λ (s : State). Reads Is-own b (own x) (m .from) s)
+      (number-injective x (m .to) q (reads-on b x (m .reads) .to-own) o (m .numbered)) (m .reads),
 )
 
 -- the picked bits, one place up, are the word moved
-moves-by-picking : (labels : List ℕ) (piece b w r : ℕ) (x : Nested ℕ) → width x ≤ 62 → row labels piece (width x) ≡ takes x → w < 2 ^ width x
+moves-by-picking : (labels : List ℕ) (piece b w r : ℕ) (x : Nested Leaf) → width x ≤ 62 → row labels piece (width x)
+    ≡ takes x → w < 2 ^ width x
     → Picked labels (64 * piece) (b + 1) w 0 r → Moves x b w (r * 2 % 2 ^ 64)
 moves-by-picking labels piece b w r x narrow labelled small picked =
     subst (λ (v : ℕ). Moves x b w v) (sym (mod-eq-of-lt fits)) record {
@@ -124,14 +136,17 @@ moves-by-picking labels piece b w r x narrow labelled small picked =
     }
   where
     picked-small : r < 2 ^ 62
-    picked-small = lt-of-lt-of-le (below-of-bits (width x) r (λ j c. bit-below small (picked .exactly j .0 c .0))) (pow-mono narrow)
+    picked-small = lt-of-lt-of-le (below-of-bits (width x) r (λ j c. bit-below small (picked .exactly j .0 c .0)))
+        (pow-mono narrow)
 
     fits : r * 2 < 2 ^ 64
     fits = omega (arith, picked-small)
 
-    label-at : (p : State) (j : ℕ) → number x p ≡ j → j < width x → getD (takes x) (number x p) 0 ≡ getD labels (64 * piece + j) 0
+    label-at : (p : State) (j : ℕ) → number x p ≡ j → j < width x → getD (takes x) (number x p) 0
+        ≡ getD labels (64 * piece + j) 0
     label-at p j e h =
-        ap (λ (i : ℕ). getD (takes x) i 0) e ∙ ap (λ (l : List ℕ). getD l j 0) (sym labelled) ∙ row-at labels piece (width x) j h
+        ap (λ (i : ℕ). getD (takes x) i 0) e ∙ ap (λ (l : List ℕ). getD l j 0) (sym labelled)
+        ∙ row-at labels piece (width x) j h
 
     up : (j : ℕ) → Bit (r * 2) j → Comes x b w j
     up zero c = absurd (no-bit-up r c)
@@ -148,7 +163,8 @@ moves-by-picking labels piece b w r x narrow labelled small picked =
           reads = t .1;
         }
 
-    forth : (q : State) → Own x q → (p : State) × Own x p × Bit w (number x p) × Reads Is-own b (own x) p q → Bit (r * 2) (number x q)
+    forth : (q : State) → Own x q → (p : State) × Own x p × Bit w (number x p) × Reads Is-own b (own x) p q
+        → Bit (r * 2) (number x q)
     forth q o m =
         let s = reads-on b x (m .3) in
         subst (λ (i : ℕ). Bit (r * 2) i) (omega (arith, s .next))
@@ -161,6 +177,8 @@ moves-by-picking labels piece b w r x narrow labelled small picked =
 -- so are those among the leaves
 pub moves-by-leaves : (reach labels : List ℕ) (piece b w rest r : ℕ) → Noted reach labels piece → rest ≡ 0
     → Picked labels (64 * piece) (b + 1) (bitAnd w (getD reach (64 * piece + 63) 0)) rest r
-    → (x : Nested ℕ) → width x ≤ 62 → row labels piece (width x) ≡ takes x → w < 2 ^ width x → Moves x b w (r * 2 % 2 ^ 64)
+    → (x : Nested Leaf) → width x ≤ 62 → row labels piece (width x) ≡ takes x → w < 2 ^ width x
+    → Moves x b w (r * 2 % 2 ^ 64)
 moves-by-leaves reach labels piece b w rest r noted nothing picked x narrow labelled small =
-    moves-by-picking labels piece b w r x narrow labelled small (picked-leaves reach labels piece b w noted (lt-of-lt-of-le small (pow-mono narrow)) nothing picked)
+    moves-by-picking labels piece b w r x narrow labelled small
+    (picked-leaves reach labels piece b w noted (lt-of-lt-of-le small (pow-mono narrow)) nothing picked)

@@ -8,7 +8,20 @@ use lib.ListN.{length, getD, length-map, List·getD-map}
 use Rattle.language.specs.Automaton.{State, start, accepting, left, right}
 use Rattle.language.specs.Nested.{Nested, leaf, catenation, union, star, below}
 use Rattle.tables.specs.Words.{width, Own, number}
-use Rattle.marks.specs.Parts.{one-length, one-inside, one-end, two-length, two-left, two-right, two-end, at-start, in-left, in-right, at-end, place}
+use Rattle.marks.specs.Parts.{
+  one-length,
+  one-inside,
+  one-end,
+  two-length,
+  two-left,
+  two-right,
+  two-end,
+  at-start,
+  in-left,
+  in-right,
+  at-end,
+  place,
+}
 
 -- within a list the default does not matter
 any-default : {A : Type 0} (l : List A) (i : ℕ) (d d′ : A) → i < length l → getD l i d ≡ getD l i d′
@@ -85,7 +98,8 @@ module _ {A : Type 0} where
   length-states (union x y) =
       two-length start accepting (map left (states x)) (map right (states y))
       (length-map (states x) left ∙ length-states x) (length-map (states y) right ∙ length-states y)
-  length-states (star x) = one-length start accepting (map left (states x)) (length-map (states x) left ∙ length-states x)
+  length-states (star x) =
+      one-length start accepting (map left (states x)) (length-map (states x) left ∙ length-states x)
   length-states (below x) = refl
 
   -- seen from the node above, they are as many
@@ -97,7 +111,8 @@ module _ {A : Type 0} where
   Stands x q = getD (states x) (number x q) start ≡ q
 
   -- seen from the node above, a state stands at the same number
-  mapped : (e : State → State) (x : Nested A) (q : State) → Own x q → Stands x q → getD (map e (states x)) (number x q) start ≡ e q
+  mapped : (e : State → State) (x : Nested A) (q : State) → Own x q → Stands x q
+      → getD (map e (states x)) (number x q) start ≡ e q
   unfolding Stands
   mapped e x q o h =
       any-default (map e (states x)) (number x q) start (e start) (omega (arith, mapped-length e x, number-below x q o))
@@ -112,20 +127,23 @@ module _ {A : Type 0} where
     left-stands : (q : State) → Own x q → Stands x q → getD two-states (1 + number x q) start ≡ left q
     unfolding two-states
     left-stands q o h =
-        two-left start accepting (map left (states x)) (map right (states y)) (mapped-length left x) (mapped-length right y) start (number x q) (number-below x q o)
+        two-left start accepting (map left (states x)) (map right (states y)) (mapped-length left x)
+        (mapped-length right y) start (number x q) (number-below x q o)
         ∙ mapped left x q o h
 
     -- a state of the second part does
     right-stands : (q : State) → Own y q → Stands y q → getD two-states (1 + width x + number y q) start ≡ right q
     unfolding two-states
     right-stands q o h =
-        two-right start accepting (map left (states x)) (map right (states y)) (mapped-length left x) (mapped-length right y) start (number y q) (number-below y q o)
+        two-right start accepting (map left (states x)) (map right (states y)) (mapped-length left x)
+        (mapped-length right y) start (number y q) (number-below y q o)
         ∙ mapped right y q o h
 
     -- the accepting state does
     end-stands : getD two-states (1 + width x + width y) start ≡ accepting
     unfolding two-states
-    end-stands = two-end start accepting (map left (states x)) (map right (states y)) (mapped-length left x) (mapped-length right y) start
+    end-stands = two-end start accepting (map left (states x)) (map right (states y)) (mapped-length left x)
+        (mapped-length right y) start
 
   -- a state stands at its number
   stands : (x : Nested A) (q : State) → Own x q → Stands x q

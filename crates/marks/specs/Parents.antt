@@ -1,4 +1,5 @@
--- The piece that a child piece hangs below, found by the runs alone: the last piece before it whose run reaches past it.
+-- The piece that a child piece hangs below, found by the runs alone: the last piece before it whose run reaches past
+-- it.
 -- Assumes nothing.
 use Prim.Native.Nat.{ℕ, zero, suc, _+_, _-_, _≤_, _<_}
 use mathlib.Core.Path.{_≡_, sym, subst}
@@ -7,6 +8,7 @@ use native.Mathlib.Decide.{ℕ-discrete, decLt}
 use native.Mathlib.Omega.{arith}
 use lib.ListN.{getD}
 use Rattle.language.specs.Nested.{Nested, leaf, catenation, union, star, below}
+use Rattle.tree.specs.Leaf.{Leaf}
 use Rattle.tables.specs.Words.{width, run}
 use Rattle.tables.specs.Plan.{Pieces, Piece-at, Children-at}
 
@@ -39,8 +41,9 @@ parent-unique {runs} {c} {k} {l} p q = elim (decLt k l) [
   ]
 ]
 
--- what P says of the piece that it hangs below and of it holds of each child piece below x. x is a part of piece k, and its child pieces are numbered from new
-abbrev pub Every-child : (ℕ → ℕ → Type 0) → Nested ℕ → (k new : ℕ) → Type 0
+-- what P says of the piece that it hangs below and of it holds of each child piece below x. x is a part of piece k, and
+-- its child pieces are numbered from new
+abbrev pub Every-child : (ℕ → ℕ → Type 0) → Nested Leaf → (k new : ℕ) → Type 0
 Every-child P (leaf a) k new = Unit {0}
 Every-child P (catenation x y) k new = Every-child P x k new × Every-child P y k (new + run x)
 Every-child P (union x y) k new = Every-child P x k new × Every-child P y k (new + run x)
@@ -49,7 +52,8 @@ Every-child P (below x) k new = P k new × Every-child P x new (new + 1)
 
 module _ (tables : Pieces) where
   -- no run of a child piece below x reaches past the last of them
-  runs-inside : (x : Nested ℕ) (i new : ℕ) → Children-at tables x i new → (m : ℕ) → new ≤ m → m < new + run x → m + getD (tables .runs) m 0 ≤ new + run x
+  runs-inside : (x : Nested Leaf) (i new : ℕ) → Children-at tables x i new → (m : ℕ) → new ≤ m → m < new + run x
+      → m + getD (tables .runs) m 0 ≤ new + run x
   runs-inside (leaf a) i new at m l h = absurd (omega arith)
   runs-inside (catenation x y) i new at m l h = elim (decLt m (new + run x)) [
     | yes s ↦ omega (arith, runs-inside x (i + 1) new (at .0) m l s)
@@ -65,7 +69,8 @@ module _ (tables : Pieces) where
     | no s ↦ omega (arith, runs-inside x 0 (new + 1) (at .2) m (omega arith) (omega arith))
   ]
 
-  -- a part of piece k, of which n pieces hang below it from `new` on: the run of k reaches past them, and those of the pieces before do not reach them
+  -- a part of piece k, of which n pieces hang below it from `new` on: the run of k reaches past them, and those of the
+  -- pieces before do not reach them
   pub record Hanging (k new n : ℕ) : Type 0 where
     pub after : k < new
     pub inside : new + n ≤ k + getD (tables .runs) k 0
@@ -76,7 +81,8 @@ module _ (tables : Pieces) where
   hanging-first n m h = record { after = h .after; inside = omega (arith, h .inside); before = h .before }
 
   -- those below the rest
-  hanging-rest : {k new : ℕ} (x : Nested ℕ) (i m : ℕ) → Children-at tables x i new → Hanging k new (run x + m) → Hanging k (new + run x) m
+  hanging-rest : {k new : ℕ} (x : Nested Leaf) (i m : ℕ) → Children-at tables x i new → Hanging k new (run x + m)
+      → Hanging k (new + run x) m
   hanging-rest {k} {new} x i m at h = record {
     after = omega (arith, h .after);
     inside = omega (arith, h .inside);
@@ -87,8 +93,9 @@ module _ (tables : Pieces) where
   }
 
   -- those below a child piece
-  pub hanging-child : {new : ℕ} (x : Nested ℕ) → Piece-at tables x new → Hanging new (new + 1) (run x)
-  hanging-child x at = record { after = omega arith; inside = omega (arith, at .ran); before = λ m l s. absurd (omega arith) }
+  pub hanging-child : {new : ℕ} (x : Nested Leaf) → Piece-at tables x new → Hanging new (new + 1) (run x)
+  hanging-child x at =
+      record { after = omega arith; inside = omega (arith, at .ran); before = λ m l s. absurd (omega arith) }
 
   -- so k is the parent of the first of them
   hanging-parent : {k new : ℕ} (n : ℕ) → Hanging k new (1 + n) → Parent (tables .runs) new k
@@ -96,16 +103,18 @@ module _ (tables : Pieces) where
 
   module _ (P : ℕ → ℕ → Type 0) where
     -- what holds of each piece and its parent holds at each child piece in the tree
-    pub every-of-all : (x : Nested ℕ) (i k new : ℕ) → Children-at tables x i new → Hanging k new (run x)
+    pub every-of-all : (x : Nested Leaf) (i k new : ℕ) → Children-at tables x i new → Hanging k new (run x)
         → ((c : ℕ) → new ≤ c → c < new + run x → (l : ℕ) → Parent (tables .runs) c l → P l c) → Every-child P x k new
     every-of-all (leaf a) i k new at h all = tt
     every-of-all (catenation x y) i k new at h all = (
       every-of-all x (i + 1) k new (at .0) (hanging-first (run x) (run y) h) (λ c l m. all c l (omega arith)),
-      every-of-all y (i + (1 + width x)) k (new + run x) (at .1) (hanging-rest x (i + 1) (run y) (at .0) h) (λ c l m. all c (omega arith) (omega arith)),
+      every-of-all y (i + (1 + width x)) k (new + run x) (at .1) (hanging-rest x (i + 1) (run y) (at .0) h)
+          (λ c l m. all c (omega arith) (omega arith)),
     )
     every-of-all (union x y) i k new at h all = (
       every-of-all x (i + 1) k new (at .0) (hanging-first (run x) (run y) h) (λ c l m. all c l (omega arith)),
-      every-of-all y (i + (1 + width x)) k (new + run x) (at .1) (hanging-rest x (i + 1) (run y) (at .0) h) (λ c l m. all c (omega arith) (omega arith)),
+      every-of-all y (i + (1 + width x)) k (new + run x) (at .1) (hanging-rest x (i + 1) (run y) (at .0) h)
+          (λ c l m. all c (omega arith) (omega arith)),
     )
     every-of-all (star x) i k new at h all = every-of-all x (i + 1) k new at h all
     every-of-all (below x) i k new at h all = (
@@ -114,20 +123,24 @@ module _ (tables : Pieces) where
     )
 
     -- and the other way round
-    pub all-of-every : (x : Nested ℕ) (i k new : ℕ) → Children-at tables x i new → Hanging k new (run x) → Every-child P x k new
+    pub all-of-every : (x : Nested Leaf) (i k new : ℕ) → Children-at tables x i new → Hanging k new (run x)
+        → Every-child P x k new
         → (c : ℕ) → new ≤ c → c < new + run x → (l : ℕ) → Parent (tables .runs) c l → P l c
     all-of-every (leaf a) i k new at h every c l m = absurd (omega arith)
     all-of-every (catenation x y) i k new at h every c l m = elim (decLt c (new + run x)) [
       | yes s ↦ all-of-every x (i + 1) k new (at .0) (hanging-first (run x) (run y) h) (every .0) c l s
-      | no s ↦ all-of-every y (i + (1 + width x)) k (new + run x) (at .1) (hanging-rest x (i + 1) (run y) (at .0) h) (every .1) c (omega arith) (omega arith)
+      | no s ↦ all-of-every y (i + (1 + width x)) k (new + run x) (at .1) (hanging-rest x (i + 1) (run y) (at .0) h)
+          (every .1) c (omega arith) (omega arith)
     ]
     all-of-every (union x y) i k new at h every c l m = elim (decLt c (new + run x)) [
       | yes s ↦ all-of-every x (i + 1) k new (at .0) (hanging-first (run x) (run y) h) (every .0) c l s
-      | no s ↦ all-of-every y (i + (1 + width x)) k (new + run x) (at .1) (hanging-rest x (i + 1) (run y) (at .0) h) (every .1) c (omega arith) (omega arith)
+      | no s ↦ all-of-every y (i + (1 + width x)) k (new + run x) (at .1) (hanging-rest x (i + 1) (run y) (at .0) h)
+          (every .1) c (omega arith) (omega arith)
     ]
     all-of-every (star x) i k new at h every c l m = all-of-every x (i + 1) k new at h every c l m
     all-of-every (below x) i k new at h every c l m = elim (ℕ-discrete c new) [
       | yes e ↦ λ j p. subst (λ (n : ℕ). P j n) (sym e)
-          (subst (λ (n : ℕ). P n new) (parent-unique (hanging-parent (run x) h) (subst (λ (n : ℕ). Parent (tables .runs) n j) e p)) (every .0))
+          (subst (λ (n : ℕ). P n new)
+          (parent-unique (hanging-parent (run x) h) (subst (λ (n : ℕ). Parent (tables .runs) n j) e p)) (every .0))
       | no s ↦ all-of-every x 0 new (new + 1) (at .2) (hanging-child x (at .1)) (every .1) c (omega arith) (omega arith)
     ]

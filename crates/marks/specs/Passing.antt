@@ -13,7 +13,10 @@ use Rattle.marks.specs.Swept.{passed, Missed}
 -- one bit or none, shifted up
 bit-moved : (other from to k : ℕ) → Bit (other / 2 ^ from % 2 * 2 ^ to) k ↔ ((k ≡ to) × Bit other from)
 bit-moved other from to k = elim (dec-bit other from) [
-  | yes l ↦ (λ b. (bit-power to k .0 (subst (λ (v : ℕ). Bit v k) (one l) b), l), λ h. subst (λ (v : ℕ). Bit v k) (sym (one l)) (bit-power to k .1 (h .0)))
+  | yes l ↦ (
+    λ b. (bit-power to k .0 (subst (λ (v : ℕ). Bit v k) (one l) b), l),
+    λ h. subst (λ (v : ℕ). Bit v k) (sym (one l)) (bit-power to k .1 (h .0)),
+  )
   | no l ↦ (λ b. absurd (bit-zero k (subst (λ (v : ℕ). Bit v k) (none l) b)), λ h. absurd (l (h .1)))
 ]
   where
@@ -24,7 +27,8 @@ bit-moved other from to k = elim (dec-bit other from) [
     none l = ap (λ (v : ℕ). v * 2 ^ to) (clear-bit other from l) ∙ zero-mul (2 ^ to)
 
 -- the bits after passing: those of the word, and the one that was passed
-pub bit-passed : (other from word to k : ℕ) → Bit (passed other from word to) k ↔ (Bit word k ⊎ ((k ≡ to) × Bit other from))
+pub bit-passed : (other from word to k : ℕ) → Bit (passed other from word to) k
+    ↔ (Bit word k ⊎ ((k ≡ to) × Bit other from))
 unfolding passed
 bit-passed other from word to k = (
   λ b. ⊎-elim inl (λ m. inr (bit-moved other from to k .0 m)) (bit-or word (other / 2 ^ from % 2 * 2 ^ to) k .0 b),
@@ -40,4 +44,5 @@ passed-below other from word to n h l =
 
 -- the word with bit i set has it, whatever the other has
 pub missed-with : (other i word : ℕ) → Missed other i word (bitOr word (2 ^ i))
-missed-with other i word = record { all = λ j b. bit-with word i j .1 (inl b); one = λ none. bit-with word i i .1 (inr refl) }
+missed-with other i word =
+    record { all = λ j b. bit-with word i j .1 (inl b); one = λ none. bit-with word i i .1 (inr refl) }

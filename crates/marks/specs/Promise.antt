@@ -10,6 +10,7 @@ use Rattle.language.specs.Tree.{Tree}
 use Rattle.language.specs.Language.{Is}
 use Rattle.language.specs.Automaton.{States, accepting, Started, Stepped}
 use Rattle.language.specs.Nested.{Models}
+use Rattle.tree.specs.Leaf.{Leaf}
 use Rattle.tree.specs.Records.{Good, piece-count}
 use Rattle.tables.specs.Words.{Holds, Clean, Agreeing, Set-of}
 use Rattle.tree.specs.Pieces.{cut-up}
@@ -23,15 +24,16 @@ number-of NotGood = 10
 number-of TooFewWords = 12
 number-of NotMarks = 13
 
--- the words hold the set X of states of t's automaton: one word for each piece, no bit past a last state; the words past the pieces are as before
-pub record Hold (t : Tree ℕ) (X : States) (before after : List ℕ) : Type 0 where
+-- the words hold the set X of states of t's automaton: one word for each piece, no bit past a last state; the words
+-- past the pieces are as before
+pub record Hold (t : Tree Leaf) (X : States) (before after : List ℕ) : Type 0 where
   pub marks : Models (cut-up t) (Holds (cut-up t) after) X
   pub clean : Clean (cut-up t) after
   pub others : drop (piece-count t) after ≡ drop (piece-count t) before
   pub same-length : length after ≡ length before
 
 -- the words are marks of t: no bit past a last state is set, and the two bits of each shared state agree
-pub record Marks-of (t : Tree ℕ) (words : List ℕ) : Type 0 where
+pub record Marks-of (t : Tree Leaf) (words : List ℕ) : Type 0 where
   pub clean : Clean (cut-up t) words
   pub agreeing : Agreeing (cut-up t) words
 
@@ -41,8 +43,8 @@ pub record Refused (before after : List ℕ) (why : Type 0) : Type 0 where
   pub unchanged : after ≡ before
 
 -- the marks of t are made: X, and whether the accepting state is in it
-pub record Made (list : List ℕ) (X : Tree ℕ → States) (before after : List ℕ) (yes' : Bool) : Type 0 where
-  pub t : Tree ℕ
+pub record Made (list : List ℕ) (X : Tree Leaf → States) (before after : List ℕ) (yes' : Bool) : Type 0 where
+  pub t : Tree Leaf
   pub good : Good list t
   pub enough : piece-count t ≤ length before
   pub hold : Hold t (X t) before after
@@ -50,15 +52,15 @@ pub record Made (list : List ℕ) (X : Tree ℕ → States) (before after : List
 
 -- the list is not good
 abbrev pub Not-good : List ℕ → Type 0
-Not-good list = (t : Tree ℕ) → Good list t → ⊥
+Not-good list = (t : Tree Leaf) → Good list t → ⊥
 
 -- the list is good, and fewer words are lent than there are pieces
 abbrev pub Too-few : List ℕ → List ℕ → Type 0
-Too-few list words = (t : Tree ℕ) × Good list t × (length words < piece-count t)
+Too-few list words = (t : Tree Leaf) × Good list t × (length words < piece-count t)
 
 -- the list is good, there are words enough, and they are no marks of it
 abbrev pub Not-marks : List ℕ → List ℕ → Type 0
-Not-marks list words = (t : Tree ℕ) × Good list t × (piece-count t ≤ length words) × (Marks-of t words → ⊥)
+Not-marks list words = (t : Tree Leaf) × Good list t × (piece-count t ≤ length words) × (Marks-of t words → ⊥)
 
 -- what start answers, and the words afterwards: the closing of the root's start
 abbrev pub Starts : (list before after : List ℕ) → Answer → Type 0
@@ -67,7 +69,8 @@ Starts list before after NotGood = Refused before after (Not-good list)
 Starts list before after TooFewWords = Refused before after (Too-few list before)
 Starts list before after NotMarks = ⊥
 
--- what step answers, and the words afterwards: from the set that the words held, the states that a path reading the byte and then any
+-- what step answers, and the words afterwards: from the set that the words held, the states that a path reading the
+-- byte and then any
 -- number of empty transitions leads to
 pub record Steps-on (list : List ℕ) (byte : ℕ) (before after : List ℕ) (yes' : Bool) : Type 0 where
   pub made : Made list (λ t. Stepped Is t byte (Set-of (cut-up t) before)) before after yes'

@@ -1,4 +1,5 @@
--- Warshall's way to the states that are reached, from the last state down: a state's row is made from the rows of the states ahead of it,
+-- Warshall's way to the states that are reached, from the last state down: a state's row is made from the rows of the
+-- states ahead of it,
 -- and then the state is let in between, where a row ahead leads back to it.
 -- Assumes nothing.
 use Prim.Native.Nat.{ℕ, _+_, _-_, _≤_, _<_}
@@ -14,13 +15,16 @@ use Rattle.marks.specs.Bits.{dec-bit, bit-or}
 use Rattle.marks.specs.Rows.{Rows, rows-set, rows-same}
 use Rattle.marks.specs.Ahead.{Joined-ahead, joined-all}
 
--- the word w of row i after the state `via` was let in between: where a row after its own has its bit, its row is joined to that row
+-- the word w of row i after the state `via` was let in between: where a row after its own has its bit, its row is
+-- joined to that row
 pub record Let-in (before : List ℕ) (base via i w : ℕ) : Type 0 where
-  pub joined : via < i → Bit (getD before (base + i) 0) via → w ≡ bitOr (getD before (base + i) 0) (getD before (base + via) 0)
+  pub joined : via < i → Bit (getD before (base + i) 0) via
+      → w ≡ bitOr (getD before (base + i) 0) (getD before (base + via) 0)
   pub kept : (i ≤ via) ⊎ (Bit (getD before (base + i) 0) via → ⊥) → w ≡ getD before (base + i) 0
 
 -- where no row after its own has its bit, nothing is to be done
-pub let-in-none : {before : List ℕ} {base via n : ℕ} → ((i : ℕ) → via < i → i < n → Bit (getD before (base + i) 0) via → ⊥)
+pub let-in-none : {before : List ℕ} {base via n : ℕ}
+    → ((i : ℕ) → via < i → i < n → Bit (getD before (base + i) 0) via → ⊥)
     → Rows (Let-in before base via) before before base n
 let-in-none none = record {
   same-length = refl;
@@ -32,7 +36,8 @@ let-in-none none = record {
 pub let-in-begun : (before : List ℕ) (base via : ℕ) → Rows (Let-in before base via) before before base (via + 1)
 let-in-begun before base via = let-in-none (λ i l h. absurd (omega arith))
 
-module _ {before after : List ℕ} {base via n : ℕ} (h : via < n) (so-far : Rows (Let-in before base via) before after base n) where
+module _ {before after : List ℕ} {base via n : ℕ} (h : via < n)
+    (so-far : Rows (Let-in before base via) before after base n) where
   -- the next row is as before
   as-before : getD after (base + n) 0 ≡ getD before (base + n) 0
   as-before = so-far .others (base + n) (inr (omega arith))
@@ -49,7 +54,8 @@ module _ {before after : List ℕ} {base via n : ℕ} (h : via < n) (so-far : Ro
       })
 
   -- one row more, which has not
-  pub let-in-kept : {next : List ℕ} → (Bit (getD after (base + n) 0) via → ⊥) → next ≡ after → Rows (Let-in before base via) before next base (n + 1)
+  pub let-in-kept : {next : List ℕ} → (Bit (getD after (base + n) 0) via → ⊥) → next ≡ after
+      → Rows (Let-in before base via) before next base (n + 1)
   let-in-kept b t =
       subst (λ (l : List ℕ). Rows (Let-in before base via) before l base (n + 1)) (sym t)
       (rows-same so-far record {
@@ -59,7 +65,8 @@ module _ {before after : List ℕ} {base via n : ℕ} (h : via < n) (so-far : Ro
 
 -- the bits of a word that was let in, from its own row on
 pub let-in-bits : {before : List ℕ} {base via i w : ℕ} → via ≤ i → Let-in before base via i w → (j : ℕ)
-    → Bit w j ↔ (Bit (getD before (base + i) 0) j ⊎ (Bit (getD before (base + i) 0) via × Bit (getD before (base + via) 0) j))
+    → Bit w j ↔ (Bit (getD before (base + i) 0) j
+    ⊎ (Bit (getD before (base + i) 0) via × Bit (getD before (base + via) 0) j))
 let-in-bits {before} {base} {via} {i} {w} h l j = elim (decLt via i) [
   | yes s ↦ elim (dec-bit (getD before (base + i) 0) via) [
     | yes b ↦ (
@@ -97,16 +104,19 @@ module _ (R : ℕ → ℕ → Type 0) (n via : ℕ) (h : via < n)
     )
   ]
 
--- of n rows, those from k on hold the relation P as far as it needs only states from v on in between: D holds it directly
+-- of n rows, those from k on hold the relation P as far as it needs only states from v on in between: D holds it
+-- directly
 pub record Partly (D P : ℕ → ℕ → Type 0) (n : ℕ) (table : List ℕ) (base k v : ℕ) : Type 0 where
   pub inside : (i j : ℕ) → k ≤ i → i < n → Bit (getD table (base + i) 0) j → P i j
   pub direct : (i j : ℕ) → k ≤ i → i < n → D i j → Bit (getD table (base + i) 0) j
   pub through : (i m j : ℕ) → k ≤ i → i < n → v ≤ m → m < n
       → Bit (getD table (base + i) 0) m → Bit (getD table (base + m) 0) j → Bit (getD table (base + i) 0) j
 
-module _ {D P : ℕ → ℕ → Type 0} {n : ℕ} {before after : List ℕ} {base k : ℕ} (transitive : (i j m : ℕ) → P i j → P j m → P i m) (h : k < n) where
+module _ {D P : ℕ → ℕ → Type 0} {n : ℕ} {before after : List ℕ} {base k : ℕ} (transitive : (i j m : ℕ) → P i j → P j m
+    → P i m) (h : k < n) where
   -- one state more is let in between
-  pub let-in : Partly D P n before base k (k + 1) → Rows (Let-in before base k) before after base n → Partly D P n after base k k
+  pub let-in : Partly D P n before base k (k + 1) → Rows (Let-in before base k) before after base n
+      → Partly D P n after base k k
   let-in partly rows = record {
     inside = λ i j f l b. ⊎-elim (partly .inside i j f l)
         (λ c. transitive i k j (partly .inside i k f l (c .0)) (partly .inside k j (omega arith) h (c .1)))
@@ -114,17 +124,22 @@ module _ {D P : ℕ → ℕ → Type 0} {n : ℕ} {before after : List ℕ} {bas
     direct = λ i j f l d. new i f l j .1 (inl (partly .direct i j f l d));
     through = λ i m j f l g s a b.
         new i f l j .1
-        (more (λ (i j : ℕ). Bit (getD before (base + i) 0) j) n k h (λ i m j f l g. partly .through i m j f l (omega arith))
+        (more (λ (i j : ℕ). Bit (getD before (base + i) 0) j) n k h
+        (λ i m j f l g. partly .through i m j f l (omega arith))
         i m j f l g s (new i f l m .0 a) (new m g s j .0 b));
   }
     where
       new : (i : ℕ) → k ≤ i → i < n → (j : ℕ)
-          → Bit (getD after (base + i) 0) j ↔ (Bit (getD before (base + i) 0) j ⊎ (Bit (getD before (base + i) 0) k × Bit (getD before (base + k) 0) j))
+          → Bit (getD after (base + i) 0) j
+          ↔ (Bit (getD before (base + i) 0) j
+          ⊎ (Bit (getD before (base + i) 0) k × Bit (getD before (base + k) 0) j))
       new i f l = let-in-bits f (rows .rows i l)
 
   -- one row more is made, of the word of the state's transitions
-  pub join-row : {w : ℕ} → ((j : ℕ) → D k j → P k j × (j < n)) → ((j : ℕ) → D k j ↔ (Bit (getD before (base + k) 0) j ⊎ (j ≡ k)))
-      → Joined-ahead before base k 0 w → getD after (base + k) 0 ≡ w → ((i : ℕ) → k < i → getD after (base + i) 0 ≡ getD before (base + i) 0)
+  pub join-row : {w : ℕ} → ((j : ℕ) → D k j → P k j × (j < n))
+      → ((j : ℕ) → D k j ↔ (Bit (getD before (base + k) 0) j ⊎ (j ≡ k)))
+      → Joined-ahead before base k 0 w → getD after (base + k) 0 ≡ w
+      → ((i : ℕ) → k < i → getD after (base + i) 0 ≡ getD before (base + i) 0)
       → Partly D P n before base (k + 1) (k + 1) → Partly D P n after base k (k + 1)
   join-row {w} holds word joined made others partly = record {
     inside = λ i j f l b. elim (ℕ-discrete i k) [
@@ -135,18 +150,20 @@ module _ {D P : ℕ → ℕ → Type 0} {n : ℕ} {before after : List ℕ} {bas
       | yes e ↦ to-row i e j (direct j (subst (λ (v : ℕ). D v j) e d))
       | no e ↦ subst (λ (v : ℕ). Bit v j) (sym (others i (omega arith))) (partly .direct i j (omega arith) l d)
     ];
-    through = λ i m j f l g s a b. let c = subst (λ (v : ℕ). Bit v j) (others m (omega arith)) b in elim (ℕ-discrete i k) [
-      | yes e ↦ to-row i e j (through m j g s (row-of i e m a) c)
-      | no e ↦ subst (λ (v : ℕ). Bit v j) (sym (others i (omega arith)))
-          (partly .through i m j (omega arith) l g s (subst (λ (v : ℕ). Bit v m) (others i (omega arith)) a) c)
-    ];
+    through = λ i m j f l g s a b. let c =
+        subst (λ (v : ℕ). Bit v j) (others m (omega arith)) b in elim (ℕ-discrete i k) [
+          | yes e ↦ to-row i e j (through m j g s (row-of i e m a) c)
+          | no e ↦ subst (λ (v : ℕ). Bit v j) (sym (others i (omega arith)))
+              (partly .through i m j (omega arith) l g s (subst (λ (v : ℕ). Bit v m) (others i (omega arith)) a) c)
+        ];
   }
     where
       row-of : (i : ℕ) → i ≡ k → (j : ℕ) → Bit (getD after (base + i) 0) j → Bit w j
       row-of i e j b = subst (λ (v : ℕ). Bit v j) made (subst (λ (v : ℕ). Bit (getD after (base + v) 0) j) e b)
 
       to-row : (i : ℕ) → i ≡ k → (j : ℕ) → Bit w j → Bit (getD after (base + i) 0) j
-      to-row i e j b = subst (λ (v : ℕ). Bit (getD after (base + v) 0) j) (sym e) (subst (λ (v : ℕ). Bit v j) (sym made) b)
+      to-row i e j b =
+          subst (λ (v : ℕ). Bit (getD after (base + v) 0) j) (sym e) (subst (λ (v : ℕ). Bit v j) (sym made) b)
 
       direct : (j : ℕ) → D k j → Bit w j
       direct j d = ⊎-elim (joined .kept j) (λ e. subst (λ (v : ℕ). Bit w v) (sym e) (joined .own)) (word j .0 d)
@@ -163,7 +180,8 @@ module _ {D P : ℕ → ℕ → Type 0} {n : ℕ} {before after : List ℕ} {bas
       ]
 
       inside : (j : ℕ) → Bit w j → P k j
-      inside j b = ⊎-elim (λ c. holds j (word j .1 c) .0) (λ t. inside-ahead (t .0) j (t .1) (t .2)) (joined .inside j b)
+      inside j b = ⊎-elim (λ c. holds j (word j .1 c) .0) (λ t. inside-ahead (t .0) j (t .1) (t .2))
+          (joined .inside j b)
 
       ahead : (m j : ℕ) → k + 1 ≤ m → Bit (getD before (base + k) 0) m → Bit (getD before (base + m) 0) j → Bit w j
       ahead m j g a b =

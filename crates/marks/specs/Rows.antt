@@ -43,14 +43,16 @@ module _ {Row : ℕ → ℕ → Type 0} {before after : List ℕ} {base n : ℕ}
     rows = λ i h. elim (ℕ-discrete i n) [
       | yes e ↦ subst (λ (k : ℕ). Row k (getD (set after (base + n) w) (base + k) 0)) (sym e)
           (subst (λ (v : ℕ). Row n v) (sym (getD-set-same after (base + n) w 0 (omega (arith, so-far .same-length)))) r)
-      | no m ↦ subst (λ (v : ℕ). Row i v) (sym (getD-set-other after (base + n) (base + i) w 0 (omega arith))) (so-far .rows i (omega arith))
+      | no m ↦ subst (λ (v : ℕ). Row i v) (sym (getD-set-other after (base + n) (base + i) w 0 (omega arith)))
+          (so-far .rows i (omega arith))
     ];
     others = λ k h. getD-set-other after (base + n) k w 0 (⊎-elim (λ m. omega arith) (λ m. omega arith) h)
         ∙ so-far .others k (⊎-elim inl (λ m. inr (omega arith)) h);
   }
 
   -- one more, stored at a place that is the same
-  pub rows-set-at : {k : ℕ} (w : ℕ) → k ≡ base + n → base + n < length before → Row n w → Rows Row before (set after k w) base (n + 1)
+  pub rows-set-at : {k : ℕ} (w : ℕ) → k ≡ base + n → base + n < length before → Row n w
+      → Rows Row before (set after k w) base (n + 1)
   rows-set-at w e l r = subst (λ (i : ℕ). Rows Row before (set after i w) base (n + 1)) (sym e) (rows-set w l r)
 
 -- an entry of the row of piece k, by its place in the table

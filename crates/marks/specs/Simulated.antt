@@ -14,18 +14,35 @@ use Rattle.language.specs.Nested.{Nested, whole, own as own-tree, Has, Models, 
 use Rattle.language.specs.Same.{More-in, Agree, sweep-same, models-same}
 use Rattle.language.specs.Settled.{Settled}
 use Rattle.language.specs.Sweeps.{sweeps-start, sweeps-step-closed}
+use Rattle.tree.specs.Leaf.{Leaf}
 use Rattle.tables.specs.Words.{Bit, width, run, number, Holds, Clean}
 use Rattle.tables.specs.Plan.{Planned, Each, Reaches}
 use Rattle.marks.specs.Numbers.{width-two, number-injective}
 use Rattle.marks.specs.Bits.{bit-zero, bit-power}
 use Rattle.marks.specs.EachClosed.{Each-closed-below, zeros-closed}
 use Rattle.marks.specs.Swept.{Nearly-closed, Narrow-below, tables, Laid}
-use Rattle.marks.specs.Spots.{Spot, own, under, spot, Held, holds-held, Within, spot-within, First, first-start, Bounded, clean-words, below-power, widths}
+use Rattle.marks.specs.Spots.{
+  Spot,
+  own,
+  under,
+  spot,
+  Held,
+  holds-held,
+  Within,
+  spot-within,
+  First,
+  first-start,
+  Bounded,
+  clean-words,
+  below-power,
+  widths,
+}
 use Rattle.marks.specs.Visiting.{accepting-holds}
 use Rattle.marks.specs.Twice.{Run-of, Closed-twice}
 
 -- the tables speak of all pieces of x, from piece 0 on
-pub laid-whole : (reach labels runs stands tops : List ℕ) (x : Nested ℕ) → Planned (tables labels runs stands tops) x → Each Reaches reach x
+pub laid-whole : (reach labels runs stands tops : List ℕ) (x : Nested Leaf) → Planned (tables labels runs stands tops) x
+    → Each Reaches reach x
     → width x ≤ 62 → Narrow-below x → Laid reach runs stands tops x 0
 laid-whole reach labels runs stands tops x planned reached narrow narrow-below = record {
   labels = labels;
@@ -38,20 +55,26 @@ laid-whole reach labels runs stands tops x planned reached narrow narrow-below =
 }
 
 -- the words with only the root's start marked
-pub record Start-marked (x : Nested ℕ) (words : List ℕ) : Type 0 where
+pub record Start-marked (x : Nested Leaf) (words : List ℕ) : Type 0 where
   pub first : getD words 0 0 ≡ 1
   pub others : (o : ℕ) → o < run x → getD words (suc o) 0 ≡ 0
 
-module _ (x : Nested ℕ) (words : List ℕ) (marked : Start-marked x words) where
+module _ (x : Nested Leaf) (words : List ℕ) (marked : Start-marked x words) where
   first-held : (s : Spot) → Within (width x) (run x) s → Held s words ↔ First s
-  first-held (own b) l = (λ h. bit-power 0 b .0 (subst (λ (w : ℕ). Bit w b) (marked .first) h), λ h. subst (λ (w : ℕ). Bit w b) (sym (marked .first)) (bit-power 0 b .1 h))
+  first-held (own b) l = (
+    λ h. bit-power 0 b .0 (subst (λ (w : ℕ). Bit w b) (marked .first) h),
+    λ h. subst (λ (w : ℕ). Bit w b) (sym (marked .first)) (bit-power 0 b .1 h),
+  )
   first-held (under o b) l = (λ h. bit-zero b (subst (λ (w : ℕ). Bit w b) (marked .others o l) h), λ h. absurd h)
 
   -- they hold the start and nothing else
   pub start-holds : Agree x (Holds x words) (λ q. q ≡ start)
   start-holds q h =
       Iff·trans (holds-held x words q h)
-      (Iff·trans (first-held (spot x q) (spot-within x q h)) (first-start x q h, λ e. subst (λ (p : State). First (spot x p)) (sym e) refl))
+      (Iff·trans (first-held (spot x q) (spot-within x q h)) (
+        first-start x q h,
+        λ e. subst (λ (p : State). First (spot x p)) (sym e) refl,
+      ))
 
   -- and no bit past a last state
   pub start-clean : Clean x words
@@ -65,27 +88,39 @@ module _ (x : Nested ℕ) (words : List ℕ) (marked : Start-marked x words) whe
   pub start-nearly : Nearly-closed x start (getD words 0 0)
   start-nearly = record {
     reached = λ p q o o' b way.
-        let same : p ≡ start = number-injective x p start o tt (bit-power 0 (number x p) .0 (subst (λ (w : ℕ). Bit w (number x p)) (marked .first) b)) in
-        inr (subst (λ (s : State). Bit (getD words 0 0) (number x s)) same b, subst (λ (s : State). Path-of (Empty (own-tree x)) s q) same way);
+        let same : p ≡ start =
+        number-injective x p start o tt
+        (bit-power 0 (number x p) .0 (subst (λ (w : ℕ). Bit w (number x p)) (marked .first) b)) in
+        inr (
+          subst (λ (s : State). Bit (getD words 0 0) (number x s)) same b,
+          subst (λ (s : State). Path-of (Empty (own-tree x)) s q) same way,
+        );
   }
 
   -- and the words of the other pieces, which are 0, are closed
   pub start-closed : Each-closed-below x (drop 1 words)
-  start-closed = zeros-closed x (drop 1 words) (λ o l. getD-drop 1 words o 0 ∙ ap (λ (k : ℕ). getD words k 0) (omega arith) ∙ marked .others o l)
+  start-closed =
+      zeros-closed x (drop 1 words) (λ o l. getD-drop 1 words o 0 ∙ ap (λ (k : ℕ). getD words k 0) (omega arith)
+      ∙ marked .others o l)
 
-module _ (reach runs stands tops : List ℕ) (count : ℕ) (x : Nested ℕ) (before after : List ℕ)
-    (closed : Closed-twice reach runs stands tops count before after) (on : Run-of reach runs stands tops count x before) where
+module _ (reach runs stands tops : List ℕ) (count : ℕ) (x : Nested Leaf) (before after : List ℕ)
+    (closed : Closed-twice reach runs stands tops count before after)
+    (on : Run-of reach runs stands tops count x before) where
   -- from the root's start, the closing is the start of the plain simulation
   pub closed-start : Agree x (Holds x before) (λ q. q ≡ start) → Models x (Holds x after) (Started (whole x))
   closed-start begins =
-      models-same x (Started (whole x)) (λ q h. Iff·trans (closed .marks x on q h) (sweep-same x (sweep-same x begins) q h)) (sweeps-start x)
+      models-same x (Started (whole x))
+      (λ q h. Iff·trans (closed .marks x on q h) (sweep-same x (sweep-same x begins) q h)) (sweeps-start x)
 
   -- after a move along the byte b, with some of the closing done already, the closing is a step of the plain simulation
   pub closed-step : (b : ℕ) (marks X : States) → Models x marks X → More-in (Has x) (Move Is b x marks) (Holds x before)
-      → ((Z : States) → Settled x Z → More-in (Has x) (Move Is b x marks) Z → More-in (Has x) (Holds x before) Z) → Models x (Holds x after) (Stepped Is (whole x) b X)
+      → ((Z : States) → Settled x Z → More-in (Has x) (Move Is b x marks) Z → More-in (Has x) (Holds x before) Z)
+      → Models x (Holds x after) (Stepped Is (whole x) b X)
   closed-step b marks X models more within =
-      models-same x (Stepped Is (whole x) b X) (closed .marks x on) (sweeps-step-closed Is b x marks X (Holds x before) models more within)
+      models-same x (Stepped Is (whole x) b X) (closed .marks x on)
+      (sweeps-step-closed Is b x marks X (Holds x before) models more within)
 
 -- the bit of the top piece's last state says whether the accepting state is in the set that the words hold
-pub accepting-bit : (x : Nested ℕ) (words : List ℕ) (X : States) → Models x (Holds x words) X → Bit (getD words 0 0) (width x - 1) ↔ X accepting
+pub accepting-bit : (x : Nested Leaf) (words : List ℕ) (X : States) → Models x (Holds x words) X
+    → Bit (getD words 0 0) (width x - 1) ↔ X accepting
 accepting-bit x words X models = Iff·trans (Iff·symm (accepting-holds x words)) (models accepting tt)

@@ -1,4 +1,5 @@
--- Where the bit of each state stands: in which word of the run, and which bit of it. So words that agree there hold the same marks.
+-- Where the bit of each state stands: in which word of the run, and which bit of it. So words that agree there hold the
+-- same marks.
 -- Assumes nothing.
 use Prim.Native.Nat.{ℕ, zero, suc, _+_, _-_, _^_, _≤_, _<_}
 use native.Mathlib.Nat.{add-assoc, zero-add}
@@ -79,28 +80,33 @@ lit-enter (own b) w i ws = bit-at (getD ws 0 0) (zero-add b)
 lit-enter (under o b) w i ws = bit-of b (getD-drop 1 ws o 0 ∙ ap (λ (k : ℕ). getD ws k 0) (omega arith))
 
 -- a state is marked exactly when the bit of its spot is set
-pub marked-lit : {A : Type 0} (x : Nested A) (w i : ℕ) (ws : List ℕ) (q : State) → Has x q → Marked x w i ws q ↔ Lit (spot x q) w i ws
+pub marked-lit : {A : Type 0} (x : Nested A) (w i : ℕ) (ws : List ℕ) (q : State) → Has x q
+    → Marked x w i ws q ↔ Lit (spot x q) w i ws
 marked-lit (leaf a) w i ws start h = bit-at w (omega arith)
 marked-lit (leaf a) w i ws accepting h = bit-at w refl
 marked-lit (leaf a) w i ws (left q) h = absurd h
 marked-lit (leaf a) w i ws (right q) h = absurd h
 marked-lit (catenation x y) w i ws start h = bit-at w (omega arith)
 marked-lit (catenation x y) w i ws accepting h = bit-at w refl
-marked-lit (catenation x y) w i ws (left q) h = Iff·trans (marked-lit x w (i + 1) ws q h) (lit-shift (spot x q) w i 1 0 ws)
+marked-lit (catenation x y) w i ws (left q) h =
+    Iff·trans (marked-lit x w (i + 1) ws q h) (lit-shift (spot x q) w i 1 0 ws)
 marked-lit (catenation x y) w i ws (right q) h =
-    Iff·trans (marked-lit y w (i + (1 + width x)) (drop (run x) ws) q h) (lit-shift (spot y q) w i (1 + width x) (run x) ws)
+    Iff·trans (marked-lit y w (i + (1 + width x)) (drop (run x) ws) q h)
+    (lit-shift (spot y q) w i (1 + width x) (run x) ws)
 marked-lit (union x y) w i ws start h = bit-at w (omega arith)
 marked-lit (union x y) w i ws accepting h = bit-at w refl
 marked-lit (union x y) w i ws (left q) h = Iff·trans (marked-lit x w (i + 1) ws q h) (lit-shift (spot x q) w i 1 0 ws)
 marked-lit (union x y) w i ws (right q) h =
-    Iff·trans (marked-lit y w (i + (1 + width x)) (drop (run x) ws) q h) (lit-shift (spot y q) w i (1 + width x) (run x) ws)
+    Iff·trans (marked-lit y w (i + (1 + width x)) (drop (run x) ws) q h)
+    (lit-shift (spot y q) w i (1 + width x) (run x) ws)
 marked-lit (star x) w i ws start h = bit-at w (omega arith)
 marked-lit (star x) w i ws accepting h = bit-at w refl
 marked-lit (star x) w i ws (left q) h = Iff·trans (marked-lit x w (i + 1) ws q h) (lit-shift (spot x q) w i 1 0 ws)
 marked-lit (star x) w i ws (right q) h = absurd h
 marked-lit (below x) w i ws start h = bit-at w (omega arith)
 marked-lit (below x) w i ws accepting h = bit-at w refl
-marked-lit (below x) w i ws (left q) h = Iff·trans (marked-lit x (getD ws 0 0) 0 (drop 1 ws) q h) (lit-enter (spot x q) w i ws)
+marked-lit (below x) w i ws (left q) h =
+    Iff·trans (marked-lit x (getD ws 0 0) 0 (drop 1 ws) q h) (lit-enter (spot x q) w i ws)
 marked-lit (below x) w i ws (right q) h = absurd h
 
 lit-held : (s : Spot) (words : List ℕ) → Lit s (getD words 0 0) 0 (drop 1 words) ↔ Held s words
@@ -108,7 +114,8 @@ lit-held (own b) words = bit-at (getD words 0 0) (zero-add b)
 lit-held (under o b) words = bit-of b (getD-drop 1 words o 0 ∙ ap (λ (k : ℕ). getD words k 0) (omega arith))
 
 -- the words of a run hold a state exactly when the bit of its spot is set
-pub holds-held : {A : Type 0} (x : Nested A) (words : List ℕ) (q : State) → Has x q → Holds x words q ↔ Held (spot x q) words
+pub holds-held : {A : Type 0} (x : Nested A) (words : List ℕ) (q : State) → Has x q
+    → Holds x words q ↔ Held (spot x q) words
 holds-held x words q h = Iff·trans (marked-lit x (getD words 0 0) 0 (drop 1 words) q h) (lit-held (spot x q) words)
 
 -- a spot within so many bits and so many words below
@@ -132,15 +139,20 @@ spot-within (leaf a) (left q) h = absurd h
 spot-within (leaf a) (right q) h = absurd h
 spot-within (catenation x y) start h = omega arith
 spot-within (catenation x y) accepting h = omega arith
-spot-within (catenation x y) (left q) h = within-shift (spot x q) 1 0 (width x) (run x) _ _ (omega arith) (omega arith) (spot-within x q h)
-spot-within (catenation x y) (right q) h = within-shift (spot y q) (1 + width x) (run x) (width y) (run y) _ _ (omega arith) (omega arith) (spot-within y q h)
+spot-within (catenation x y) (left q) h = within-shift (spot x q) 1 0 (width x) (run x) _ _ (omega arith) (omega arith)
+    (spot-within x q h)
+spot-within (catenation x y) (right q) h = within-shift (spot y q) (1 + width x) (run x) (width y) (run y) _ _
+    (omega arith) (omega arith) (spot-within y q h)
 spot-within (union x y) start h = omega arith
 spot-within (union x y) accepting h = omega arith
-spot-within (union x y) (left q) h = within-shift (spot x q) 1 0 (width x) (run x) _ _ (omega arith) (omega arith) (spot-within x q h)
-spot-within (union x y) (right q) h = within-shift (spot y q) (1 + width x) (run x) (width y) (run y) _ _ (omega arith) (omega arith) (spot-within y q h)
+spot-within (union x y) (left q) h = within-shift (spot x q) 1 0 (width x) (run x) _ _ (omega arith) (omega arith)
+    (spot-within x q h)
+spot-within (union x y) (right q) h = within-shift (spot y q) (1 + width x) (run x) (width y) (run y) _ _ (omega arith)
+    (omega arith) (spot-within y q h)
 spot-within (star x) start h = omega arith
 spot-within (star x) accepting h = omega arith
-spot-within (star x) (left q) h = within-shift (spot x q) 1 0 (width x) (run x) _ _ (omega arith) (omega arith) (spot-within x q h)
+spot-within (star x) (left q) h = within-shift (spot x q) 1 0 (width x) (run x) _ _ (omega arith) (omega arith)
+    (spot-within x q h)
 spot-within (star x) (right q) h = absurd h
 spot-within (below x) start h = omega arith
 spot-within (below x) accepting h = omega arith
@@ -190,9 +202,11 @@ own-or-under (below x) accepting h = inl tt
 own-or-under (leaf a) (left q) h = absurd h
 own-or-under (leaf a) (right q) h = absurd h
 own-or-under (catenation x y) (left q) h = ⊎-elim inl (λ u. inr (under-shift (spot x q) 1 0 u)) (own-or-under x q h)
-own-or-under (catenation x y) (right q) h = ⊎-elim inl (λ u. inr (under-shift (spot y q) (1 + width x) (run x) u)) (own-or-under y q h)
+own-or-under (catenation x y) (right q) h = ⊎-elim inl (λ u. inr (under-shift (spot y q) (1 + width x) (run x) u))
+    (own-or-under y q h)
 own-or-under (union x y) (left q) h = ⊎-elim inl (λ u. inr (under-shift (spot x q) 1 0 u)) (own-or-under x q h)
-own-or-under (union x y) (right q) h = ⊎-elim inl (λ u. inr (under-shift (spot y q) (1 + width x) (run x) u)) (own-or-under y q h)
+own-or-under (union x y) (right q) h = ⊎-elim inl (λ u. inr (under-shift (spot y q) (1 + width x) (run x) u))
+    (own-or-under y q h)
 own-or-under (star x) (left q) h = ⊎-elim inl (λ u. inr (under-shift (spot x q) 1 0 u)) (own-or-under x q h)
 own-or-under (star x) (right q) h = absurd h
 own-or-under (below x) (left q) h = inr (under-enter (spot x q))
@@ -249,25 +263,31 @@ length-widths (below x) = omega (arith, length-widths x)
 abbrev pub Bounded : ℕ → List ℕ → List ℕ → Type 0
 Bounded m ws widths = (o : ℕ) → o < m → getD ws o 0 < 2 ^ getD widths o 0
 
-pub getD-left : {A : Type 0} (x y : Nested A) (o : ℕ) → o < run x → getD (widths x ++ widths y) o 0 ≡ getD (widths x) o 0
+pub getD-left : {A : Type 0} (x y : Nested A) (o : ℕ) → o < run x → getD (widths x ++ widths y) o 0
+    ≡ getD (widths x) o 0
 getD-left x y o h = List·getD-append (widths x) (widths y) 0 o (omega (arith, length-widths x))
 
 pub getD-right : {A : Type 0} (x y : Nested A) (o : ℕ) → getD (widths x ++ widths y) (run x + o) 0 ≡ getD (widths y) o 0
-getD-right x y o = ap (λ (k : ℕ). getD (widths x ++ widths y) (k + o) 0) (sym (length-widths x)) ∙ getD-append-add (widths x) (widths y) o 0
+getD-right x y o = ap (λ (k : ℕ). getD (widths x ++ widths y) (k + o) 0) (sym (length-widths x))
+    ∙ getD-append-add (widths x) (widths y) o 0
 
 pub below-power : {v v' : ℕ} {k k' : ℕ} → v' ≡ v → k' ≡ k → v < 2 ^ k → v' < 2 ^ k'
 below-power {v} {v'} {k} {k'} e f h = rw (e, f) h
 
 -- two nodes side by side
-pub bounded-both : {A : Type 0} (x y : Nested A) (ws : List ℕ) → (Bounded (run x) ws (widths x) × Bounded (run y) (drop (run x) ws) (widths y)) ↔ Bounded (run x + run y) ws (widths x ++ widths y)
+pub bounded-both : {A : Type 0} (x y : Nested A) (ws : List ℕ)
+    → (Bounded (run x) ws (widths x) × Bounded (run y) (drop (run x) ws) (widths y))
+    ↔ Bounded (run x + run y) ws (widths x ++ widths y)
 bounded-both x y ws = (join, λ h. (split-left h, split-right h))
   where
-    join : Bounded (run x) ws (widths x) × Bounded (run y) (drop (run x) ws) (widths y) → Bounded (run x + run y) ws (widths x ++ widths y)
+    join : Bounded (run x) ws (widths x) × Bounded (run y) (drop (run x) ws) (widths y)
+        → Bounded (run x + run y) ws (widths x ++ widths y)
     join h o l = elim (decLt o (run x)) [
       | yes k ↦ below-power refl (getD-left x y o k) (h .0 o k)
       | no k ↦
           below-power (ap (λ (n : ℕ). getD ws n 0) (omega arith) ∙ sym (getD-drop (run x) ws (o - run x) 0))
-          (ap (λ (n : ℕ). getD (widths x ++ widths y) n 0) (omega arith) ∙ getD-right x y (o - run x)) (h .1 (o - run x) (omega arith))
+          (ap (λ (n : ℕ). getD (widths x ++ widths y) n 0) (omega arith) ∙ getD-right x y (o - run x))
+          (h .1 (o - run x) (omega arith))
     ]
 
     split-left : Bounded (run x + run y) ws (widths x ++ widths y) → Bounded (run x) ws (widths x)
@@ -277,24 +297,32 @@ bounded-both x y ws = (join, λ h. (split-left h, split-right h))
     split-right h o l = below-power (getD-drop (run x) ws o 0) (sym (getD-right x y o)) (h (run x + o) (omega arith))
 
 -- a child piece's own word, and those below it
-pub bounded-child : {A : Type 0} (x : Nested A) (ws : List ℕ) → ((getD ws 0 0 < 2 ^ width x) × Bounded (run x) (drop 1 ws) (widths x)) ↔ Bounded (1 + run x) ws (width x ∷ widths x)
+pub bounded-child : {A : Type 0} (x : Nested A) (ws : List ℕ)
+    → ((getD ws 0 0 < 2 ^ width x) × Bounded (run x) (drop 1 ws) (widths x))
+    ↔ Bounded (1 + run x) ws (width x ∷ widths x)
 bounded-child x ws = (join, λ h. (h 0 (omega arith), below h))
   where
-    join : (getD ws 0 0 < 2 ^ width x) × Bounded (run x) (drop 1 ws) (widths x) → Bounded (1 + run x) ws (width x ∷ widths x)
+    join : (getD ws 0 0 < 2 ^ width x) × Bounded (run x) (drop 1 ws) (widths x)
+        → Bounded (1 + run x) ws (width x ∷ widths x)
     join h zero l = h .0
-    join h (suc o) l = below-power (ap (λ (n : ℕ). getD ws n 0) (omega arith) ∙ sym (getD-drop 1 ws o 0)) refl (h .1 o (omega arith))
+    join h (suc o) l = below-power (ap (λ (n : ℕ). getD ws n 0) (omega arith) ∙ sym (getD-drop 1 ws o 0)) refl
+        (h .1 o (omega arith))
 
     below : Bounded (1 + run x) ws (width x ∷ widths x) → Bounded (run x) (drop 1 ws) (widths x)
-    below h o l = below-power (getD-drop 1 ws o 0 ∙ ap (λ (n : ℕ). getD ws n 0) (omega arith)) refl (h (suc o) (omega arith))
+    below h o l = below-power (getD-drop 1 ws o 0 ∙ ap (λ (n : ℕ). getD ws n 0) (omega arith)) refl
+        (h (suc o) (omega arith))
 
 -- the words of the child pieces have no bit past the last state exactly when each is below its power of two
 pub clean-bounded : {A : Type 0} (x : Nested A) (ws : List ℕ) → Clean-below x ws ↔ Bounded (run x) ws (widths x)
 clean-bounded (leaf a) ws = (λ _ o l. absurd (omega arith), λ _. tt)
-clean-bounded (catenation x y) ws = Iff·trans (Iff·and (clean-bounded x ws) (clean-bounded y (drop (run x) ws))) (bounded-both x y ws)
-clean-bounded (union x y) ws = Iff·trans (Iff·and (clean-bounded x ws) (clean-bounded y (drop (run x) ws))) (bounded-both x y ws)
+clean-bounded (catenation x y) ws = Iff·trans (Iff·and (clean-bounded x ws) (clean-bounded y (drop (run x) ws)))
+    (bounded-both x y ws)
+clean-bounded (union x y) ws = Iff·trans (Iff·and (clean-bounded x ws) (clean-bounded y (drop (run x) ws)))
+    (bounded-both x y ws)
 clean-bounded (star x) ws = clean-bounded x ws
 clean-bounded (below x) ws = Iff·trans (Iff·and Iff·rfl (clean-bounded x (drop 1 ws))) (bounded-child x ws)
 
 -- the words of a run have no bit past the last state exactly when each is below its power of two
-pub clean-words : {A : Type 0} (x : Nested A) (words : List ℕ) → Clean x words ↔ Bounded (1 + run x) words (width x ∷ widths x)
+pub clean-words : {A : Type 0} (x : Nested A) (words : List ℕ)
+    → Clean x words ↔ Bounded (1 + run x) words (width x ∷ widths x)
 clean-words x words = Iff·trans (Iff·and Iff·rfl (clean-bounded x (drop 1 words))) (bounded-child x words)

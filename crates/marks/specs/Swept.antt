@@ -8,6 +8,7 @@ use lib.ListN.{length, getD, take, drop, set}
 use lib.Bits.{bitOr}
 use Rattle.language.specs.Automaton.{State, start, Empty, Path-of}
 use Rattle.language.specs.Nested.{Nested, leaf, catenation, union, star, below, own, Has, Sweep}
+use Rattle.tree.specs.Leaf.{Leaf}
 use Rattle.tables.specs.Words.{Bit, width, run, Own, number, Holds, Clean}
 use Rattle.tables.specs.Plan.{Pieces, Piece-at, Children-at, row, Reaches, Each-below, Closes}
 use Rattle.marks.specs.EachClosed.{Each-closed, Each-closed-below}
@@ -25,13 +26,15 @@ pub record Missed (other i word r : ℕ) : Type 0 where
 abbrev pub Apart : ℕ → ℕ → Type 0
 Apart one other = (i : ℕ) → Bit one i → Bit other i → ⊥
 
--- the stand-in's start is not marked, and the words from `child` up to `end` are none of those from `from` up to `to`, or a single one that is 0
+-- the stand-in's start is not marked, and the words from `child` up to `end` are none of those from `from` up to `to`,
+-- or a single one that is 0
 pub record At-rest (word stand first child end from to : ℕ) : Type 0 where
   pub unmarked : Bit word stand → ⊥
   pub elsewhere : ((first ≡ 0) × (end ≡ child + 1)) ⊎ ((end ≤ from) ⊎ (to ≤ child))
 
--- the word of x's top piece is closed but for what the state s reaches: what a marked state reaches is marked, or s is marked and reaches it
-pub record Nearly-closed (x : Nested ℕ) (s : State) (w : ℕ) : Type 0 where
+-- the word of x's top piece is closed but for what the state s reaches: what a marked state reaches is marked, or s is
+-- marked and reaches it
+pub record Nearly-closed (x : Nested Leaf) (s : State) (w : ℕ) : Type 0 where
   pub reached : (p q : State) → Own x p → Own x q → Bit w (number x p) → Path-of (Empty (own x)) p q
       → Bit w (number x q) ⊎ (Bit w (number x s) × Path-of (Empty (own x)) s q)
 
@@ -40,7 +43,7 @@ abbrev pub Quiet : (k from to : ℕ) → List ℕ → Type 0
 Quiet k from to words = (o : ℕ) → 0 < o → o < length words → (k + o < from) ⊎ (to ≤ k + o) → getD words o 0 ≡ 0
 
 -- each child piece below x, and each below that, has at most 62 states
-abbrev pub Narrow-below : Nested ℕ → Type 0
+abbrev pub Narrow-below : Nested Leaf → Type 0
 Narrow-below (leaf a) = Unit {0}
 Narrow-below (catenation x y) = Narrow-below x × Narrow-below y
 Narrow-below (union x y) = Narrow-below x × Narrow-below y
@@ -52,8 +55,9 @@ abbrev pub tables : (labels runs stands tops : List ℕ) → Pieces
 tables labels runs stands tops = record { labels = labels; runs = runs; stands = stands; tops = tops }
 
 module _ (reach runs stands tops : List ℕ) where
-  -- the tables speak of the piece k, which is the top piece of x, and of each piece below it; each has at most 62 states
-  pub record Laid (x : Nested ℕ) (k : ℕ) : Type 0 where
+  -- the tables speak of the piece k, which is the top piece of x, and of each piece below it; each has at most 62
+  -- states
+  pub record Laid (x : Nested Leaf) (k : ℕ) : Type 0 where
     pub labels : List ℕ
     pub piece : Piece-at (tables labels runs stands tops) x k
     pub children : Children-at (tables labels runs stands tops) x 0 (k + 1)
@@ -62,9 +66,10 @@ module _ (reach runs stands tops : List ℕ) where
     pub narrow : width x ≤ 62
     pub narrow-below : Narrow-below x
 
-  -- the words are the run of x's pieces, the first of which is piece k of the tables; no bit past a last state is set, and each piece is
+  -- the words are the run of x's pieces, the first of which is piece k of the tables; no bit past a last state is set,
+  -- and each piece is
   -- closed in itself but for the first, whose start may have been marked since
-  pub record Sweepable (x : Nested ℕ) (k : ℕ) (words : List ℕ) : Type 0 where
+  pub record Sweepable (x : Nested Leaf) (k : ℕ) (words : List ℕ) : Type 0 where
     pub laid : Laid x k
     pub whole-run : length words ≡ 1 + run x
     pub clean : Clean x words
@@ -82,12 +87,13 @@ module _ (reach runs stands tops : List ℕ) where
   -- there are pieces that the words are the run of, and marks below the first only from `from` up to `to`
   pub record Ready (k from to : ℕ) (words : List ℕ) : Type 0 where
     pub sized : Sized k words
-    pub tree : Nested ℕ
+    pub tree : Nested Leaf
     pub sweepable : Sweepable tree k words
     pub quiet : Quiet k from to words
 
--- what a sweep makes of the words of x's pieces: the marks that they hold then are those of the sweep, and each piece is closed in itself
-pub record Swept (x : Nested ℕ) (before after : List ℕ) : Type 0 where
+-- what a sweep makes of the words of x's pieces: the marks that they hold then are those of the sweep, and each piece
+-- is closed in itself
+pub record Swept (x : Nested Leaf) (before after : List ℕ) : Type 0 where
   pub marks : (q : State) → Has x q → Holds x after q ↔ Sweep x (Holds x before) q
   pub clean : Clean x after
   pub each-closed : Each-closed x after
@@ -96,10 +102,11 @@ pub record Swept (x : Nested ℕ) (before after : List ℕ) : Type 0 where
 pub record Child : Type 0 where
   pub stand : ℕ
   pub from : ℕ
-  pub tree : Nested ℕ
+  pub tree : Nested Leaf
 
--- the child pieces below x from left to right; x's own states are numbered from i, and the runs of the child pieces stand from n on
-abbrev pub children-of : Nested ℕ → ℕ → ℕ → List Child
+-- the child pieces below x from left to right; x's own states are numbered from i, and the runs of the child pieces
+-- stand from n on
+abbrev pub children-of : Nested Leaf → ℕ → ℕ → List Child
 children-of (leaf a) i n = []
 children-of (catenation x y) i n = children-of x (i + 1) n ++ children-of y (i + (1 + width x)) (n + run x)
 children-of (union x y) i n = children-of x (i + 1) n ++ children-of y (i + (1 + width x)) (n + run x)
@@ -114,14 +121,16 @@ part c words = take (1 + run (c .tree)) (drop (c .from) words)
 abbrev pub started : Child → List ℕ → List ℕ
 started c words = part c (set words (c .from) (passed (getD words 0 0) (c .stand) (getD words (c .from) 0) 0))
 
--- what the visit of the child piece c makes of the words of x's pieces: its start is passed down, it is swept, its accepting state is passed up, and x's top piece is closed again
-pub record Visited (x : Nested ℕ) (c : Child) (before after : List ℕ) : Type 0 where
+-- what the visit of the child piece c makes of the words of x's pieces: its start is passed down, it is swept, its
+-- accepting state is passed up, and x's top piece is closed again
+pub record Visited (x : Nested Leaf) (c : Child) (before after : List ℕ) : Type 0 where
   pub swept : Swept (c .tree) (started c before) (part c after)
-  pub closed : Closes x (passed (getD after (c .from) 0) (width (c .tree) - 1) (getD before 0 0) (c .stand + 1)) (getD after 0 0)
+  pub closed : Closes x (passed (getD after (c .from) 0) (width (c .tree) - 1) (getD before 0 0) (c .stand + 1))
+      (getD after 0 0)
   pub same-length : length after ≡ length before
   pub others : (o : ℕ) → 0 < o → (o < c .from) ⊎ (c .from + (1 + run (c .tree)) ≤ o) → getD after o 0 ≡ getD before o 0
 
 -- one child piece after the other is visited
-abbrev pub Visits : Nested ℕ → List Child → List ℕ → List ℕ → Type 0
+abbrev pub Visits : Nested Leaf → List Child → List ℕ → List ℕ → Type 0
 Visits x [] before after = before ≡ after
 Visits x (c ∷ cs) before after = (between : List ℕ) × Visited x c before between × Visits x cs between after

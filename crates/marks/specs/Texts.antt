@@ -1,4 +1,5 @@
--- The words after a text: how they come from those after the text without its last byte, when they say that the text is in the
+-- The words after a text: how they come from those after the text without its last byte, when they say that the text is
+-- in the
 -- language, and when they say that no longer text is.
 -- Assumes nothing.
 use Prim.Native.Nat.{ℕ, _+_, _-_}
@@ -14,6 +15,7 @@ use Rattle.language.specs.Nested.{Nested, Models}
 use Rattle.language.specs.Acceptance.{accepts-exactly}
 use Rattle.language.specs.Models.{origin-onto}
 use Rattle.language.specs.Along.{after-step, reached-state, none-longer}
+use Rattle.tree.specs.Leaf.{Leaf}
 use Rattle.tree.specs.Records.{piece-count}
 use Rattle.tree.specs.Pieces.{cut-up, stated}
 use Rattle.tables.specs.Words.{Bit, width, run, Holds, Clean}
@@ -23,10 +25,10 @@ use Rattle.marks.specs.AllZero.{All-zero, zero-holds}
 use Rattle.marks.specs.Spots.{bit-at, held-at, holds-held, own-spot}
 
 -- there is a word for each piece of a tree
-pub all-words : (t : Tree ℕ) → 1 + run (cut-up t) ≡ piece-count t
+pub all-words : (t : Tree Leaf) → 1 + run (cut-up t) ≡ piece-count t
 all-words t = stated t .all-pieces
 
-module _ {t : Tree ℕ} {w words : List ℕ} (holding : Holding t w words) where
+module _ {t : Tree Leaf} {w words : List ℕ} (holding : Holding t w words) where
   -- where the words of the pieces are 0, no state is marked after the text
   none-marked : All-zero (piece-count t) words → (p : State) → After Is t w (Started t) p → ⊥
   none-marked zeros p reached =
@@ -40,17 +42,24 @@ module _ {t : Tree ℕ} {w words : List ℕ} (holding : Holding t w words) where
   -- the last state of piece 0 is the root's accepting state: it is marked exactly when the text is in the language
   pub accepting-answer : Bit (getD words 0 0) (width (cut-up t) - 1) ↔ Matches t w
   accepting-answer =
-      let x : Nested ℕ = cut-up t in
+      let x : Nested Leaf = cut-up t in
       iff-trans (bit-at (getD words 0 0) (omega (arith, number-accepting x)))
       (iff-trans (held-at words (sym (own-spot x accepting tt)))
       (iff-trans (holds-held x words accepting tt .1, holds-held x words accepting tt .0)
       (iff-trans (holding .modelled accepting tt) (accepts-exactly Is t w))))
 
   -- after one byte more they hold what a step with it marks
-  pub holding-next : {b : ℕ} {later : List ℕ} → Models (cut-up t) (Holds (cut-up t) later) (Stepped Is t b (After Is t w (Started t))) → Clean (cut-up t) later → Holding t (w ++ (b ∷ [])) later
+  pub holding-next : {b : ℕ} {later : List ℕ}
+      → Models (cut-up t) (Holds (cut-up t) later) (Stepped Is t b (After Is t w (Started t))) → Clean (cut-up t) later
+      → Holding t (w ++ (b ∷ [])) later
   holding-next {b} {later} models clean =
-      record { modelled = subst (λ (X : States). Models (cut-up t) (Holds (cut-up t) later) X) (sym (after-step Is t w b (Started t))) models; clean = clean }
+      record {
+        modelled = subst (λ (X : States). Models (cut-up t) (Holds (cut-up t) later) X)
+            (sym (after-step Is t w b (Started t))) models;
+        clean = clean;
+      }
 
 -- before the first byte they hold what the start marks
-pub holding-first : {t : Tree ℕ} {words : List ℕ} → Models (cut-up t) (Holds (cut-up t) words) (Started t) → Clean (cut-up t) words → Holding t [] words
+pub holding-first : {t : Tree Leaf} {words : List ℕ} → Models (cut-up t) (Holds (cut-up t) words) (Started t)
+    → Clean (cut-up t) words → Holding t [] words
 holding-first models clean = record { modelled = models; clean = clean }

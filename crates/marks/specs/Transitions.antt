@@ -1,4 +1,5 @@
--- The words of the empty transitions hold them: bit j of the word of state i is set exactly for a transition from state i to state j.
+-- The words of the empty transitions hold them: bit j of the word of state i is set exactly for a transition from state
+-- i to state j.
 -- Assumes nothing.
 use Prim.Native.Nat.{ℕ, _+_, _^_, _<_}
 use mathlib.Core.Path.{_≡_, refl, sym, ap, _∙_, subst}
@@ -11,6 +12,7 @@ use lib.Pow.{pow-lt}
 use lib.ListN.{length, getD}
 use Rattle.language.specs.Automaton.{State, start, accepting, left, right, Empty}
 use Rattle.language.specs.Nested.{Nested, leaf, catenation, union, star, below, own}
+use Rattle.tree.specs.Leaf.{Leaf}
 use Rattle.tables.specs.Words.{Bit, width, Own, number}
 use Rattle.tables.specs.Plan.{nexts}
 use Rattle.marks.specs.Bits.{bit-zero, bit-power, bit-or}
@@ -20,37 +22,47 @@ use Rattle.marks.specs.Numbers.{width-two, number-below}
 -- a word of two bits
 two-bits : (a b j : ℕ) → a < b → Bit (2 ^ a + 2 ^ b) j ↔ ((j ≡ a) ⊎ (j ≡ b))
 two-bits a b j h = (
-  λ c. ⊎-elim (λ d. inl (bit-power a j .0 d)) (λ d. inr (bit-power b j .0 d)) (bit-or (2 ^ a) (2 ^ b) j .0 (subst (λ (v : ℕ). Bit v j) (sym joined) c)),
-  λ c. subst (λ (v : ℕ). Bit v j) joined (bit-or (2 ^ a) (2 ^ b) j .1 (⊎-elim (λ d. inl (bit-power a j .1 d)) (λ d. inr (bit-power b j .1 d)) c)),
+  λ c. ⊎-elim (λ d. inl (bit-power a j .0 d)) (λ d. inr (bit-power b j .0 d))
+      (bit-or (2 ^ a) (2 ^ b) j .0 (subst (λ (v : ℕ). Bit v j) (sym joined) c)),
+  λ c. subst (λ (v : ℕ). Bit v j) joined
+      (bit-or (2 ^ a) (2 ^ b) j .1 (⊎-elim (λ d. inl (bit-power a j .1 d)) (λ d. inr (bit-power b j .1 d)) c)),
 )
   where
     joined : bitOr (2 ^ a) (2 ^ b) ≡ 2 ^ a + 2 ^ b
-    joined = ap (bitOr (2 ^ a)) (sym (one-mul (2 ^ b))) ∙ or-shifted-r 1 b (2 ^ a) (pow-lt h) ∙ omega (arith, one-mul (2 ^ b))
+    joined = ap (bitOr (2 ^ a)) (sym (one-mul (2 ^ b))) ∙ or-shifted-r 1 b (2 ^ a) (pow-lt h)
+        ∙ omega (arith, one-mul (2 ^ b))
 
 -- one word for each state
-pub length-nexts : (x : Nested ℕ) (i exit : ℕ) → length (nexts x i exit) ≡ width x
+pub length-nexts : (x : Nested Leaf) (i exit : ℕ) → length (nexts x i exit) ≡ width x
 length-nexts (leaf a) i exit = refl
-length-nexts (catenation x y) i exit = two-length 0 exit (nexts x _ _) (nexts y _ _) (length-nexts x _ _) (length-nexts y _ _)
-length-nexts (union x y) i exit = two-length 0 exit (nexts x _ _) (nexts y _ _) (length-nexts x _ _) (length-nexts y _ _)
+length-nexts (catenation x y) i exit = two-length 0 exit (nexts x _ _) (nexts y _ _) (length-nexts x _ _)
+    (length-nexts y _ _)
+length-nexts (union x y) i exit = two-length 0 exit (nexts x _ _) (nexts y _ _) (length-nexts x _ _)
+    (length-nexts y _ _)
 length-nexts (star x) i exit = one-length 0 exit (nexts x _ _) (length-nexts x _ _)
 length-nexts (below x) i exit = refl
 
 -- in a list for a node of two parts, where the words of the parts' states are
-module _ (s e : ℕ) (x y : Nested ℕ) (i j m n : ℕ) where
-  left-word : (p : State) → Own x p → getD (s ∷ (nexts x i m ++ nexts y j n ++ (e ∷ []))) (1 + number x p) 0 ≡ getD (nexts x i m) (number x p) 0
-  left-word p o = two-left s e (nexts x i m) (nexts y j n) (length-nexts x i m) (length-nexts y j n) 0 (number x p) (number-below x p o)
+module _ (s e : ℕ) (x y : Nested Leaf) (i j m n : ℕ) where
+  left-word : (p : State) → Own x p → getD (s ∷ (nexts x i m ++ nexts y j n ++ (e ∷ []))) (1 + number x p) 0
+      ≡ getD (nexts x i m) (number x p) 0
+  left-word p o = two-left s e (nexts x i m) (nexts y j n) (length-nexts x i m) (length-nexts y j n) 0 (number x p)
+      (number-below x p o)
 
   -- the word of a state of the second part
-  right-word : (p : State) → Own y p → getD (s ∷ (nexts x i m ++ nexts y j n ++ (e ∷ []))) (1 + width x + number y p) 0 ≡ getD (nexts y j n) (number y p) 0
-  right-word p o = two-right s e (nexts x i m) (nexts y j n) (length-nexts x i m) (length-nexts y j n) 0 (number y p) (number-below y p o)
+  right-word : (p : State) → Own y p → getD (s ∷ (nexts x i m ++ nexts y j n ++ (e ∷ []))) (1 + width x + number y p) 0
+      ≡ getD (nexts y j n) (number y p) 0
+  right-word p o = two-right s e (nexts x i m) (nexts y j n) (length-nexts x i m) (length-nexts y j n) 0 (number y p)
+      (number-below y p o)
 
   -- the accepting state's word
   end-word : getD (s ∷ (nexts x i m ++ nexts y j n ++ (e ∷ []))) (1 + width x + width y) 0 ≡ e
   end-word = two-end s e (nexts x i m) (nexts y j n) (length-nexts x i m) (length-nexts y j n) 0
 
 -- in a list for a node of one part, where the words of the part's states are
-module _ (s e : ℕ) (x : Nested ℕ) (i m : ℕ) where
-  inside-word : (p : State) → Own x p → getD (s ∷ (nexts x i m ++ (e ∷ []))) (1 + number x p) 0 ≡ getD (nexts x i m) (number x p) 0
+module _ (s e : ℕ) (x : Nested Leaf) (i m : ℕ) where
+  inside-word : (p : State) → Own x p → getD (s ∷ (nexts x i m ++ (e ∷ []))) (1 + number x p) 0
+      ≡ getD (nexts x i m) (number x p) 0
   inside-word p o = one-inside s e (nexts x i m) (length-nexts x i m) 0 (number x p) (number-below x p o)
 
   -- the accepting state's word
@@ -58,7 +70,7 @@ module _ (s e : ℕ) (x : Nested ℕ) (i m : ℕ) where
   last-word = one-end s e (nexts x i m) (length-nexts x i m) 0
 
 -- a transition out of a state of x, or, where that is the accepting state, a bit of the word that it has around x
-abbrev Out : Nested ℕ → ℕ → ℕ → State → ℕ → Type 0
+abbrev Out : Nested Leaf → ℕ → ℕ → State → ℕ → Type 0
 Out x i exit p j = ((q : State) × Own x q × (i + number x q ≡ j) × Empty (own x) p q) ⊎ ((p ≡ accepting) × Bit exit j)
 
 -- equal words have the same bits
@@ -66,10 +78,12 @@ same-bit : {v w : ℕ} (j : ℕ) → v ≡ w → Bit v j → Bit w j
 same-bit j e b = subst (λ (v : ℕ). Bit v j) e b
 
 -- each bit is a transition
-out : (x : Nested ℕ) (i exit : ℕ) (p : State) → Own x p → (j : ℕ) → Bit (getD (nexts x i exit) (number x p) 0) j → Out x i exit p j
+out : (x : Nested Leaf) (i exit : ℕ) (p : State) → Own x p → (j : ℕ) → Bit (getD (nexts x i exit) (number x p) 0) j
+    → Out x i exit p j
 out (leaf a) i exit start o j b = absurd (bit-zero j b)
 out (leaf a) i exit accepting o j b = inr (refl, b)
-out (catenation x y) i exit start o j b = inl (left start, tt, omega (arith, bit-power (i + 1) j .0 b), Empty.catenation-in)
+out (catenation x y) i exit start o j b =
+    inl (left start, tt, omega (arith, bit-power (i + 1) j .0 b), Empty.catenation-in)
 out (catenation x y) i exit accepting o j b = inr (refl, same-bit j (end-word _ exit x y _ _ _ _) b)
 out (catenation x y) i exit (left p) o j b =
     ⊎-elim
@@ -90,7 +104,8 @@ out (catenation x y) i exit (right p) o j b =
       omega (arith, bit-power _ j .0 (g .1)),
       subst (λ (r : State). Empty (own (catenation x y)) (right r) accepting) (sym (g .0)) Empty.catenation-out,
     ))
-    (out y (i + (1 + width x)) (2 ^ (i + (1 + width x + width y))) p o j (same-bit j (right-word _ exit x y _ _ _ _ p o) b))
+    (out y (i + (1 + width x)) (2 ^ (i + (1 + width x + width y))) p o j
+    (same-bit j (right-word _ exit x y _ _ _ _ p o) b))
 out (union x y) i exit start o j b =
     ⊎-elim
     (λ e. inl (left start, tt, omega (arith, e), Empty.union-in-left))
@@ -116,7 +131,8 @@ out (union x y) i exit (right p) o j b =
       omega (arith, bit-power _ j .0 (g .1)),
       subst (λ (r : State). Empty (own (union x y)) (right r) accepting) (sym (g .0)) Empty.union-out-right,
     ))
-    (out y (i + (1 + width x)) (2 ^ (i + (1 + width x + width y))) p o j (same-bit j (right-word _ exit x y _ _ _ _ p o) b))
+    (out y (i + (1 + width x)) (2 ^ (i + (1 + width x + width y))) p o j
+    (same-bit j (right-word _ exit x y _ _ _ _ p o) b))
 out (star x) i exit start o j b =
     ⊎-elim
     (λ e. inl (left start, tt, omega (arith, e), Empty.star-in))
@@ -127,15 +143,25 @@ out (star x) i exit (left p) o j b =
     ⊎-elim
     (λ g. inl (left (g .0), g .1, omega (arith, g .2), Empty.star-inside (g .3)))
     (λ g. ⊎-elim
-    (λ e. inl (left start, tt, omega (arith, e), subst (λ (r : State). Empty (own (star x)) (left r) (left start)) (sym (g .0)) Empty.star-back))
-    (λ e. inl (accepting, tt, omega (arith, e), subst (λ (r : State). Empty (own (star x)) (left r) accepting) (sym (g .0)) Empty.star-out))
+    (λ e. inl (
+      left start,
+      tt,
+      omega (arith, e),
+      subst (λ (r : State). Empty (own (star x)) (left r) (left start)) (sym (g .0)) Empty.star-back,
+    ))
+    (λ e. inl (
+      accepting,
+      tt,
+      omega (arith, e),
+      subst (λ (r : State). Empty (own (star x)) (left r) accepting) (sym (g .0)) Empty.star-out,
+    ))
     (two-bits (i + 1) (i + (1 + width x)) j (omega (arith, width-two x)) .0 (g .1)))
     (out x (i + 1) (2 ^ (i + 1) + 2 ^ (i + (1 + width x))) p o j (same-bit j (inside-word _ exit x _ _ p o) b))
 out (below x) i exit start o j b = absurd (bit-zero j b)
 out (below x) i exit accepting o j b = inr (refl, b)
 
 -- the accepting state's word is the one given
-exit-word : (x : Nested ℕ) (i exit : ℕ) → getD (nexts x i exit) (number x accepting) 0 ≡ exit
+exit-word : (x : Nested Leaf) (i exit : ℕ) → getD (nexts x i exit) (number x accepting) 0 ≡ exit
 exit-word (leaf a) i exit = refl
 exit-word (catenation x y) i exit = end-word _ exit x y _ _ _ _
 exit-word (union x y) i exit = end-word _ exit x y _ _ _ _
@@ -143,29 +169,38 @@ exit-word (star x) i exit = last-word _ exit x _ _
 exit-word (below x) i exit = refl
 
 -- each transition is a bit
-bit : (x : Nested ℕ) (i exit : ℕ) {p q : State} → Empty (own x) p q → Own x p → Own x q → (j : ℕ) → i + number x q ≡ j
+bit : (x : Nested Leaf) (i exit : ℕ) {p q : State} → Empty (own x) p q → Own x p → Own x q → (j : ℕ)
+    → i + number x q ≡ j
     → Bit (getD (nexts x i exit) (number x p) 0) j
 bit (catenation x y) i exit Empty.catenation-in o o′ j h = bit-power _ j .1 (omega arith)
 bit (catenation x y) i exit Empty.catenation-over o o′ j h =
-    same-bit j (sym (left-word _ exit x y _ _ _ _ accepting tt ∙ exit-word x _ _)) (bit-power (i + (1 + width x)) j .1 (omega arith))
+    same-bit j (sym (left-word _ exit x y _ _ _ _ accepting tt ∙ exit-word x _ _))
+    (bit-power (i + (1 + width x)) j .1 (omega arith))
 bit (catenation x y) i exit Empty.catenation-out o o′ j h =
-    same-bit j (sym (right-word _ exit x y _ _ _ _ accepting tt ∙ exit-word y _ _)) (bit-power (i + (1 + width x + width y)) j .1 (omega arith))
+    same-bit j (sym (right-word _ exit x y _ _ _ _ accepting tt ∙ exit-word y _ _))
+    (bit-power (i + (1 + width x + width y)) j .1 (omega arith))
 bit (catenation x y) i exit (Empty.catenation-left {p = p} e) o o′ j h =
     same-bit j (sym (left-word _ exit x y _ _ _ _ p o)) (bit x (i + 1) _ e o o′ j (omega arith))
 bit (catenation x y) i exit (Empty.catenation-right {p = p} e) o o′ j h =
     same-bit j (sym (right-word _ exit x y _ _ _ _ p o)) (bit y (i + (1 + width x)) _ e o o′ j (omega arith))
-bit (union x y) i exit Empty.union-in-left o o′ j h = two-bits (i + 1) (i + (1 + width x)) j (omega (arith, width-two x)) .1 (inl (omega arith))
-bit (union x y) i exit Empty.union-in-right o o′ j h = two-bits (i + 1) (i + (1 + width x)) j (omega (arith, width-two x)) .1 (inr (omega arith))
+bit (union x y) i exit Empty.union-in-left o o′ j h =
+    two-bits (i + 1) (i + (1 + width x)) j (omega (arith, width-two x)) .1 (inl (omega arith))
+bit (union x y) i exit Empty.union-in-right o o′ j h =
+    two-bits (i + 1) (i + (1 + width x)) j (omega (arith, width-two x)) .1 (inr (omega arith))
 bit (union x y) i exit Empty.union-out-left o o′ j h =
-    same-bit j (sym (left-word _ exit x y _ _ _ _ accepting tt ∙ exit-word x _ _)) (bit-power (i + (1 + width x + width y)) j .1 (omega arith))
+    same-bit j (sym (left-word _ exit x y _ _ _ _ accepting tt ∙ exit-word x _ _))
+    (bit-power (i + (1 + width x + width y)) j .1 (omega arith))
 bit (union x y) i exit Empty.union-out-right o o′ j h =
-    same-bit j (sym (right-word _ exit x y _ _ _ _ accepting tt ∙ exit-word y _ _)) (bit-power (i + (1 + width x + width y)) j .1 (omega arith))
+    same-bit j (sym (right-word _ exit x y _ _ _ _ accepting tt ∙ exit-word y _ _))
+    (bit-power (i + (1 + width x + width y)) j .1 (omega arith))
 bit (union x y) i exit (Empty.union-left {p = p} e) o o′ j h =
     same-bit j (sym (left-word _ exit x y _ _ _ _ p o)) (bit x (i + 1) _ e o o′ j (omega arith))
 bit (union x y) i exit (Empty.union-right {p = p} e) o o′ j h =
     same-bit j (sym (right-word _ exit x y _ _ _ _ p o)) (bit y (i + (1 + width x)) _ e o o′ j (omega arith))
-bit (star x) i exit Empty.star-in o o′ j h = two-bits (i + 1) (i + (1 + width x)) j (omega (arith, width-two x)) .1 (inl (omega arith))
-bit (star x) i exit Empty.star-past o o′ j h = two-bits (i + 1) (i + (1 + width x)) j (omega (arith, width-two x)) .1 (inr (omega arith))
+bit (star x) i exit Empty.star-in o o′ j h = two-bits (i + 1) (i + (1 + width x)) j (omega (arith, width-two x)) .1
+    (inl (omega arith))
+bit (star x) i exit Empty.star-past o o′ j h = two-bits (i + 1) (i + (1 + width x)) j (omega (arith, width-two x)) .1
+    (inr (omega arith))
 bit (star x) i exit Empty.star-back o o′ j h =
     same-bit j (sym (inside-word _ exit x _ _ accepting tt ∙ exit-word x _ _))
     (two-bits (i + 1) (i + (1 + width x)) j (omega (arith, width-two x)) .1 (inl (omega arith)))
@@ -176,7 +211,7 @@ bit (star x) i exit (Empty.star-inside {p = p} e) o o′ j h =
     same-bit j (sym (inside-word _ exit x _ _ p o)) (bit x (i + 1) _ e o o′ j (omega arith))
 
 -- the ends of a transition are states of the piece
-pub transition-own : (x : Nested ℕ) {p q : State} → Empty (own x) p q → Own x p × Own x q
+pub transition-own : (x : Nested Leaf) {p q : State} → Empty (own x) p q → Own x p × Own x q
 transition-own (catenation x y) Empty.catenation-in = (tt, tt)
 transition-own (catenation x y) Empty.catenation-over = (tt, tt)
 transition-own (catenation x y) Empty.catenation-out = (tt, tt)
@@ -195,7 +230,7 @@ transition-own (star x) Empty.star-out = (tt, tt)
 transition-own (star x) (Empty.star-inside e) = transition-own x e
 
 -- bit j of the word of p is set exactly for a transition from p to the state numbered j
-pub nexts-bits : (x : Nested ℕ) (p : State) → Own x p → (j : ℕ)
+pub nexts-bits : (x : Nested Leaf) (p : State) → Own x p → (j : ℕ)
     → Bit (getD (nexts x 0 0) (number x p) 0) j ↔ ((q : State) × Own x q × (number x q ≡ j) × Empty (own x) p q)
 nexts-bits x p o j = (
   λ b. ⊎-elim (λ g. (g .0, g .1, omega (arith, g .2), g .3)) (λ g. absurd (bit-zero j (g .1))) (out x 0 0 p o j b),

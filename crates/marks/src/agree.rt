@@ -4,6 +4,7 @@ ghost use mathlib.Core.Logic.{_↔_};
 ghost use mathlib.Core.Path.{_≡_};
 ghost use lib.ListN.{length, getD};
 ghost use Rattle.language.specs.Nested.{Nested};
+ghost use Rattle.tree.specs.Leaf.{Leaf};
 ghost use Rattle.tables.specs.Words.{Bit, run, Clean, Agreeing};
 ghost use Rattle.tables.specs.Plan.{Pieces, Planned};
 ghost use Rattle.marks.specs.Bits.{Told};
@@ -38,7 +39,8 @@ fn parent(runs: &[u8], child: usize) -> usize
     at
 }
 
-// Whether a child piece's word has no bit past its last state, numbered `top`, and its start and accepting state have the bits of their
+// Whether a child piece's word has no bit past its last state, numbered `top`, and its start and accepting state have
+// the bits of their
 // stand-in, which are numbered from `stand` in the word above.
 fn pair_agrees(above: u64, stand: usize, word: u64, top: usize) -> bool
     requires { ⌜ (stand < 63) × (top < 63) ⌝ }
@@ -62,7 +64,9 @@ fn child_agrees(
     child: usize,
 ) -> bool
     requires { ⌜ Checkable (now runs) (now stands) (now tops) (now words) pieces × (0 < child) × (child < pieces) ⌝ }
-    ensures { λ r. ⌜ Told (Child-agrees (now (runs .entry)) (now (stands .entry)) (now (tops .entry)) (now (words .entry)) child) r ⌝ }
+    ensures { λ r.
+        ⌜ Told (Child-agrees (now (runs .entry)) (now (stands .entry)) (now (tops .entry)) (now (words .entry)) child) r
+        ⌝ }
 {
     let over = parent(runs, child);
     let stand = stands[child] as usize;
@@ -73,7 +77,9 @@ fn child_agrees(
 // Whether the words may be stepped: no bit past a last state is set, and the two bits of each shared state agree.
 pub fn agreeing(runs: &[u8], stands: &[u8], tops: &[u8], words: &[u64], pieces: usize) -> bool
     requires { ⌜ Checkable (now runs) (now stands) (now tops) (now words) pieces ⌝ }
-    ensures { λ r. ⌜ ((tables : Pieces) (x : Nested ℕ) → tables .runs ≡ now (runs .entry) → tables .stands ≡ now (stands .entry) → tables .tops ≡ now (tops .entry) → Planned tables x → 1 + run x ≡ pieces → Told (Clean x (now (words .entry)) × Agreeing x (now (words .entry))) r) ⌝ }
+    ensures { λ r. ⌜ ((tables : Pieces) (x : Nested Leaf) → tables .runs ≡ now (runs .entry)
+        → tables .stands ≡ now (stands .entry) → tables .tops ≡ now (tops .entry) → Planned tables x
+        → 1 + run x ≡ pieces → Told (Clean x (now (words .entry)) × Agreeing x (now (words .entry))) r) ⌝ }
 {
     let top = tops[0] as usize;
     if none_past(words[0], top) {

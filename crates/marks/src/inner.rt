@@ -10,6 +10,7 @@ ghost use mathlib.Core.Path.{_≡_};
 ghost use mathlib.Core.List.{_++_};
 ghost use lib.ListN.{length, getD, take, drop};
 ghost use Rattle.language.specs.Tree.{Tree};
+ghost use Rattle.tree.specs.Leaf.{Leaf};
 ghost use Rattle.tree.specs.Records.{Good};
 ghost use Rattle.marks.specs.Bits.{Told};
 ghost use Rattle.tables.specs.Given.{Good-list};
@@ -29,8 +30,11 @@ pub fn prepare(
 ) -> usize
     requires { ⌜ Good-list (now list) ⌝ }
     requires { ⌜ Roomy (now reach) (now labels) (now runs) (now stands) (now tops) ⌝ }
-    ensures { λ r. ⌜ Roomy (now (reach .exit)) (now (labels .exit)) (now (runs .exit)) (now (stands .exit)) (now (tops .exit)) ⌝ }
-    ensures { λ r. ⌜ ((t : Tree ℕ) → Good (now (list .entry)) t → Prepared t (now (reach .exit)) (now (labels .exit)) (now (runs .exit)) (now (stands .exit)) (now (tops .exit)) r) ⌝ }
+    ensures { λ r. ⌜ Roomy (now (reach .exit)) (now (labels .exit)) (now (runs .exit)) (now (stands .exit))
+        (now (tops .exit)) ⌝ }
+    ensures { λ r. ⌜ ((t : Tree Leaf) → Good (now (list .entry)) t
+        → Prepared t (now (reach .exit)) (now (labels .exit)) (now (runs .exit)) (now (stands .exit)) (now (tops .exit))
+        r) ⌝ }
 {
     let count = plan(list, reach, labels, runs, stands, tops);
     close_all(reach, tops, count);
@@ -62,7 +66,10 @@ pub fn begin(
 ) -> bool
     requires { ⌜ Ready (now reach) (now labels) (now runs) (now stands) (now tops) count ⌝ }
     requires { ⌜ count ≤ length (now words) ⌝ }
-    ensures { λ r. ⌜ ((t : Tree ℕ) → Prepared t (now (reach .entry)) (now (labels .entry)) (now (runs .entry)) (now (stands .entry)) (now (tops .entry)) count → Begun t (now (words .entry)) (now (words .exit)) r) ⌝ }
+    ensures { λ r.
+        ⌜ ((t : Tree Leaf)
+        → Prepared t (now (reach .entry)) (now (labels .entry)) (now (runs .entry)) (now (stands .entry))
+        (now (tops .entry)) count → Begun t (now (words .entry)) (now (words .exit)) r) ⌝ }
 {
     let mut marks = [0u64; 128];
     marks[0] = 1;
@@ -114,7 +121,11 @@ pub fn advance(
     byte: u8,
 ) -> bool
     requires { ⌜ Running (now reach) (now labels) (now runs) (now stands) (now tops) count (now words) ⌝ }
-    ensures { λ r. ⌜ ((t : Tree ℕ) → Prepared t (now (reach .entry)) (now (labels .entry)) (now (runs .entry)) (now (stands .entry)) (now (tops .entry)) count → Marks-of t (now (words .entry)) → Advanced t byte (now (words .entry)) (now (words .exit)) r) ⌝ }
+    ensures { λ r.
+        ⌜ ((t : Tree Leaf)
+        → Prepared t (now (reach .entry)) (now (labels .entry)) (now (runs .entry)) (now (stands .entry))
+        (now (tops .entry)) count → Marks-of t (now (words .entry))
+        → Advanced t byte (now (words .entry)) (now (words .exit)) r) ⌝ }
 {
     move_all(reach, labels, words, byte, count);
     let from = marked_from(words, count);

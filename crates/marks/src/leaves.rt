@@ -1,4 +1,5 @@
-// Which states take a byte, noted once, so that a move looks at no others. A piece has at most 62 states: entry 63 of its 64 is free for it.
+// Which states take a byte, noted once, so that a move looks at no others. A piece has at most 62 states: entry 63 of
+// its 64 is free for it.
 use crate::bits::with_bit;
 ghost use Prim.Native.Nat.{_+_, _*_, _≤_};
 ghost use lib.ListN.{length};

@@ -1,4 +1,5 @@
-// Moving along a byte: from each marked start of a leaf that is that byte to the leaf's accepting state, and from there inside the piece.
+// Moving along a byte: from each marked start of a leaf that is that byte to the leaf's accepting state, and from there
+// inside the piece.
 use crate::bits::lowest;
 use crate::bits::with_bit;
 use crate::close::close;
@@ -6,16 +7,20 @@ ghost use mathlib.Core.Path.{_≡_};
 ghost use Prim.Native.Nat.{ℕ, _+_, _*_, _^_, _≤_, _<_};
 ghost use lib.ListN.{length};
 ghost use Rattle.language.specs.Nested.{Nested};
+ghost use Rattle.tree.specs.Leaf.{Leaf};
 ghost use Rattle.tables.specs.Words.{width};
 ghost use Rattle.tables.specs.Plan.{row, takes, Moves};
 ghost use Rattle.tables.specs.Tables.{Noted};
 ghost use Rattle.marks.specs.MovedClosed.{Word-after, Moved-closed};
 
-// The word of a piece, moved along the byte: a state that takes it has the label one above it, and leads to the next state. Only leaves are
+// The word of a piece, moved along the byte: a state that takes it has the label one above it, and leads to the next
+// state. Only leaves are
 // looked at.
 pub fn moved(reach: &[u64], labels: &[u16], piece: usize, word: u64, byte: u8) -> u64
-    requires { ⌜ (64 * piece + 64 ≤ length (now reach)) × (64 * piece + 64 ≤ length (now labels)) × Noted (now reach) (now labels) piece ⌝ }
-    ensures { λ r. ⌜ ((x : Nested ℕ) → width x ≤ 62 → row (now (labels .entry)) piece (width x) ≡ takes x → word < 2 ^ width x → Moves x byte word r) ⌝ }
+    requires { ⌜ (64 * piece + 64 ≤ length (now reach)) × (64 * piece + 64 ≤ length (now labels))
+        × Noted (now reach) (now labels) piece ⌝ }
+    ensures { λ r. ⌜ ((x : Nested Leaf) → width x ≤ 62 → row (now (labels .entry)) piece (width x) ≡ takes x
+        → word < 2 ^ width x → Moves x byte word r) ⌝ }
 {
     let base = 64 * piece;
     let label = byte as u16 + 1;
@@ -31,9 +36,11 @@ pub fn moved(reach: &[u64], labels: &[u16], piece: usize, word: u64, byte: u8) -
     picked << 1
 }
 
-// The word of a piece after the byte: moved, and closed in the piece. A word of no marks stays one, and its tables are not looked at.
+// The word of a piece after the byte: moved, and closed in the piece. A word of no marks stays one, and its tables are
+// not looked at.
 fn word_after(reach: &[u64], labels: &[u16], piece: usize, word: u64, byte: u8) -> u64
-    requires { ⌜ (64 * piece + 64 ≤ length (now reach)) × (64 * piece + 64 ≤ length (now labels)) × Noted (now reach) (now labels) piece ⌝ }
+    requires { ⌜ (64 * piece + 64 ≤ length (now reach)) × (64 * piece + 64 ≤ length (now labels))
+        × Noted (now reach) (now labels) piece ⌝ }
     ensures { λ r. ⌜ Word-after (now (reach .entry)) (now (labels .entry)) piece word byte r ⌝ }
 {
     if word == 0 {
@@ -45,9 +52,11 @@ fn word_after(reach: &[u64], labels: &[u16], piece: usize, word: u64, byte: u8) 
 
 // Moves the words of all pieces along the byte, and closes each piece in itself.
 pub fn move_all(reach: &[u64], labels: &[u16], words: &mut [u64], byte: u8, pieces: usize)
-    requires { ⌜ (64 * pieces ≤ length (now reach)) × (64 * pieces ≤ length (now labels)) × (pieces ≤ length (now words)) ⌝ }
+    requires { ⌜ (64 * pieces ≤ length (now reach)) × (64 * pieces ≤ length (now labels))
+        × (pieces ≤ length (now words)) ⌝ }
     requires { ⌜ ((k : ℕ) → k < pieces → Noted (now reach) (now labels) k) ⌝ }
-    ensures { λ _. ⌜ Moved-closed (now (reach .entry)) (now (labels .entry)) (now (words .entry)) (now (words .exit)) byte pieces ⌝ }
+    ensures { λ _. ⌜ Moved-closed (now (reach .entry)) (now (labels .entry)) (now (words .entry)) (now (words .exit))
+        byte pieces ⌝ }
 {
     let mut piece = 0;
     while piece < pieces {

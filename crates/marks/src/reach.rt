@@ -1,5 +1,7 @@
-// Document 002's table: one word for each state of each piece, with the bits of the states that empty transitions reach from it.
-// It is made in place from the words of the empty transitions themselves, by Warshall's way, from the last state down: nearly all lead ahead.
+// Document 002's table: one word for each state of each piece, with the bits of the states that empty transitions reach
+// from it.
+// It is made in place from the words of the empty transitions themselves, by Warshall's way, from the last state down:
+// nearly all lead ahead.
 use crate::bits::has_bit;
 use crate::bits::lowest;
 use crate::bits::with_bit;
@@ -68,7 +70,8 @@ fn close_rows(reach: &mut [u64], piece: usize, states: usize)
 
 // From the transitions of every piece to what they reach.
 pub fn close_all(reach: &mut [u64], tops: &[u8], pieces: usize)
-    requires { ⌜ (64 * pieces ≤ length (now reach)) × (pieces ≤ length (now tops)) × ((k : ℕ) → k < pieces → getD (now tops) k 0 < 64) ⌝ }
+    requires { ⌜ (64 * pieces ≤ length (now reach)) × (pieces ≤ length (now tops))
+        × ((k : ℕ) → k < pieces → getD (now tops) k 0 < 64) ⌝ }
     ensures { λ _. ⌜ Closed-all (now (tops .entry)) (now (reach .entry)) (now (reach .exit)) pieces ⌝ }
 {
     let mut piece = 0;

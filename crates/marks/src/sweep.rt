@@ -7,6 +7,7 @@ ghost use Prim.Native.Nat.{ℕ, _+_, _*_, _≤_, _<_};
 ghost use lib.ListN.{length};
 ghost use Rattle.language.specs.Nested.{Nested};
 ghost use Rattle.language.specs.Settled.{Settled};
+ghost use Rattle.tree.specs.Leaf.{Leaf};
 ghost use Rattle.tables.specs.Words.{Bit, Holds};
 ghost use Rattle.marks.specs.Bits.{Told};
 ghost use Rattle.marks.specs.Swept.{passed, Ready, Sweepable, Swept, At-rest, Missed, Apart};
@@ -21,7 +22,8 @@ fn pass(other: u64, from: usize, word: u64, to: usize) -> u64
     word | (((other >> from) & 1) << to)
 }
 
-// The word of a piece, closed: it was closed but for what one state reaches, so the row of that state is all there is to join.
+// The word of a piece, closed: it was closed but for what one state reaches, so the row of that state is all there is
+// to join.
 fn close_from(reach: &[u64], piece: usize, word: u64, state: usize) -> u64
     requires { ⌜ (64 * piece + 64 ≤ length (now reach)) × (state < 64) ⌝ }
     ensures { λ r. ⌜ Closes-from (now (reach .entry)) piece word state r ⌝ }
@@ -52,7 +54,8 @@ fn apart(one: u64, other: u64) -> bool
     one & other == 0
 }
 
-// Whether a child piece whose run goes up to `end` has nothing to do: its stand-in's start is not marked, and no mark is in its run, which is
+// Whether a child piece whose run goes up to `end` has nothing to do: its stand-in's start is not marked, and no mark
+// is in its run, which is
 // a single word without one, or outside of `from` up to `to`.
 fn at_rest(
     word: u64,
@@ -88,9 +91,12 @@ fn idle(word: u64, child: usize, to: usize) -> bool
     false
 }
 
-// Sweeps the run of the piece: closes the piece itself, then goes through its child pieces from left to right, whose runs stand one after the
-// other behind its own word. A marked start is passed down, the child is swept, a marked accepting state is passed up, and the piece is closed again.
-// Marks of the child pieces are among the words `from` to `to` only, counted from piece 0: a run with none of them is passed over if its start is
+// Sweeps the run of the piece: closes the piece itself, then goes through its child pieces from left to right, whose
+// runs stand one after the
+// other behind its own word. A marked start is passed down, the child is swept, a marked accepting state is passed up,
+// and the piece is closed again.
+// Marks of the child pieces are among the words `from` to `to` only, counted from piece 0: a run with none of them is
+// passed over if its start is
 // not marked. Answers whether all starts were marked in time, so that another sweep would change nothing.
 pub fn sweep(
     reach: &[u64],
@@ -103,8 +109,14 @@ pub fn sweep(
     words: &mut [u64],
 ) -> bool
     requires { ⌜ Ready (now reach) (now runs) (now stands) (now tops) piece from to (now words) ⌝ }
-    ensures { λ r. ⌜ ((x : Nested ℕ) → Sweepable (now (reach .entry)) (now (runs .entry)) (now (stands .entry)) (now (tops .entry)) x piece (now (words .entry)) → Swept x (now (words .entry)) (now (words .exit))) ⌝ }
-    ensures { λ r. ⌜ ((x : Nested ℕ) → Sweepable (now (reach .entry)) (now (runs .entry)) (now (stands .entry)) (now (tops .entry)) x piece (now (words .entry)) → r ≡ true → Settled x (Holds x (now (words .exit)))) ⌝ }
+    ensures { λ r.
+        ⌜ ((x : Nested Leaf)
+        → Sweepable (now (reach .entry)) (now (runs .entry)) (now (stands .entry)) (now (tops .entry)) x piece
+        (now (words .entry)) → Swept x (now (words .entry)) (now (words .exit))) ⌝ }
+    ensures { λ r.
+        ⌜ ((x : Nested Leaf)
+        → Sweepable (now (reach .entry)) (now (runs .entry)) (now (stands .entry)) (now (tops .entry)) x piece
+        (now (words .entry)) → r ≡ true → Settled x (Holds x (now (words .exit)))) ⌝ }
 {
     words[0] = close_from(reach, piece, words[0], 0);
     let mut settled = true;
@@ -154,7 +166,8 @@ pub fn close_twice(
     words: &mut [u64],
 )
     requires { ⌜ Closable (now reach) (now runs) (now stands) (now tops) count from to (now words) ⌝ }
-    ensures { λ _. ⌜ Closed-twice (now (reach .entry)) (now (runs .entry)) (now (stands .entry)) (now (tops .entry)) count (now (words .entry)) (now (words .exit)) ⌝ }
+    ensures { λ _. ⌜ Closed-twice (now (reach .entry)) (now (runs .entry)) (now (stands .entry)) (now (tops .entry))
+        count (now (words .entry)) (now (words .exit)) ⌝ }
 {
     if sweep(reach, runs, stands, tops, 0, from, to, &mut words[..count]) {
         return;

@@ -1,4 +1,5 @@
--- From an expression to an answer, in one line each: which texts match an expression that was read, and what search finds by it.
+-- From an expression to an answer, in one line each: which texts match an expression that was read, and what search
+-- finds by it.
 -- Assumes nothing.
 use Prim.Native.Nat.{ℕ, _*_, _≤_}
 use mathlib.Core.Path.{_≡_, subst}
@@ -7,6 +8,7 @@ use mathlib.Core.List.{List}
 use lib.ListN.{length, take}
 use Rattle.language.specs.Tree.{Tree}
 use Rattle.language.specs.Language.{Matches}
+use Rattle.tree.specs.Leaf.{Leaf}
 use Rattle.tree.specs.Readback.{good-unique}
 use Rattle.reader.specs.Grammar.{Written}
 use Rattle.reader.specs.Agree.{scanned-exactly, grammar-unique}
@@ -19,7 +21,7 @@ use Rattle.finder.specs.declared.Searched.the-variants.{Found as Found-at, Noth
 
 -- the text lies in the language of the expression
 abbrev pub In-expression : List ℕ → List ℕ → Type 0
-In-expression bytes text = (t : Tree ℕ) × Written bytes t × Matches t text
+In-expression bytes text = (t : Tree Leaf) × Written bytes t × Matches t text
 
 -- `read` answered that the expression's records were written
 pub record Accepted (bytes before after : List ℕ) (records pieces : ℕ) : Type 0 where
@@ -27,11 +29,13 @@ pub record Accepted (bytes before after : List ℕ) (records pieces : ℕ) : Typ
   pub buffer : after ≡ stored bytes before
 
 -- a part in a language lies in a larger one
-part-within : {L M : List ℕ → Type 0} (text : List ℕ) → ((w : List ℕ) → L w → M w) → (s e : ℕ) → Part L text s e → Part M text s e
+part-within : {L M : List ℕ → Type 0} (text : List ℕ) → ((w : List ℕ) → L w → M w) → (s e : ℕ) → Part L text s e
+    → Part M text s e
 part-within text within s e p = record { ordered = p .ordered; inside = p .inside; belongs = within _ (p .belongs) }
 
 -- in two languages that are the same, search finds the same
-found-same : {L M : List ℕ → Type 0} (text : List ℕ) → ((w : List ℕ) → L w ↔ M w) → (s e : ℕ) → Found L text s e → Found M text s e
+found-same : {L M : List ℕ → Type 0} (text : List ℕ) → ((w : List ℕ) → L w ↔ M w) → (s e : ℕ) → Found L text s e
+    → Found M text s e
 found-same text same s e f =
     record {
       here = part-within text (λ w. same w .0) s e (f .here);
@@ -39,48 +43,64 @@ found-same text same s e f =
       latest = λ j h p. f .latest j h (part-within text (λ w. same w .1) s j p);
     }
 
-module _ {bytes before after : List ℕ} {records pieces : ℕ} (accepted : Accepted bytes before after records pieces) where
-  -- what the buffer then holds
-  held : Kept bytes before after records pieces
-  held = kept bytes before after records pieces (accepted .answer) (accepted .buffer)
+module _ {bytes before after : List ℕ} {records pieces : ℕ} (accepted : Accepted bytes before after records pieces)
+  where
+    -- what the buffer then holds
+    held : Kept bytes before after records pieces
+    held = kept bytes before after records pieces (accepted .answer) (accepted .buffer)
 
-  -- its tree is the written one
-  written : Written bytes (held .read)
-  written = scanned-exactly bytes (held .read) .0 (held .scans) .1
+    -- its tree is the written one
+    written : Written bytes (held .read)
+    written = scanned-exactly bytes (held .read) .0 (held .scans) .1
 
-  -- so the language of the tree is that of the expression
-  same-language : (text : List ℕ) → Matches (held .read) text ↔ In-expression bytes text
-  same-language text = (
-    λ matches. (held .read, written, matches),
-    λ (t, reads, matches). subst (λ (s : Tree ℕ). Matches s text) (grammar-unique reads written) matches,
-  )
+    -- so the language of the tree is that of the expression
+    same-language : (text : List ℕ) → Matches (held .read) text ↔ In-expression bytes text
+    same-language text = (
+      λ matches. (held .read, written, matches),
+      λ (t, reads, matches). subst (λ (s : Tree Leaf). Matches s text) (grammar-unique reads written) matches,
+    )
 
-  -- the records that were written are a good list, so what is answered of the list is answered of the tree
-  of-read : (text : List ℕ) (P : Tree ℕ → Type 0) → Of-good (take (8 * records) after) text P ↔ ((length text ≤ 65536) × P (held .read))
-  of-read text P = (
-    λ o. (o .short, subst P (good-unique (take (8 * records) after) (o .t) (held .read) (o .good) (held .good)) (o .holds)),
-    λ (short, holds). record { t = held .read; good = held .good; short = short; holds = holds },
-  )
+    -- the records that were written are a good list, so what is answered of the list is answered of the tree
+    of-read : (text : List ℕ) (P : Tree Leaf → Type 0) → Of-good (take (8 * records) after) text P
+        ↔ ((length text ≤ 65536) × P (held .read))
+    of-read text P = (
+      λ o. (
+        o .short,
+        subst P (good-unique (take (8 * records) after) (o .t) (held .read) (o .good) (held .good))
+            (o .holds),
+      ),
+      λ (short, holds). record { t = held .read; good = held .good; short = short; holds = holds },
+    )
 
-  module _ (text : List ℕ) where
-    -- match answers yes exactly when the text has at most 65,536 bytes and lies in the language of the expression
-    pub read-then-match : Match-answers (take (8 * records) after) text Yes ↔ ((length text ≤ 65536) × In-expression bytes text)
-    read-then-match = Iff·trans (of-read text (λ t. Matches t text)) (Iff·and Iff·rfl (same-language text))
+    module _ (text : List ℕ) where
+      -- match answers yes exactly when the text has at most 65,536 bytes and lies in the language of the expression
+      pub read-then-match : Match-answers (take (8 * records) after) text Yes
+          ↔ ((length text ≤ 65536) × In-expression bytes text)
+      read-then-match = Iff·trans (of-read text (λ t. Matches t text)) (Iff·and Iff·rfl (same-language text))
 
-    -- no exactly when it does not
-    pub read-then-no-match : Match-answers (take (8 * records) after) text No ↔ ((length text ≤ 65536) × (In-expression bytes text → ⊥))
-    read-then-no-match =
-        Iff·trans (of-read text (λ t. Matches t text → ⊥))
-        (Iff·and Iff·rfl (λ never inside. never (same-language text .1 inside), λ never inside. never (same-language text .0 inside)))
+      -- no exactly when it does not
+      pub read-then-no-match : Match-answers (take (8 * records) after) text No
+          ↔ ((length text ≤ 65536) × (In-expression bytes text → ⊥))
+      read-then-no-match =
+          Iff·trans (of-read text (λ t. Matches t text → ⊥))
+          (Iff·and Iff·rfl (
+            λ never inside. never (same-language text .1 inside),
+            λ never inside. never (same-language text .0 inside),
+          ))
 
-    -- search finds the part that starts earliest and then ends furthest, of those in the language of the expression
-    pub read-then-search : (s e : ℕ) → Search-answers (take (8 * records) after) text (Found-at s e) ↔ ((length text ≤ 65536) × Found (In-expression bytes) text s e)
-    read-then-search s e =
-        Iff·trans (of-read text (λ t. Found (Matches t) text s e)) (Iff·and Iff·rfl (found-same text same-language s e, found-same text (λ w. Iff·symm (same-language w)) s e))
+      -- search finds the part that starts earliest and then ends furthest, of those in the language of the expression
+      pub read-then-search : (s e : ℕ) → Search-answers (take (8 * records) after) text (Found-at s e)
+          ↔ ((length text ≤ 65536) × Found (In-expression bytes) text s e)
+      read-then-search s e =
+          Iff·trans (of-read text (λ t. Found (Matches t) text s e))
+          (Iff·and Iff·rfl (found-same text same-language s e, found-same text (λ w. Iff·symm (same-language w)) s e))
 
-    -- and nothing exactly when no part is
-    pub read-then-nothing : Search-answers (take (8 * records) after) text Nothing ↔ ((length text ≤ 65536) × Nothing-found (In-expression bytes) text)
-    read-then-nothing =
-        Iff·trans (of-read text (λ t. Nothing-found (Matches t) text))
-        (Iff·and Iff·rfl
-        (λ none s e p. none s e (part-within text (λ w. same-language w .1) s e p), λ none s e p. none s e (part-within text (λ w. same-language w .0) s e p)))
+      -- and nothing exactly when no part is
+      pub read-then-nothing : Search-answers (take (8 * records) after) text Nothing
+          ↔ ((length text ≤ 65536) × Nothing-found (In-expression bytes) text)
+      read-then-nothing =
+          Iff·trans (of-read text (λ t. Nothing-found (Matches t) text))
+          (Iff·and Iff·rfl (
+            λ none s e p. none s e (part-within text (λ w. same-language w .1) s e p),
+            λ none s e p. none s e (part-within text (λ w. same-language w .0) s e p),
+          ))

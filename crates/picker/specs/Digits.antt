@@ -17,7 +17,8 @@ digit d = 48 + d
 -- the digits of n, of which there are at most steps + 1
 unfoldable pub digits-within : (steps n : ℕ) → List ℕ
 digits-within zero n = digit n ∷ []
-digits-within (suc steps) n = elim (ltb n 10) [ true ↦ digit n ∷ [] | false ↦ digits-within steps (n / 10) ++ (digit (n % 10) ∷ []) ]
+digits-within (suc steps) n =
+    elim (ltb n 10) [ true ↦ digit n ∷ [] | false ↦ digits-within steps (n / 10) ++ (digit (n % 10) ∷ []) ]
 
 -- a number has no more digits than itself, and one
 unfoldable pub digits : ℕ → List ℕ
@@ -30,7 +31,8 @@ within-small zero n h = refl
 within-small (suc steps) n h = rw (lt-ltb n 10 h, digits-within)
 
 -- another number is the digits of its tenth, and its last digit
-within-large : (steps n : ℕ) → 10 ≤ n → digits-within (suc steps) n ≡ digits-within steps (n / 10) ++ (digit (n % 10) ∷ [])
+within-large : (steps n : ℕ) → 10 ≤ n → digits-within (suc steps) n ≡ digits-within steps (n / 10)
+    ++ (digit (n % 10) ∷ [])
 unfolding digits-within
 within-large steps n h = rw (le-ltb n 10 h, digits-within)
 
@@ -57,10 +59,12 @@ pub digits-large : (n : ℕ) → 10 ≤ n → digits n ≡ digits (n / 10) ++ (d
 unfolding digits
 digits-large zero h = absurd (omega arith)
 digits-large (suc n) h =
-    within-large n (suc n) h ∙ ap (λ (ds : List ℕ). ds ++ (digit (suc n % 10) ∷ [])) (enough n (suc n / 10) (suc n / 10) (omega arith) (omega arith))
+    within-large n (suc n) h ∙ ap (λ (ds : List ℕ). ds ++ (digit (suc n % 10) ∷ []))
+    (enough n (suc n / 10) (suc n / 10) (omega arith) (omega arith))
 
 -- what holds of the digits of numbers below 10, and of a number's if of its tenth's, holds of the digits of all
-pub digits-induction : (P : ℕ → List ℕ → Type 0) → ((n : ℕ) → n < 10 → P n (digit n ∷ [])) → ((n : ℕ) (ds : List ℕ) → 10 ≤ n → P (n / 10) ds → P n (ds ++ (digit (n % 10) ∷ []))) → (n : ℕ) → P n (digits n)
+pub digits-induction : (P : ℕ → List ℕ → Type 0) → ((n : ℕ) → n < 10 → P n (digit n ∷ []))
+    → ((n : ℕ) (ds : List ℕ) → 10 ≤ n → P (n / 10) ds → P n (ds ++ (digit (n % 10) ∷ []))) → (n : ℕ) → P n (digits n)
 digits-induction P small large n = below n n (omega arith)
   where
     below : (steps n : ℕ) → n ≤ steps → P n (digits n)
@@ -68,7 +72,8 @@ digits-induction P small large n = below n n (omega arith)
     below (suc steps) n h =
         elim (decLt n 10) [
           | yes l ↦ rw (digits-small n l) (small n l)
-          | no l ↦ rw (digits-large n (omega arith)) (large n (digits (n / 10)) (omega arith) (below steps (n / 10) (omega arith)))
+          | no l ↦ rw (digits-large n (omega arith))
+              (large n (digits (n / 10)) (omega arith) (below steps (n / 10) (omega arith)))
         ]
 
 -- the number that digits stand for, behind those already read
@@ -83,7 +88,8 @@ value-last read (c ∷ ds) d = value-last (read * 10 + (c - 48)) ds d
 
 -- the digits of a number stand for that number
 pub digits-value : (n : ℕ) → value-after 0 (digits n) ≡ n
-digits-value = digits-induction (λ n ds. value-after 0 ds ≡ n) (λ n h. omega arith) (λ n ds h same. omega (arith, value-last 0 ds (digit (n % 10))))
+digits-value = digits-induction (λ n ds. value-after 0 ds ≡ n) (λ n h. omega arith)
+    (λ n ds h same. omega (arith, value-last 0 ds (digit (n % 10))))
 
 -- so two numbers with the same digits are the same
 pub digits-injective : (m n : ℕ) → digits m ≡ digits n → m ≡ n

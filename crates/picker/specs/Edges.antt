@@ -11,6 +11,7 @@ use Rattle.language.specs.Tree.{Tree, nodes}
 use Rattle.language.specs.Language.{Is, Matches}
 use Rattle.language.specs.Automaton.{Started, After, Accepts}
 use Rattle.language.specs.Acceptance.{accepts-exactly}
+use Rattle.tree.specs.Leaf.{Leaf}
 use Rattle.tree.specs.Records.{piece-count}
 use Rattle.tree.specs.Pieces.{cut-up}
 use Rattle.reader.specs.Text.{bytes}
@@ -19,7 +20,18 @@ use Rattle.finder.specs.Found.{Answer, at, nothing, Answers}
 use Rattle.finder.specs.Decide.{any-split, any-repeat, one-byte, matched, matches, matches-exactly}
 use Rattle.finder.specs.Searched.{latest-end, answer-from, searched, searched-exactly}
 use Rattle.finder.specs.Computed.{walked, moved}
-use Rattle.finder.specs.Held.{Held, held-after, same-answer as same-test, also, also-first, also-second, ends, agrees, tidy, holds-after}
+use Rattle.finder.specs.Held.{
+  Held,
+  held-after,
+  same-answer as same-test,
+  also,
+  also-first,
+  also-second,
+  ends,
+  agrees,
+  tidy,
+  holds-after,
+}
 
 -- what is said holds of every row
 abbrev pub Every : {A : Type 0} → (A → Type 0) → List A → Type 0
@@ -40,14 +52,15 @@ pub data Row : Type 0 where
   finds : (expression text : List ℕ) (answer : Answer) → Row
 
 -- the expression is read as a tree of which this holds
-abbrev pub Read : List ℕ → (Tree ℕ → Type 0) → Type 0
-Read expression Says = (t : Tree ℕ) × (scanned expression ≡ tree t) × Says t
+abbrev pub Read : List ℕ → (Tree Leaf → Type 0) → Type 0
+Read expression Says = (t : Tree Leaf) × (scanned expression ≡ tree t) × Says t
 
 -- what a row says
 abbrev pub Holds : Row → Type 0
 Holds (refuses expression number place) = scanned expression ≡ refused number place
 Holds (reads expression records pieces) = Read expression (λ t. (nodes t ≡ records) × (piece-count t ≡ pieces))
-Holds (marks expression text words answer) = Read expression (λ t. Held t words (After Is t text (Started t)) × ((answer ≡ true) ↔ Accepts Is t text))
+Holds (marks expression text words answer) =
+    Read expression (λ t. Held t words (After Is t text (Started t)) × ((answer ≡ true) ↔ Accepts Is t text))
 Holds (answers expression text answer) = Read expression (λ t. (answer ≡ true) ↔ Matches t text)
 Holds (finds expression text answer) = Read expression (λ t. Answers (Matches t) text answer)
 
@@ -90,7 +103,7 @@ is-refusal number place (tree t) = false
 is-refusal number place (refused n p) = also (eqb n number) (eqb p place)
 
 -- whether an outcome is a tree that passes a test
-unfoldable is-tree : (Tree ℕ → Bool) → Outcome → Bool
+unfoldable is-tree : (Tree Leaf → Bool) → Outcome → Bool
 is-tree test (tree t) = test t
 is-tree test (refused n p) = false
 
@@ -104,19 +117,26 @@ same-answer nothing nothing = true
 -- a row, as a test that computes
 unfoldable row-test : Row → Bool
 row-test (refuses expression number place) = is-refusal number place (scanned expression)
-row-test (reads expression records pieces) = is-tree (λ t. also (eqb (nodes t) records) (eqb (piece-count t) pieces)) (scanned expression)
-row-test (marks expression text words answer) = is-tree (λ t. also (holds-after t text words) (Bool·beq (matches t text) answer)) (scanned expression)
+row-test (reads expression records pieces) = is-tree (λ t. also (eqb (nodes t) records) (eqb (piece-count t) pieces))
+    (scanned expression)
+row-test (marks expression text words answer) =
+    is-tree (λ t. also (holds-after t text words) (Bool·beq (matches t text) answer)) (scanned expression)
 row-test (answers expression text answer) = is-tree (λ t. Bool·beq (matches t text) answer) (scanned expression)
-row-test (finds expression text answer) = is-tree (λ t. same-answer (searched (matches t) text) answer) (scanned expression)
+row-test (finds expression text answer) =
+    is-tree (λ t. same-answer (searched (matches t) text) answer) (scanned expression)
 
 -- an outcome that passes the test is that refusal
-refusal-holds : (number place : ℕ) (outcome : Outcome) → is-refusal number place outcome ≡ true → outcome ≡ refused number place
+refusal-holds : (number place : ℕ) (outcome : Outcome) → is-refusal number place outcome ≡ true
+    → outcome ≡ refused number place
 unfolding is-refusal
 refusal-holds number place (tree t) e = absurd (false≢true e)
-refusal-holds number place (refused n p) e = rw (eqb-true n number (also-first _ _ e), eqb-true p place (also-second _ _ e))
+refusal-holds number place (refused n p) e =
+    rw (eqb-true n number (also-first _ _ e), eqb-true p place (also-second _ _ e))
 
 -- an outcome that passes the test is a tree, of which holds what the test stands for
-tree-holds : (expression : List ℕ) (test : Tree ℕ → Bool) (Says : Tree ℕ → Type 0) → ((t : Tree ℕ) → test t ≡ true → Says t) → (outcome : Outcome) → scanned expression ≡ outcome → is-tree test outcome ≡ true → Read expression Says
+tree-holds : (expression : List ℕ) (test : Tree Leaf → Bool) (Says : Tree Leaf → Type 0)
+    → ((t : Tree Leaf) → test t ≡ true → Says t) → (outcome : Outcome) → scanned expression ≡ outcome
+    → is-tree test outcome ≡ true → Read expression Says
 unfolding is-tree
 tree-holds expression test Says sound (tree t) same e = (t, same, sound t e)
 tree-holds expression test Says sound (refused n p) same e = absurd (false≢true e)
@@ -130,7 +150,8 @@ answer-holds nothing (at i j) h = absurd (false≢true h)
 answer-holds nothing nothing h = refl
 
 -- the test for a whole text
-match-holds : (t : Tree ℕ) (text : List ℕ) (answer : Bool) → Bool·beq (matches t text) answer ≡ true → (answer ≡ true) ↔ Matches t text
+match-holds : (t : Tree Leaf) (text : List ℕ) (answer : Bool) → Bool·beq (matches t text) answer ≡ true
+    → (answer ≡ true) ↔ Matches t text
 match-holds t text answer e = Iff·trans (Iff·symm (same-test (matches t text) answer e)) (matches-exactly t text)
 
 -- a row whose test passes holds
@@ -138,15 +159,22 @@ row-holds : (row : Row) → row-test row ≡ true → Holds row
 unfolding row-test
 row-holds (refuses expression number place) e = refusal-holds number place (scanned expression) e
 row-holds (reads expression records pieces) e =
-    tree-holds expression _ _ (λ t h. (eqb-true (nodes t) records (also-first _ _ h), eqb-true (piece-count t) pieces (also-second _ _ h))) (scanned expression) refl e
+    tree-holds expression _ _
+    (λ t h. (eqb-true (nodes t) records (also-first _ _ h), eqb-true (piece-count t) pieces (also-second _ _ h)))
+    (scanned expression) refl e
 row-holds (marks expression text words answer) e =
     tree-holds expression _ _
-    (λ t h. (held-after t text words (also-first _ _ h), Iff·trans (match-holds t text answer (also-second _ _ h)) (Iff·symm (accepts-exactly Is t text))))
+    (λ t h. (
+      held-after t text words (also-first _ _ h),
+      Iff·trans (match-holds t text answer (also-second _ _ h)) (Iff·symm (accepts-exactly Is t text)),
+    ))
     (scanned expression) refl e
-row-holds (answers expression text answer) e = tree-holds expression _ _ (λ t h. match-holds t text answer h) (scanned expression) refl e
+row-holds (answers expression text answer) e =
+    tree-holds expression _ _ (λ t h. match-holds t text answer h) (scanned expression) refl e
 row-holds (finds expression text answer) e =
     tree-holds expression _ _
-    (λ t h. searched-exactly (Matches t) (matches t) (matches-exactly t) text answer .1 (answer-holds (searched (matches t) text) answer h))
+    (λ t h. searched-exactly (Matches t) (matches t) (matches-exactly t) text answer .1
+    (answer-holds (searched (matches t) text) answer h))
     (scanned expression) refl e
 
 -- all rows pass
@@ -162,5 +190,6 @@ rows-hold (row ∷ rows) e = (row-holds row (also-first _ _ e), rows-hold rows (
 
 -- every row of the table holds
 pub edges-hold : Every Holds edges
-unfolding rows-test row-test is-refusal is-tree same-answer scan scanned any-split any-repeat one-byte matched latest-end answer-from walked moved also ends agrees tidy holds-after cut-up
+unfolding rows-test row-test is-refusal is-tree same-answer scan scanned any-split any-repeat one-byte matched
+    latest-end answer-from walked moved also ends agrees tidy holds-after cut-up
 edges-hold = rows-hold edges refl

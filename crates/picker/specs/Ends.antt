@@ -28,7 +28,8 @@ lines-none input place h = ap lines (drop-of-length-le input h)
 
 module _ (input : List ℕ) (start end : ℕ) (e : Ends input start end) where
   -- a place before the end of the input begins a line
-  pub line-at : start < length input → lines (drop start input) ≡ part start end input ∷ lines (drop (after input end) input)
+  pub line-at : start < length input → lines (drop start input)
+      ≡ part start end input ∷ lines (drop (after input end) input)
   line-at some =
       elim (decLt end (length input)) [
         | yes h ↦
@@ -36,7 +37,8 @@ module _ (input : List ℕ) (start end : ℕ) (e : Ends input start end) where
             rw next (lines-from input start end (e .ordered) (e .unbroken) h (e .stops h))
         | no h ↦
             lines-to-end input start end (e .ordered) (e .unbroken) (omega arith) (omega (arith, e .inside))
-            ∙ ap (λ (later : List (List ℕ)). part start end input ∷ later) (sym (lines-none input (after input end) (omega arith)))
+            ∙ ap (λ (later : List (List ℕ)). part start end input ∷ later)
+            (sym (lines-none input (after input end) (omega arith)))
       ]
 
 -- the input's first line is the expression, and the texts are the lines left after it
@@ -46,13 +48,16 @@ pub record First-line (input : List ℕ) (end : ℕ) : Type 0 where
 
 pub first-line : (input : List ℕ) (end : ℕ) → Ends input 0 end → First-line input end
 unfolding lines
-first-line [] end e = record { is-expression = sym (take-nil end); are-texts = sym (lines-none [] (after [] end) (omega arith)) }
+first-line [] end e =
+    record { is-expression = sym (take-nil end); are-texts = sym (lines-none [] (after [] end) (omega arith)) }
 first-line (b ∷ rest) end e =
     let here = line-at (b ∷ rest) 0 end e (omega arith) in
     record { is-expression = ap expression here; are-texts = ap texts here }
 
 -- a part that is lent: what follows its start, as long as it is
-pub lent-part : (start end : ℕ) (text : List ℕ) → start ≤ end → start ≤ length text → take (end - start) (drop start text) ≡ part start end text
+pub lent-part : (start end : ℕ) (text : List ℕ) → start ≤ end → start ≤ length text
+    → take (end - start) (drop start text) ≡ part start end text
 lent-part start end text h k =
     let split : end ≡ start + (end - start) = omega arith in
-    sym (ap (λ (n : ℕ). drop start (take n text)) split ∙ ap (drop start) (take-add start (end - start) text) ∙ drop-at (take start text) _ start (length-take-le start text k))
+    sym (ap (λ (n : ℕ). drop start (take n text)) split ∙ ap (drop start) (take-add start (end - start) text)
+    ∙ drop-at (take start text) _ start (length-take-le start text k))

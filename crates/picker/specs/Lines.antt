@@ -61,9 +61,12 @@ unbroken-by-places [] each = tt
 unbroken-by-places (b ∷ line) each = (each 0 (omega arith), unbroken-by-places line (λ i h. each (suc i) (omega arith)))
 
 -- what is left from s on: the part up to e, the byte there, and what is left after it
-left-split : (input : List ℕ) (s e : ℕ) → s ≤ e → e < length input → drop s input ≡ part s e input ++ getD input e 0 ∷ drop (e + 1) input
+left-split : (input : List ℕ) (s e : ℕ) → s ≤ e → e < length input → drop s input ≡ part s e input
+    ++ getD input e 0 ∷ drop (e + 1) input
 left-split input s e h k =
-    rw add-one (ap (drop s) (split-at input e 0 k) ∙ drop-append-le s (take e input) (getD input e 0 ∷ drop (suc e) input) (rw (length-take-le e input (omega arith)) h))
+    rw add-one (ap (drop s) (split-at input e 0 k)
+    ∙ drop-append-le s (take e input) (getD input e 0 ∷ drop (suc e) input)
+    (rw (length-take-le e input (omega arith)) h))
 
 module _ (input : List ℕ) (s e : ℕ) (ordered : s ≤ e) (each : (i : ℕ) → s ≤ i → i < e → getD input i 0 ≡ 10 → ⊥) where
   -- the part of the input between two places is unbroken
@@ -73,15 +76,18 @@ module _ (input : List ℕ) (s e : ℕ) (ordered : s ≤ e) (each : (i : ℕ) �
       each (s + i) (omega arith) bound (sym (getD-drop s (take e input) i 0 ∙ getD-take e input (s + i) 0 bound) ∙ same)
 
   -- the lines from s on, where the next end stands at e
-  pub lines-from : e < length input → getD input e 0 ≡ 10 → lines (drop s input) ≡ part s e input ∷ lines (drop (e + 1) input)
+  pub lines-from : e < length input → getD input e 0 ≡ 10
+      → lines (drop s input) ≡ part s e input ∷ lines (drop (e + 1) input)
   lines-from inside end =
-      rw (left-split input s e ordered inside, end) (lines-ended (part s e input) (drop (e + 1) input) (part-unbroken (omega arith)))
+      rw (left-split input s e ordered inside, end)
+      (lines-ended (part s e input) (drop (e + 1) input) (part-unbroken (omega arith)))
 
   -- the lines from s on, where no end stands any more
   pub lines-to-end : s < e → e ≡ length input → lines (drop s input) ≡ part s e input ∷ []
   lines-to-end some end =
       let all : take e input ≡ input = take-all e input (omega arith) in
-      rw (← (ap (drop s) all)) (lines-last (part s e input) (omega (arith, part-length s e input (omega arith))) (part-unbroken (omega arith)))
+      rw (← (ap (drop s) all)) (lines-last (part s e input) (omega (arith, part-length s e input (omega arith)))
+      (part-unbroken (omega arith)))
 
 -- every line takes a byte at least: its end, or one of its own
 pub lines-count : (input : List ℕ) → length (lines input) ≤ length input
@@ -89,18 +95,22 @@ unfolding lines
 lines-count [] = omega arith
 lines-count (b ∷ rest) = go (eqb b 10) (lines rest) (lines-count rest)
   where
-    go : (test : Bool) (later : List (List ℕ)) → length later ≤ length rest → length (pick-lines test ([] ∷ later) (in-line b later)) ≤ suc (length rest)
+    go : (test : Bool) (later : List (List ℕ)) → length later ≤ length rest
+        → length (pick-lines test ([] ∷ later) (in-line b later)) ≤ suc (length rest)
     go true later h = omega arith
     go false [] h = omega arith
     go false (line ∷ later) h = omega arith
 
 -- the texts take a byte each, and the expression one more than it has, but where it is the only line
-pub texts-count : (input : List ℕ) → length (texts (lines input)) ≤ length input - (length (expression (lines input)) + 1)
+pub texts-count : (input : List ℕ) → length (texts (lines input))
+    ≤ length input - (length (expression (lines input)) + 1)
 unfolding lines
 texts-count [] = omega arith
 texts-count (b ∷ rest) = go (eqb b 10) (lines rest) (texts-count rest) (lines-count rest)
   where
-    go : (test : Bool) (later : List (List ℕ)) → length (texts later) ≤ length rest - (length (expression later) + 1) → length later ≤ length rest → length (texts (pick-lines test ([] ∷ later) (in-line b later))) ≤ suc (length rest) - (length (expression (pick-lines test ([] ∷ later) (in-line b later))) + 1)
+    go : (test : Bool) (later : List (List ℕ)) → length (texts later) ≤ length rest - (length (expression later) + 1)
+        → length later ≤ length rest → length (texts (pick-lines test ([] ∷ later) (in-line b later)))
+        ≤ suc (length rest) - (length (expression (pick-lines test ([] ∷ later) (in-line b later))) + 1)
     go true later h k = omega arith
     go false [] h k = omega arith
     go false (line ∷ later) h k = omega arith

@@ -8,6 +8,7 @@ use lib.ListN.{length}
 use lib.Dec.{ltb}
 use borrow.Author.Tests.{lt-ltb, le-ltb}
 use Rattle.language.specs.Tree.{Tree}
+use Rattle.tree.specs.Leaf.{Leaf}
 use Rattle.tree.specs.Records.{piece-count}
 use Rattle.reader.specs.Text.{bytes}
 use Rattle.reader.specs.Scanner.{Outcome, tree, refused, pick-outcome, scanned}
@@ -32,7 +33,8 @@ text-line false number rank = digits number ++ bytes " no -\n"
 -- the last line: how many texts, yes lines and no lines
 abbrev pub total-line : (texts yes-lines : ℕ) → List ℕ
 total-line count yes-lines =
-    bytes "total " ++ digits count ++ bytes " yes " ++ digits yes-lines ++ bytes " no " ++ digits (count - yes-lines) ++ bytes "\n"
+    bytes "total " ++ digits count ++ bytes " yes " ++ digits yes-lines ++ bytes " no " ++ digits (count - yes-lines)
+    ++ bytes "\n"
 
 -- the only line for an expression that is refused
 abbrev pub refusal-line : (number place : ℕ) → List ℕ
@@ -49,9 +51,9 @@ pick-bytes true a b = a
 pick-bytes false a b = b
 
 -- whether a text matches a tree is given
-module _ (matching : Tree ℕ → List ℕ → Bool) where
+module _ (matching : Tree Leaf → List ℕ → Bool) where
   -- the lines of the texts that are left, after so many texts and yes lines; then the last line
-  unfoldable pub text-lines : Tree ℕ → (count yes-lines : ℕ) → List (List ℕ) → List ℕ
+  unfoldable pub text-lines : Tree Leaf → (count yes-lines : ℕ) → List (List ℕ) → List ℕ
   text-lines t count yes-lines [] = total-line count yes-lines
   text-lines t count yes-lines (text ∷ later) =
       text-line (matching t text) (count + 1) (yes-lines + 1)
@@ -73,11 +75,13 @@ abbrev pub picked : List ℕ → List ℕ
 picked = output matches
 
 -- an input over 65,536 bytes has that one line
-pub output-long : (matching : Tree ℕ → List ℕ → Bool) (input : List ℕ) → 65536 < length input → output matching input ≡ bytes "input too long\n"
+pub output-long : (matching : Tree Leaf → List ℕ → Bool) (input : List ℕ) → 65536 < length input
+    → output matching input ≡ bytes "input too long\n"
 unfolding output
 output-long matching input h = rw (lt-ltb 65536 (length input) h)
 
 -- another one is reported by its lines
-pub output-short : (matching : Tree ℕ → List ℕ → Bool) (input : List ℕ) → length input ≤ 65536 → output matching input ≡ reported matching (answered (expression (lines input))) (texts (lines input))
+pub output-short : (matching : Tree Leaf → List ℕ → Bool) (input : List ℕ) → length input ≤ 65536
+    → output matching input ≡ reported matching (answered (expression (lines input))) (texts (lines input))
 unfolding output
 output-short matching input h = rw (le-ltb 65536 (length input) h)

@@ -36,7 +36,8 @@ module _ (buffer : List ℕ) (at : ℕ) (xs : List ℕ) (room : at + length xs �
   printed-take = take-at (take at buffer ++ xs) (drop (at + length xs) buffer) (at + length xs) head-length
 
   -- the buffer from the next place on is as it was
-  pub printed-drop : (more : ℕ) → drop (at + length xs + more) (printed buffer at xs) ≡ drop (at + length xs + more) buffer
+  pub printed-drop : (more : ℕ) → drop (at + length xs + more) (printed buffer at xs)
+      ≡ drop (at + length xs + more) buffer
   unfolding printed
   printed-drop more =
       sym (drop-drop more (at + length xs) (printed buffer at xs))
@@ -50,10 +51,12 @@ module _ (buffer : List ℕ) (at : ℕ) (xs : List ℕ) (room : at + length xs �
       ap (λ (front : List ℕ). front ++ ys ++ drop (at + length xs + length ys) (printed buffer at xs)) printed-take
       ∙ ap (λ (rest : List ℕ). (take at buffer ++ xs) ++ ys ++ rest) (printed-drop (length ys))
       ∙ ap (λ (rest : List ℕ). rest ++ drop (at + length xs + length ys) buffer) (append-assoc (take at buffer) xs ys)
-      ∙ ap (λ (n : ℕ). take at buffer ++ (xs ++ ys) ++ drop n buffer) (add-assoc at (length xs) (length ys) ∙ ap (λ (n : ℕ). at + n) (sym (length-append xs ys)))
+      ∙ ap (λ (n : ℕ). take at buffer ++ (xs ++ ys) ++ drop n buffer) (add-assoc at (length xs) (length ys)
+      ∙ ap (λ (n : ℕ). at + n) (sym (length-append xs ys)))
 
 -- bytes printed one after the other are printed together
-pub prints-join : {before xs middle ys after : List ℕ} {at next end : ℕ} → Prints before at xs middle next → Prints middle next ys after end → Prints before at (xs ++ ys) after end
+pub prints-join : {before xs middle ys after : List ℕ} {at next end : ℕ} → Prints before at xs middle next
+    → Prints middle next ys after end → Prints before at (xs ++ ys) after end
 prints-join {before} {xs} {middle} {ys} {after} {at} {next} {end} p q = record {
   within = rw length-append (omega (arith, p, q));
   next-place = rw length-append (omega (arith, p, q));
@@ -64,15 +67,29 @@ prints-join {before} {xs} {middle} {ys} {after} {at} {next} {end} p q = record {
 -- no bytes printed
 pub prints-none : (before : List ℕ) (at : ℕ) → at ≤ length before → Prints before at [] before at
 unfolding printed
-prints-none before at h = record { within = omega arith; next-place = omega arith; kept-length = refl; written = paste-zero before at [] }
+prints-none before at h = record {
+  within = omega arith;
+  next-place = omega arith;
+  kept-length = refl;
+  written =
+      paste-zero before at [];
+}
 
 -- one byte stored
-pub prints-byte : (before : List ℕ) (at byte : ℕ) → at < length before → Prints before at (byte ∷ []) (set before at byte) (at + 1)
+pub prints-byte : (before : List ℕ) (at byte : ℕ) → at < length before
+    → Prints before at (byte ∷ []) (set before at byte) (at + 1)
 unfolding printed
-prints-byte before at byte h = record { within = omega arith; next-place = refl; kept-length = simp length-set; written = set-split before at byte h ∙ sym (append-snoc (take at before) byte (drop (suc at) before)) ∙ rw add-one }
+prints-byte before at byte h = record {
+  within = omega arith;
+  next-place = refl;
+  kept-length = simp length-set;
+  written = set-split before at byte h ∙ sym (append-snoc (take at before) byte (drop (suc at) before)) ∙ rw add-one;
+}
 
 -- bytes copied one by one, up to the last
-pub prints-copied : (before : List ℕ) (at : ℕ) (bytes after : List ℕ) (i : ℕ) → at + length bytes ≤ length before → i ≡ length bytes → length after ≡ length before → after ≡ paste before at bytes i → Prints before at bytes after (at + length bytes)
+pub prints-copied : (before : List ℕ) (at : ℕ) (bytes after : List ℕ) (i : ℕ) → at + length bytes ≤ length before
+    → i ≡ length bytes → length after ≡ length before → after ≡ paste before at bytes i
+    → Prints before at bytes after (at + length bytes)
 unfolding printed
 prints-copied before at bytes after i within whole kept copied = record {
   within = within;
@@ -83,7 +100,8 @@ prints-copied before at bytes after i within whole kept copied = record {
 
 module _ (before : List ℕ) (at n : ℕ) (room : at + length (digits n) ≤ length before) where
   -- a number below 10 is printed as its digit
-  pub prints-small : {after : List ℕ} {next : ℕ} → n < 10 → Prints before at (digit n ∷ []) after next → Prints before at (digits n) after next
+  pub prints-small : {after : List ℕ} {next : ℕ} → n < 10 → Prints before at (digit n ∷ []) after next
+      → Prints before at (digits n) after next
   prints-small h p = rw (digits-small n h) p
 
   -- there is room for a small number's digit
@@ -95,5 +113,6 @@ module _ (before : List ℕ) (at n : ℕ) (room : at + length (digits n) ≤ len
   large-room h = omega (arith, ap length (digits-large n h) ∙ length-append (digits (n / 10)) (digit (n % 10) ∷ []))
 
   -- another number is printed as the digits of its tenth, then its last
-  pub prints-large : {middle after : List ℕ} {last next : ℕ} → 10 ≤ n → Prints before at (digits (n / 10)) middle last → Prints middle last (digit (n % 10) ∷ []) after next → Prints before at (digits n) after next
+  pub prints-large : {middle after : List ℕ} {last next : ℕ} → 10 ≤ n → Prints before at (digits (n / 10)) middle last
+      → Prints middle last (digit (n % 10) ∷ []) after next → Prints before at (digits n) after next
   prints-large h p q = rw (digits-large n h) (prints-join p q)

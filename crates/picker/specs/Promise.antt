@@ -29,14 +29,21 @@ Picks input before after (Written size) = Wrote input before after size
 Picks input before after NoRoom = Refused before after
 
 -- an output printed at the front is all that is promised
-pub wrote : {input before after : List ℕ} {size : ℕ} → 1048575 ≤ length before → Prints before 0 (picked input) after size → Wrote input before after size
+pub wrote : {input before after : List ℕ} {size : ℕ} → 1048575 ≤ length before
+    → Prints before 0 (picked input) after size → Wrote input before after size
 unfolding printed
 wrote {input} {before} {after} {size} room p =
     let sized : size ≡ length (picked input) = omega (arith, p .next-place) in
-    record { room = room; sized = sized; whole = p .written ∙ ap (λ (n : ℕ). picked input ++ drop n before) (sym (p .next-place)) }
+    record {
+      room = room;
+      sized = sized;
+      whole =
+          p .written ∙ ap (λ (n : ℕ). picked input ++ drop n before) (sym (p .next-place));
+    }
 
 -- two answers with two buffers that both fit the promise are the same
-pub picks-unique : (input before after after′ : List ℕ) (r r′ : Picked) → Picks input before after r → Picks input before after′ r′ → (r ≡ r′) × (after ≡ after′)
+pub picks-unique : (input before after after′ : List ℕ) (r r′ : Picked) → Picks input before after r
+    → Picks input before after′ r′ → (r ≡ r′) × (after ≡ after′)
 picks-unique input before after after′ (Written size) (Written size′) p q =
     let same : size ≡ size′ = p .sized ∙ sym (q .sized) in
     (ap Written same, p .whole ∙ ap (λ (n : ℕ). picked input ++ drop n before) same ∙ sym (q .whole))
@@ -45,7 +52,8 @@ picks-unique input before after after′ (Written size) NoRoom p q = absurd (ome
 picks-unique input before after after′ NoRoom (Written size) p q = absurd (omega (arith, q .room, p .short))
 
 -- where the output was written, it lies within the buffer
-pub written-within : (input before after : List ℕ) (r : Picked) (size : ℕ) → Picks input before after r → r ≡ Written size → size ≤ length before
+pub written-within : (input before after : List ℕ) (r : Picked) (size : ℕ) → Picks input before after r
+    → r ≡ Written size → size ≤ length before
 written-within input before after r size p e =
     let w : Wrote input before after size = subst (Picks input before after) e p in
     omega (arith, w, output-length matches input)

@@ -9,6 +9,7 @@ use lib.ListN.{length, drop}
 use lib.Dec.{ltb}
 use borrow.Author.Tests.{ltb-true, ltb-false, le-ltb}
 use Rattle.language.specs.Tree.{Tree, nodes}
+use Rattle.tree.specs.Leaf.{Leaf}
 use Rattle.tree.specs.Records.{piece-count}
 use Rattle.tree.specs.Lengths.{nodes-positive}
 use Rattle.tree.specs.Pieces.{nodes-per-piece}
@@ -30,48 +31,75 @@ pub record Told (bytes : List ℕ) (number place : ℕ) : Type 0 where
   pub small-place : place < 10000
 
 -- a tree with at most 128 pieces has at most 1,920 nodes, so 15,360 bytes hold its records
-records-fit : (t : Tree ℕ) → ltb 128 (piece-count t) ≡ false → 8 * nodes t ≤ 15360
+records-fit : (t : Tree Leaf) → ltb 128 (piece-count t) ≡ false → 8 * nodes t ≤ 15360
 records-fit t few = omega (arith, nodes-per-piece t, ltb-false 128 (piece-count t) few)
 
 -- for a tree: 8 where it has too many pieces, and never 9
-told-tree : (bytes : List ℕ) (room number place : ℕ) → 15360 ≤ room → (t : Tree ℕ) (many short : Bool) → ltb 128 (piece-count t) ≡ many → ltb room (8 * nodes t) ≡ short → few-pieces (scanned bytes) ≡ pick-outcome many (refused 8 0) (tree t) → refusing number place ≡ pick many (refusing 8 0) (pick short (refusing 9 0) (reading t)) → Told bytes number place
+told-tree : (bytes : List ℕ) (room number place : ℕ) → 15360 ≤ room → (t : Tree Leaf) (many short : Bool)
+    → ltb 128 (piece-count t) ≡ many → ltb room (8 * nodes t) ≡ short → few-pieces (scanned bytes)
+    ≡ pick-outcome many (refused 8 0) (tree t)
+    → refusing number place ≡ pick many (refusing 8 0) (pick short (refusing 9 0) (reading t)) → Told bytes number place
 told-tree bytes room number place large t true short m h outcome e =
     let eight : number ≡ 8 = ap (λ (n : Numbers). n .refusal) e in
     let front : place ≡ 0 = ap (λ (n : Numbers). n .place) e in
     record { outcome = rw (eight, front) outcome; small-number = omega arith; small-place = omega arith }
-told-tree bytes room number place large t false true m h outcome e = absurd (omega (arith, records-fit t m, ltb-true room (8 * nodes t) h))
-told-tree bytes room number place large t false false m h outcome e = absurd (omega (arith, nodes-positive t, ap (λ (n : Numbers). n .records) e))
+told-tree bytes room number place large t false true m h outcome e =
+    absurd (omega (arith, records-fit t m, ltb-true room (8 * nodes t) h))
+told-tree bytes room number place large t false false m h outcome e =
+    absurd (omega (arith, nodes-positive t, ap (λ (n : Numbers). n .records) e))
 
-told-outcome : (bytes : List ℕ) (room number place : ℕ) → 15360 ≤ room → (outcome : Outcome) → scanned bytes ≡ outcome → refusing number place ≡ answer-for outcome room → Told bytes number place
+told-outcome : (bytes : List ℕ) (room number place : ℕ) → 15360 ≤ room → (outcome : Outcome) → scanned bytes ≡ outcome
+    → refusing number place ≡ answer-for outcome room → Told bytes number place
 told-outcome bytes room number place large (refused number′ place′) scans e =
     let bounds = scanned-refusal bytes number′ place′ scans in
     let same : number ≡ number′ = ap (λ (n : Numbers). n .refusal) e in
     let there : place ≡ place′ = ap (λ (n : Numbers). n .place) e in
-    record { outcome = rw (same, there, scans); small-number = omega (arith, bounds); small-place = omega (arith, bounds) }
+    record {
+      outcome = rw (same, there, scans);
+      small-number = omega (arith, bounds);
+      small-place =
+          omega (arith, bounds);
+    }
 told-outcome bytes room number place large (tree t) scans e =
     told-tree bytes room number place large t (ltb 128 (piece-count t)) (ltb room (8 * nodes t)) refl refl (rw scans) e
 
 -- where reading answers a refusal, that is the expression's outcome
-pub told : (bytes : List ℕ) (room number place : ℕ) → 15360 ≤ room → refusing number place ≡ answers bytes room → Told bytes number place
+pub told : (bytes : List ℕ) (room number place : ℕ) → 15360 ≤ room → refusing number place ≡ answers bytes room
+    → Told bytes number place
 told bytes room number place large e = told-outcome bytes room number place large (scanned bytes) refl e
 
 -- where it answers that the records were written, the outcome is their tree
-pub read-outcome : {bytes before after : List ℕ} {records pieces : ℕ} (k : Kept bytes before after records pieces) → answered bytes ≡ tree (k .read)
+pub read-outcome : {bytes before after : List ℕ} {records pieces : ℕ} (k : Kept bytes before after records pieces)
+    → answered bytes ≡ tree (k .read)
 read-outcome k = rw (k .scans, le-ltb 128 (piece-count (k .read)) (k .good .few))
 
 module _ (input : List ℕ) (end : ℕ) (ends : Ends input 0 end) where
   -- the line of a refusal is what is reported
-  pub reports-refusal : {number place : ℕ} {before out : List ℕ} {size : ℕ} → Told (part 0 end input) number place → Prints before 0 (refusal-line number place) out size → Prints before 0 (reported matches (answered (expression (lines input))) (texts (lines input))) out size
+  pub reports-refusal : {number place : ℕ} {before out : List ℕ} {size : ℕ} → Told (part 0 end input) number place
+      → Prints before 0 (refusal-line number place) out size
+      → Prints before 0 (reported matches (answered (expression (lines input))) (texts (lines input))) out size
   reports-refusal t p = rw (first-line input end ends .is-expression, t .outcome) p
 
   -- the lines of the texts and the last line are what is reported
-  pub reports-texts : {t : Tree ℕ} {before out : List ℕ} {size : ℕ} → answered (part 0 end input) ≡ tree t → Prints before 0 (text-lines matches t 0 0 (lines (drop (after input end) input))) out size → Prints before 0 (reported matches (answered (expression (lines input))) (texts (lines input))) out size
-  reports-texts outcome p = rw (first-line input end ends .is-expression, outcome, first-line input end ends .are-texts) p
+  pub reports-texts : {t : Tree Leaf} {before out : List ℕ} {size : ℕ} → answered (part 0 end input) ≡ tree t
+      → Prints before 0 (text-lines matches t 0 0 (lines (drop (after input end) input))) out size
+      → Prints before 0 (reported matches (answered (expression (lines input))) (texts (lines input))) out size
+  reports-texts outcome p = rw (first-line input end ends .is-expression, outcome, first-line input end ends .are-texts)
+      p
 
   -- an expression that is read has a byte, and an end where a text follows: so there are at most 65,534 texts
-  pub texts-space : {before after-reading out : List ℕ} {records pieces : ℕ} → length input ≤ 65536 → 1048575 ≤ length out → Kept (part 0 end input) before after-reading records pieces → Space input (after input end) 0 0 0 out
+  pub texts-space : {before after-reading out : List ℕ} {records pieces : ℕ} → length input ≤ 65536
+      → 1048575 ≤ length out → Kept (part 0 end input) before after-reading records pieces
+      → Space input (after input end) 0 0 0 out
   texts-space short room k =
       let first = first-line input end ends in
       let long = written-size (scanned-exactly (part 0 end input) (k .read) .0 (k .scans) .1) in
-      let count : length (lines (drop (after input end) input)) ≤ length input - (length (part 0 end input) + 1) = rw (first .is-expression, first .are-texts) at (texts-count input) in
-      record { inside = omega arith; ranked = omega arith; few = omega arith; enough = omega (arith, long, nodes-positive (k .read)) }
+      let count : length (lines (drop (after input end) input)) ≤ length input - (length (part 0 end input) + 1) =
+      rw (first .is-expression, first .are-texts) at (texts-count input) in
+      record {
+        inside = omega arith;
+        ranked = omega arith;
+        few = omega arith;
+        enough =
+            omega (arith, long, nodes-positive (k .read));
+      }

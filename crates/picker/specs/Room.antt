@@ -9,35 +9,58 @@ use native.Mathlib.Omega.{arith}
 use lib.ListN.{length, length-append}
 use lib.Dec.{ltb}
 use Rattle.language.specs.Tree.{Tree}
+use Rattle.tree.specs.Leaf.{Leaf}
 use Rattle.tree.specs.Records.{piece-count}
 use Rattle.reader.specs.Scanner.{Outcome, tree, refused, pick-outcome, scanned}
 use Rattle.reader.specs.Agree.{scanned-exactly, scanned-refusal, written-size}
 use Rattle.picker.specs.Lines.{lines, expression, texts, texts-count}
 use Rattle.picker.specs.Digits.{digits-length}
-use Rattle.picker.specs.Print.{few-pieces, text-line, total-line, refusal-line, yes-after, text-lines, reported, output, output-long, output-short}
+use Rattle.picker.specs.Print.{
+  few-pieces,
+  text-line,
+  total-line,
+  refusal-line,
+  yes-after,
+  text-lines,
+  reported,
+  output,
+  output-long,
+  output-short,
+}
 
 -- a text's line has at most 16 bytes
-pub text-line-length : (test : Bool) (number rank : ℕ) → number < 100000 → rank < 100000 → length (text-line test number rank) ≤ 16
-text-line-length true number rank h k = simp length-append (omega (arith, digits-length 4 number h, digits-length 4 rank k))
+pub text-line-length : (test : Bool) (number rank : ℕ) → number < 100000 → rank < 100000
+    → length (text-line test number rank) ≤ 16
+text-line-length true number rank h k =
+    simp length-append (omega (arith, digits-length 4 number h, digits-length 4 rank k))
 text-line-length false number rank h k = simp length-append (omega (arith, digits-length 4 number h))
 
 -- the last line has at most 31
-pub total-line-length : (count yes-lines : ℕ) → count < 100000 → yes-lines ≤ count → length (total-line count yes-lines) ≤ 31
+pub total-line-length : (count yes-lines : ℕ) → count < 100000 → yes-lines ≤ count → length (total-line count yes-lines)
+    ≤ 31
 total-line-length count yes-lines h k =
-    simp length-append (omega (arith, digits-length 4 count h, digits-length 4 yes-lines (omega arith), digits-length 4 (count - yes-lines) (omega arith)))
+    simp length-append
+    (omega (
+      arith,
+      digits-length 4 count h,
+      digits-length 4 yes-lines (omega arith),
+      digits-length 4 (count - yes-lines) (omega arith),
+    ))
 
 -- a refusal has at most 18
 pub refusal-line-length : (number place : ℕ) → number < 10 → place < 10000 → length (refusal-line number place) ≤ 18
-refusal-line-length number place h k = simp length-append (omega (arith, digits-length 0 number h, digits-length 3 place k))
+refusal-line-length number place h k =
+    simp length-append (omega (arith, digits-length 0 number h, digits-length 3 place k))
 
 -- the yes lines are never more than the texts
 pub yes-after-most : (test : Bool) (count yes-lines : ℕ) → yes-lines ≤ count → yes-after test yes-lines ≤ count + 1
 yes-after-most true count yes-lines h = omega arith
 yes-after-most false count yes-lines h = omega arith
 
-module _ (matching : Tree ℕ → List ℕ → Bool) where
+module _ (matching : Tree Leaf → List ℕ → Bool) where
   -- 16 bytes at most for each text that is left, and 31 for the last line
-  pub text-lines-length : (t : Tree ℕ) (later : List (List ℕ)) (count yes-lines : ℕ) → yes-lines ≤ count → count + length later < 100000 → length (text-lines matching t count yes-lines later) ≤ 16 * length later + 31
+  pub text-lines-length : (t : Tree Leaf) (later : List (List ℕ)) (count yes-lines : ℕ) → yes-lines ≤ count
+      → count + length later < 100000 → length (text-lines matching t count yes-lines later) ≤ 16 * length later + 31
   unfolding text-lines
   text-lines-length t [] count yes-lines h k = omega (arith, total-line-length count yes-lines (omega arith) h)
   text-lines-length t (text ∷ later) count yes-lines h k =
@@ -45,11 +68,13 @@ module _ (matching : Tree ℕ → List ℕ → Bool) where
       (omega (
         arith,
         text-line-length (matching t text) (count + 1) (yes-lines + 1) (omega arith) (omega arith),
-        text-lines-length t later (count + 1) (yes-after (matching t text) yes-lines) (yes-after-most (matching t text) count yes-lines h) (omega arith),
+        text-lines-length t later (count + 1) (yes-after (matching t text) yes-lines)
+            (yes-after-most (matching t text) count yes-lines h) (omega arith),
       ))
 
   -- an expression that is read has a byte, so there are at most 65,534 texts
-  reported-length : (expr : List ℕ) (outcome : Outcome) → scanned expr ≡ outcome → (later : List (List ℕ)) → length later ≤ 65536 - (length expr + 1) → length (reported matching (few-pieces outcome) later) ≤ 1048575
+  reported-length : (expr : List ℕ) (outcome : Outcome) → scanned expr ≡ outcome → (later : List (List ℕ))
+      → length later ≤ 65536 - (length expr + 1) → length (reported matching (few-pieces outcome) later) ≤ 1048575
   reported-length expr (refused number place) e later h =
       let bounds = scanned-refusal expr number place e in
       omega (arith, refusal-line-length number place (omega (arith, bounds)) (omega (arith, bounds)))
@@ -68,5 +93,6 @@ module _ (matching : Tree ℕ → List ℕ → Bool) where
         | yes h ↦ rw (output-long matching input h) (omega arith)
         | no h ↦
             rw (output-short matching input (omega arith))
-            (reported-length (expression (lines input)) (scanned (expression (lines input))) refl (texts (lines input)) (omega (arith, texts-count input)))
+            (reported-length (expression (lines input)) (scanned (expression (lines input))) refl (texts (lines input))
+            (omega (arith, texts-count input)))
       ]

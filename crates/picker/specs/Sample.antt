@@ -24,7 +24,11 @@ Prints run = picked (run .input) ≡ run .printed
 abbrev pub runs : List Run
 runs =
     -- the sample
-    record { input = bytes "02-2(8|9)\n02-28\n02-29\n03-01\n"; printed = bytes "1 yes 1\n2 yes 2\n3 no -\ntotal 3 yes 2 no 1\n" }
+    record {
+      input = bytes "02-2(8|9)\n02-28\n02-29\n03-01\n";
+      printed =
+          bytes "1 yes 1\n2 yes 2\n3 no -\ntotal 3 yes 2 no 1\n";
+    }
     -- no input, and an empty first line
     ∷ record { input = bytes ""; printed = bytes "refused 1 at 0\n" }
     ∷ record { input = bytes "\na"; printed = bytes "refused 1 at 0\n" }

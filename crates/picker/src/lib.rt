@@ -34,7 +34,9 @@ pub enum Picked {
 fn report_lines(input: &[u8], out: &mut [u8]) -> usize
     requires short { ⌜ length (now input) ≤ 65536 ⌝ }
     requires room { ⌜ 1048575 ≤ length (now out) ⌝ }
-    ensures { λ r. ⌜ Prints (now (out .entry)) 0 (reported matches (answered (expression (lines (now (input .entry))))) (texts (lines (now (input .entry))))) (now (out .exit)) r ⌝ }
+    ensures { λ r. ⌜ Prints (now (out .entry)) 0
+        (reported matches (answered (expression (lines (now (input .entry))))) (texts (lines (now (input .entry)))))
+        (now (out .exit)) r ⌝ }
 {
     let end = line_end(input, 0);
     let mut list = [0u8; 15360];

@@ -8,6 +8,7 @@ use marks::inner::prepare;
 ghost use Prim.Native.Nat.{ℕ};
 ghost use lib.ListN.{drop};
 ghost use Rattle.language.specs.Tree.{Tree};
+ghost use Rattle.tree.specs.Leaf.{Leaf};
 ghost use Rattle.tree.specs.Records.{Good};
 ghost use Rattle.tables.specs.Given.{Good-list};
 ghost use Rattle.tables.specs.Tables.{Prepared, Ready};
@@ -31,7 +32,12 @@ pub fn texts(
 ) -> usize
     requires ready { ⌜ Ready (now reach) (now labels) (now runs) (now stands) (now tops) pieces ⌝ }
     requires space { ⌜ Space (now input) start 0 0 0 (now out) ⌝ }
-    ensures { λ r. ⌜ ((t : Tree ℕ) → Prepared t (now (reach .entry)) (now (labels .entry)) (now (runs .entry)) (now (stands .entry)) (now (tops .entry)) pieces → Prints (now (out .entry)) 0 (text-lines matches t 0 0 (lines (drop start (now (input .entry))))) (now (out .exit)) r) ⌝ }
+    ensures { λ r.
+        ⌜ ((t : Tree Leaf)
+        → Prepared t (now (reach .entry)) (now (labels .entry)) (now (runs .entry)) (now (stands .entry))
+        (now (tops .entry)) pieces
+        → Prints (now (out .entry)) 0 (text-lines matches t 0 0 (lines (drop start (now (input .entry)))))
+        (now (out .exit)) r) ⌝ }
 {
     let mut place = start;
     let mut at = 0;
@@ -62,7 +68,9 @@ pub fn texts(
 pub fn list_texts(list: &[u8], input: &[u8], start: usize, out: &mut [u8]) -> usize
     requires list { ⌜ Good-list (now list) ⌝ }
     requires space { ⌜ Space (now input) start 0 0 0 (now out) ⌝ }
-    ensures { λ r. ⌜ ((t : Tree ℕ) → Good (now (list .entry)) t → Prints (now (out .entry)) 0 (text-lines matches t 0 0 (lines (drop start (now (input .entry))))) (now (out .exit)) r) ⌝ }
+    ensures { λ r. ⌜ ((t : Tree Leaf) → Good (now (list .entry)) t
+        → Prints (now (out .entry)) 0 (text-lines matches t 0 0 (lines (drop start (now (input .entry)))))
+        (now (out .exit)) r) ⌝ }
 {
     let mut reach = [0u64; 8192];
     let mut labels = [0u16; 8192];

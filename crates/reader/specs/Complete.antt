@@ -1,4 +1,5 @@
--- What the grammar reads, the scanner reads: whatever stands around it, the scan passes over a written tree and goes on after it.
+-- What the grammar reads, the scanner reads: whatever stands around it, the scan passes over a written tree and goes on
+-- after it.
 -- Assumes nothing.
 use Prim.Native.Nat.{ℕ, _+_, _<_}
 use mathlib.Core.Path.{_≡_, refl, ap, _∙_}
@@ -8,36 +9,73 @@ use lib.ListN.{length}
 use native.Mathlib.Omega.{arith}
 use borrow.Author.Tests.{lt-ltb}
 use Rattle.language.specs.Tree.{Tree, catenation, union, star}
-use Rattle.reader.specs.Scanner.{tree, due, after, Before, Group, nothing, catenated, finished, next-factor as with-factor, scan}
-use Rattle.reader.specs.Grammar.{Level, single, starred, joined, united, Reads, Written, itself, escaped, group, no-star, one-star, one-factor, next-factor, one-branch, next-branch}
+use Rattle.tree.specs.Leaf.{Leaf}
+use Rattle.reader.specs.Scanner.{
+  tree,
+  due,
+  after,
+  Before,
+  Group,
+  nothing,
+  catenated,
+  finished,
+  next-factor as with-factor,
+  scan,
+}
+use Rattle.reader.specs.Grammar.{
+  Level,
+  single,
+  starred,
+  joined,
+  united,
+  Reads,
+  Written,
+  itself,
+  escaped,
+  group,
+  no-star,
+  one-star,
+  one-factor,
+  next-factor,
+  one-branch,
+  next-branch,
+}
 
--- with an operand due, the scan of the bytes at a place goes on with the rest, after this last tree, at the place that many bytes further
-pub record Goes-on (bytes rest : List ℕ) (place : ℕ) (from : Before) (groups : List Group) (last : Tree ℕ) (before : Before) : Type 0 where
+-- with an operand due, the scan of the bytes at a place goes on with the rest, after this last tree, at the place that
+-- many bytes further
+pub record Goes-on (bytes rest : List ℕ) (place : ℕ) (from : Before) (groups : List Group) (last : Tree Leaf)
+    (before : Before) : Type 0 where
   pub next : ℕ
   pub counted : next + length rest ≡ place + length bytes
   pub same : scan bytes place due from groups ≡ scan rest next (after last) before groups
 
--- how the scan passes over a written t: an operand leaves what was read before it as it is; a catenation is collected beside the union before it; a union is collected from nothing
-abbrev pub Passes : Level → ℕ → List ℕ → List ℕ → Tree ℕ → Type 0
-Passes single depth bytes rest t = (place : ℕ) (before : Before) (groups : List Group) → length groups ≡ depth → Goes-on bytes rest place before groups t before
-Passes starred depth bytes rest t = (place : ℕ) (before : Before) (groups : List Group) → length groups ≡ depth → Goes-on bytes rest place before groups t before
+-- how the scan passes over a written t: an operand leaves what was read before it as it is; a catenation is collected
+-- beside the union before it; a union is collected from nothing
+abbrev pub Passes : Level → ℕ → List ℕ → List ℕ → Tree Leaf → Type 0
+Passes single depth bytes rest t = (place : ℕ) (before : Before) (groups : List Group) → length groups ≡ depth
+    → Goes-on bytes rest place before groups t before
+Passes starred depth bytes rest t = (place : ℕ) (before : Before) (groups : List Group) → length groups ≡ depth
+    → Goes-on bytes rest place before groups t before
 Passes joined depth bytes rest t =
-    (place : ℕ) (unions : Option (Tree ℕ)) (groups : List Group)
+    (place : ℕ) (unions : Option (Tree Leaf)) (groups : List Group)
     → length groups ≡ depth
-    → (factors : Option (Tree ℕ))
-    × (last : Tree ℕ)
+    → (factors : Option (Tree Leaf))
+    × (last : Tree Leaf)
     × (catenated factors last ≡ t)
-    × Goes-on bytes rest place (record { unions = unions; factors = none }) groups last (record { unions = unions; factors = factors })
+    × Goes-on bytes rest place (record { unions = unions; factors = none }) groups last
+    (record { unions = unions; factors = factors })
 Passes united depth bytes rest t =
     (place : ℕ) (groups : List Group)
     → length groups ≡ depth
     → (before : Before)
-    × (last : Tree ℕ)
+    × (last : Tree Leaf)
     × (finished before last ≡ t)
     × Goes-on bytes rest place nothing groups last before
 
 -- what begins a written tree is an operand: after another tree it is the next factor
-begins : {depth : ℕ} {level : Level} {bytes rest : List ℕ} {t : Tree ℕ} → Reads depth level bytes rest t → (place : ℕ) (s : Tree ℕ) (before : Before) (groups : List Group) → scan bytes place (after s) before groups ≡ scan bytes place due (with-factor before s) groups
+begins : {depth : ℕ} {level : Level} {bytes rest : List ℕ} {t : Tree Leaf} → Reads depth level bytes rest t
+    → (place : ℕ) (s : Tree Leaf) (before : Before) (groups : List Group) → scan bytes place (after s) before groups
+    ≡ scan bytes place due (with-factor before s) groups
 unfolding scan
 begins (itself p) = λ place s before groups. rw p
 begins (escaped p) = λ place s before groups. refl
@@ -50,62 +88,84 @@ begins (one-branch r) = begins r
 begins (next-branch r q) = begins r
 
 -- a group passes over its `(`, what it holds, and its `)`
-grouped : {depth : ℕ} {bytes rest : List ℕ} {t : Tree ℕ} → depth < 32 → Passes united (depth + 1) bytes (41 ∷ rest) t → Passes single depth (40 ∷ bytes) rest t
+grouped : {depth : ℕ} {bytes rest : List ℕ} {t : Tree Leaf} → depth < 32 → Passes united (depth + 1) bytes (41 ∷ rest) t
+    → Passes single depth (40 ∷ bytes) rest t
 unfolding scan
 grouped {depth = depth} {rest = rest} h inside place before groups e =
-    let (within, last, made, on) = inside (place + 1) (record { place = place; outside = before } ∷ groups) (omega arith) in
+    let (within, last, made, on) = inside (place + 1) (record { place = place; outside = before } ∷ groups)
+    (omega arith) in
     record {
       next = on .next + 1;
       counted = omega (arith, on .counted);
-      same = rw (lt-ltb (length groups) 32 (omega arith)) (on .same ∙ ap (λ (x : Tree ℕ). scan rest (on .next + 1) (after x) before groups) made);
+      same = rw (lt-ltb (length groups) 32 (omega arith))
+          (on .same ∙ ap (λ (x : Tree Leaf). scan rest (on .next + 1) (after x) before groups) made);
     }
 
 -- a star, one byte further
-stars : {depth : ℕ} {bytes rest : List ℕ} {t : Tree ℕ} → Passes starred depth bytes (42 ∷ rest) t → Passes starred depth bytes rest (star t)
+stars : {depth : ℕ} {bytes rest : List ℕ} {t : Tree Leaf} → Passes starred depth bytes (42 ∷ rest) t
+    → Passes starred depth bytes rest (star t)
 unfolding scan
 stars operand place before groups e =
     let on = operand place before groups e in
     record { next = on .next + 1; counted = omega (arith, on .counted); same = on .same }
 
 -- the next factor joins the catenation collected so far
-factors : {depth : ℕ} {bytes between rest : List ℕ} {s t : Tree ℕ} → Passes joined depth bytes between s → Reads depth starred between rest t → Passes starred depth between rest t → Passes joined depth bytes rest (catenation s t)
+factors : {depth : ℕ} {bytes between rest : List ℕ} {s t : Tree Leaf} → Passes joined depth bytes between s
+    → Reads depth starred between rest t → Passes starred depth between rest t
+    → Passes joined depth bytes rest (catenation s t)
 factors {between = between} {s = s} {t = t} first r second place unions groups e =
     let (collected, last, made, on) = first place unions groups e in
     let off = second (on .next) (record { unions = unions; factors = some s }) groups e in
-    let joins = ap (λ (x : Tree ℕ). scan between (on .next) due (record { unions = unions; factors = some x }) groups) made in (
+    let joins = ap (λ (x : Tree Leaf). scan between (on .next) due (record { unions = unions; factors = some x })
+    groups) made in (
       some s,
       t,
       refl,
-      record { next = off .next; counted = omega (arith, on .counted, off .counted); same = on .same ∙ begins r _ _ _ _ ∙ joins ∙ off .same },
+      record {
+        next = off .next;
+        counted = omega (arith, on .counted, off .counted);
+        same = on .same ∙ begins r _ _ _ _
+            ∙ joins ∙ off .same;
+      },
     )
 
 -- the next branch joins the union collected so far
-branches : {depth : ℕ} {bytes between rest : List ℕ} {s t : Tree ℕ} → Passes united depth bytes (124 ∷ between) s → Passes joined depth between rest t → Passes united depth bytes rest (union s t)
+branches : {depth : ℕ} {bytes between rest : List ℕ} {s t : Tree Leaf} → Passes united depth bytes (124 ∷ between) s
+    → Passes joined depth between rest t → Passes united depth bytes rest (union s t)
 unfolding scan
 branches {between = between} {s = s} first second place groups e =
     let (collected, last, made, on) = first place groups e in
     let (few, end, made-few, off) = second (on .next + 1) (some s) groups e in
-    let joins = ap (λ (x : Tree ℕ). scan between (on .next + 1) due (record { unions = some x; factors = none }) groups) made in (
+    let joins = ap (λ (x : Tree Leaf). scan between (on .next + 1) due (record { unions = some x; factors = none })
+    groups) made in (
       record { unions = some s; factors = few },
       end,
       ap (union s) made-few,
-      record { next = off .next; counted = omega (arith, on .counted, off .counted); same = on .same ∙ joins ∙ off .same },
+      record {
+        next = off .next;
+        counted = omega (arith, on .counted, off .counted);
+        same = on .same ∙ joins
+            ∙ off .same;
+      },
     )
 
 -- by induction on the reading
-pub passes : {depth : ℕ} {level : Level} {bytes rest : List ℕ} {t : Tree ℕ} → Reads depth level bytes rest t → Passes level depth bytes rest t
+pub passes : {depth : ℕ} {level : Level} {bytes rest : List ℕ} {t : Tree Leaf} → Reads depth level bytes rest t
+    → Passes level depth bytes rest t
 unfolding scan
 passes (itself {b = b} p) = λ place before groups e. record { next = place + 1; counted = omega arith; same = rw p }
 passes (escaped p) = λ place before groups e. record { next = place + 1 + 1; counted = omega arith; same = rw p }
 passes (group h r) = grouped h (passes r)
 passes (no-star r) = passes r
 passes (one-star r) = stars (passes r)
-passes (one-factor {t = t} r) = λ place unions groups e. (none, t, refl, passes r place (record { unions = unions; factors = none }) groups e)
+passes (one-factor {t = t} r) =
+    λ place unions groups e. (none, t, refl, passes r place (record { unions = unions; factors = none }) groups e)
 passes (next-factor r q) = factors (passes r) q (passes q)
-passes (one-branch r) = λ place groups e. let (collected, last, made, on) = passes r place none groups e in (record { unions = none; factors = collected }, last, made, on)
+passes (one-branch r) = λ place groups e. let (collected, last, made, on) =
+    passes r place none groups e in (record { unions = none; factors = collected }, last, made, on)
 passes (next-branch r q) = branches (passes r) (passes q)
 
 -- what is written, the scanner gives
-pub scanner-gives : {bytes : List ℕ} {t : Tree ℕ} → Written bytes t → scan bytes 0 due nothing [] ≡ tree t
+pub scanner-gives : {bytes : List ℕ} {t : Tree Leaf} → Written bytes t → scan bytes 0 due nothing [] ≡ tree t
 unfolding scan
 scanner-gives w = let (before, last, made, on) = passes w 0 [] refl in on .same ∙ ap tree made

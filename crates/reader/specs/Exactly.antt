@@ -1,4 +1,5 @@
--- When an expression is read: exactly when it is written by the grammar, has at most 1,024 bytes, can be cut into few enough small
+-- When an expression is read: exactly when it is written by the grammar, has at most 1,024 bytes, can be cut into few
+-- enough small
 -- pieces, and the buffer has room for its records.
 -- Assumes nothing.
 use Prim.Native.Nat.{ℕ, _*_, _≤_}
@@ -12,6 +13,7 @@ use lib.ListN.{length}
 use lib.Dec.{ltb}
 use borrow.Author.Tests.{ltb-false, le-ltb}
 use Rattle.language.specs.Tree.{Tree, nodes}
+use Rattle.tree.specs.Leaf.{Leaf}
 use Rattle.tree.specs.Cut.{Cut, Fits, pieces, wanted}
 use Rattle.tree.specs.Records.{piece-count}
 use Rattle.tree.specs.Least.{wanted-fits, least}
@@ -21,30 +23,33 @@ use Rattle.reader.specs.Agree.{scanned-exactly, scanned-refusal, written
 use Rattle.reader.specs.Answer.{refusing, reading, pick, answer-for, answered}
 
 -- some cut of t with pieces of at most 15 nodes has at most 128 of them
-abbrev pub Small-enough : Tree ℕ → Type 0
+abbrev pub Small-enough : Tree Leaf → Type 0
 Small-enough t = (c : Cut t) × Fits t c × (pieces t c ≤ 128)
 
 -- then the wanted cut has at most 128, since it has the fewest; and the other way round
-pub small-enough-exactly : (t : Tree ℕ) → (piece-count t ≤ 128) ↔ Small-enough t
+pub small-enough-exactly : (t : Tree Leaf) → (piece-count t ≤ 128) ↔ Small-enough t
 small-enough-exactly t = (λ few. (wanted t, wanted-fits t, few), λ (c, fits, few). omega (arith, least t c fits))
 
 -- the expression has the tree t, which is small enough, and there is room for its records
 pub record Fit-to-read (bytes : List ℕ) (room : ℕ) : Type 0 where
   pub few : length bytes ≤ 1024
-  pub t : Tree ℕ
+  pub t : Tree Leaf
   pub written : Written bytes t
   pub small : Small-enough t
   pub fits : 8 * nodes t ≤ room
 
 -- of the answers to a tree, only the one past both tests is no refusal
-past-both : (t : Tree ℕ) (many short : Bool) → pick many (refusing 8 0) (pick short (refusing 9 0) (reading t)) .refusal ≡ 0 → (many ≡ false) × (short ≡ false)
+past-both : (t : Tree Leaf) (many short : Bool)
+    → pick many (refusing 8 0) (pick short (refusing 9 0) (reading t)) .refusal ≡ 0 → (many ≡ false) × (short ≡ false)
 past-both t true short e = absurd (omega arith)
 past-both t false true e = absurd (omega arith)
 past-both t false false e = (refl, refl)
 
 -- no refusal, seen from the outcome
-taken-outcome : (bytes : List ℕ) (room : ℕ) (outcome : Outcome) → scanned bytes ≡ outcome → answer-for outcome room .refusal ≡ 0 → Fit-to-read bytes room
-taken-outcome bytes room (refused number place) scans e = absurd (omega (arith, scanned-refusal bytes number place scans .least))
+taken-outcome : (bytes : List ℕ) (room : ℕ) (outcome : Outcome) → scanned bytes ≡ outcome
+    → answer-for outcome room .refusal ≡ 0 → Fit-to-read bytes room
+taken-outcome bytes room (refused number place) scans e =
+    absurd (omega (arith, scanned-refusal bytes number place scans .least))
 taken-outcome bytes room (tree t) scans e =
     let tests = past-both t (ltb 128 (piece-count t)) (ltb room (8 * nodes t)) e in
     let (few, written) = scanned-exactly bytes t .0 scans in
@@ -69,21 +74,28 @@ fit-taken bytes room fit =
 pub fit-exactly : (bytes : List ℕ) (room : ℕ) → (answered bytes room .refusal ≡ 0) ↔ Fit-to-read bytes room
 fit-exactly bytes room = (taken-outcome bytes room (scanned bytes) refl, fit-taken bytes room)
 
--- the expression has at most 1,024 bytes, is written by the grammar, and its tree can be cut into few enough small pieces
+-- the expression has at most 1,024 bytes, is written by the grammar, and its tree can be cut into few enough small
+-- pieces
 abbrev pub Expressible : List ℕ → Type 0
-Expressible bytes = (length bytes ≤ 1024) × ((t : Tree ℕ) × Written bytes t × Small-enough t)
+Expressible bytes = (length bytes ≤ 1024) × ((t : Tree Leaf) × Written bytes t × Small-enough t)
 
 module _ (bytes : List ℕ) (room : ℕ) (enough : 8 * 2047 ≤ room) where
   -- with room for 2,047 records it is read exactly then: it has no more
   pub expression-read-exactly : (answered bytes room .refusal ≡ 0) ↔ Expressible bytes
   expression-read-exactly = (
     λ e. let fit = fit-exactly bytes room .0 e in (fit .few, (fit .t, fit .written, fit .small)),
-    λ (few, (t, written, small)). fit-exactly bytes room .1 (record { few = few; t = t; written = written; small = small; fits = omega (arith, written-size written) }),
+    λ (few, (t, written, small)).
+        fit-exactly bytes room .1
+        (record { few = few; t = t; written = written; small = small; fits = omega (arith, written-size written) }),
   )
 
   -- and is refused exactly when not
   pub expression-refused-exactly : (1 ≤ answered bytes room .refusal) ↔ (Expressible bytes → ⊥)
   expression-refused-exactly = (
     λ h fit. omega (arith, expression-read-exactly .1 fit),
-    λ never. elim (decLt 0 (answered bytes room .refusal)) [ yes h ↦ omega arith | no h ↦ absurd (never (expression-read-exactly .0 (omega arith))) ],
+    λ never. elim (decLt 0 (answered bytes room .refusal)) [
+      | yes h ↦ omega arith
+      | no h
+          ↦ absurd (never (expression-read-exactly .0 (omega arith)))
+    ],
   )

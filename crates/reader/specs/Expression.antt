@@ -8,6 +8,7 @@ use mathlib.Core.List.{List, [], _∷_}
 use lib.ListN.{length, take}
 use borrow.Author.Tests.{lt-ltb, le-ltb}
 use Rattle.language.specs.Tree.{Tree}
+use Rattle.tree.specs.Leaf.{Leaf}
 use Rattle.tree.specs.Records.{labels}
 use Rattle.reader.specs.Scanner.{tree, refused, due, nothing, pick-outcome, scan, scanned}
 use Rattle.reader.specs.Grammar.{united}
@@ -19,7 +20,7 @@ use Rattle.reader.specs.declared.part.Part.the-variants.{Read, Refused}
 
 -- the expression has a tree, and the first `total` labels are the tree's
 pub record Accepted (bytes later : List ℕ) (total : ℕ) : Type 0 where
-  pub read : Tree ℕ
+  pub read : Tree Leaf
   pub scans : scanned bytes ≡ tree read
   pub written : take total later ≡ labels read
   pub bounded : total ≤ 2047
@@ -43,13 +44,18 @@ empty (b ∷ bytes) e = absurd (omega arith)
 pub too-long : (bytes : List ℕ) → 1024 < length bytes → Rejected bytes 2 1024
 unfolding scanned
 too-long [] h = absurd (omega arith)
-too-long (b ∷ bytes) h = record { scans = ap (λ (t : Bool). pick-outcome t (refused 2 1024) (scan (b ∷ bytes) 0 due nothing [])) (lt-ltb 1024 (length (b ∷ bytes)) h) }
+too-long (b ∷ bytes) h =
+    record {
+      scans = ap (λ (t : Bool). pick-outcome t (refused 2 1024) (scan (b ∷ bytes) 0 due nothing []))
+          (lt-ltb 1024 (length (b ∷ bytes)) h);
+    }
 
 -- else the scan decides
 sized : (bytes : List ℕ) → (length bytes ≡ 0 → ⊥) → length bytes ≤ 1024 → scanned bytes ≡ from bytes 0 due nothing []
 unfolding scanned from
 sized [] some h = absurd (some refl)
-sized (b ∷ bytes) some h = ap (λ (t : Bool). pick-outcome t (refused 2 1024) (scan (b ∷ bytes) 0 due nothing [])) (le-ltb 1024 (length (b ∷ bytes)) h)
+sized (b ∷ bytes) some h = ap (λ (t : Bool). pick-outcome t (refused 2 1024) (scan (b ∷ bytes) 0 due nothing []))
+    (le-ltb 1024 (length (b ∷ bytes)) h)
 
 module _ (bytes : List ℕ) (some : length bytes ≡ 0 → ⊥) (few : length bytes ≤ 1024) where
   -- the union that the expression is was refused
@@ -59,8 +65,17 @@ module _ (bytes : List ℕ) (some : length bytes ≡ 0 → ⊥) (few : length by
   module _ {next total : ℕ} {earlier later : List ℕ} (w : Whole united bytes 0 0 0 earlier next total later) where
     -- a `)` with no group open
     pub unopened : next < length bytes → Rejected bytes 5 next
-    unopened h = record { scans = sized bytes some few ∙ closes-none bytes next (w .went .leads) h (closes-united bytes next (w .stops) h) }
+    unopened h =
+        record {
+          scans = sized bytes some few
+              ∙ closes-none bytes next (w .went .leads) h (closes-united bytes next (w .stops) h);
+        }
 
     -- the end
     pub accepted : next ≡ length bytes → Accepted bytes later total
-    accepted e = record { read = w .went .read; scans = sized bytes some few ∙ accepts bytes next (w .went .leads) e; written = w .went .written; bounded = omega arith }
+    accepted e = record {
+      read = w .went .read;
+      scans = sized bytes some few ∙ accepts bytes next (w .went .leads) e;
+      written = w .went .written;
+      bounded = omega arith;
+    }

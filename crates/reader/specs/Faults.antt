@@ -8,8 +8,31 @@ use native.Mathlib.Omega.{arith}
 use lib.ListN.{length}
 use lib.Dec.{ltb}
 use Rattle.language.specs.Tree.{Tree, leaf, star}
+use Rattle.tree.specs.Leaf.{Leaf}
 use Rattle.reader.specs.Bytes.{Sign, opening, closing, bar, asterisk, backslash, plain, sign-of, special}
-use Rattle.reader.specs.Scanner.{Outcome, tree, refused, Phase, due, escaping, after, Before, Group, nothing, finished, next-union, next-factor, Onward, pick-outcome, operand, closed, follow, byte-at, end-at, scan}
+use Rattle.reader.specs.Scanner.{
+  Outcome,
+  tree,
+  refused,
+  Phase,
+  due,
+  escaping,
+  after,
+  Before,
+  Group,
+  nothing,
+  finished,
+  next-union,
+  next-factor,
+  Onward,
+  pick-outcome,
+  operand,
+  closed,
+  follow,
+  byte-at,
+  end-at,
+  scan,
+}
 
 -- a refusal of the scanner: its number is one of 3 to 7, its place is at most the end
 pub record Fault (end number place : ℕ) : Type 0 where
@@ -34,16 +57,19 @@ Opened end [] = Unit {0}
 Opened end (g ∷ groups) = (g .place ≤ end) × Opened end groups
 
 -- one byte before the end, where whatever follows it fits
-module _ (end place : ℕ) (h : place ≤ end) (on : Onward) (fits : (phase : Phase) (before : Before) (groups : List Group) → Marked end phase → Opened end groups → Fits end (on phase before groups)) where
+module _ (end place : ℕ) (h : place ≤ end) (on : Onward) (fits : (phase : Phase) (before : Before) (groups : List Group)
+    → Marked end phase → Opened end groups → Fits end (on phase before groups)) where
   -- whichever of two outcomes a test picks
   picked-fits : (test : Bool) (a b : Outcome) → Fits end a → Fits end b → Fits end (pick-outcome test a b)
   picked-fits true a b p q = p
   picked-fits false a b p q = q
 
   -- where an operand is due
-  operand-fits : (s : Sign) (b : ℕ) (before : Before) (groups : List Group) → Opened end groups → Fits end (operand s b place on before groups)
+  operand-fits : (s : Sign) (b : ℕ) (before : Before) (groups : List Group) → Opened end groups
+      → Fits end (operand s b place on before groups)
   operand-fits opening b before groups o =
-      picked-fits (ltb (length groups) 32) _ (refused 6 place) (fits due nothing (record { place = place; outside = before } ∷ groups) tt (h, o)) (omega arith)
+      picked-fits (ltb (length groups) 32) _ (refused 6 place)
+      (fits due nothing (record { place = place; outside = before } ∷ groups) tt (h, o)) (omega arith)
   operand-fits closing b before groups o = omega arith
   operand-fits bar b before groups o = omega arith
   operand-fits asterisk b before groups o = omega arith
@@ -51,12 +77,14 @@ module _ (end place : ℕ) (h : place ≤ end) (on : Onward) (fits : (phase : Ph
   operand-fits plain b before groups o = fits (after (leaf b)) before groups tt o
 
   -- at a `)` after an operand
-  closed-fits : (t : Tree ℕ) (before : Before) (groups : List Group) → Opened end groups → Fits end (closed t place on before groups)
+  closed-fits : (t : Tree Leaf) (before : Before) (groups : List Group) → Opened end groups
+      → Fits end (closed t place on before groups)
   closed-fits t before [] o = omega arith
   closed-fits t before (g ∷ groups) o = fits (after (finished before t)) (g .outside) groups tt (o .1)
 
   -- after an operand
-  follow-fits : (s : Sign) (b : ℕ) (t : Tree ℕ) (before : Before) (groups : List Group) → Opened end groups → Fits end (follow s b t place on before groups)
+  follow-fits : (s : Sign) (b : ℕ) (t : Tree Leaf) (before : Before) (groups : List Group) → Opened end groups
+      → Fits end (follow s b t place on before groups)
   follow-fits asterisk b t before groups o = fits (after (star t)) before groups tt o
   follow-fits bar b t before groups o = fits due (next-union before t) groups tt o
   follow-fits closing b t before groups o = closed-fits t before groups o
@@ -65,25 +93,32 @@ module _ (end place : ℕ) (h : place ≤ end) (on : Onward) (fits : (phase : Ph
   follow-fits plain b t before groups o = operand-fits plain b (next-factor before t) groups o
 
   -- in each phase
-  byte-fits : (b : ℕ) (phase : Phase) (before : Before) (groups : List Group) → Marked end phase → Opened end groups → Fits end (byte-at b place phase on before groups)
+  byte-fits : (b : ℕ) (phase : Phase) (before : Before) (groups : List Group) → Marked end phase → Opened end groups
+      → Fits end (byte-at b place phase on before groups)
   byte-fits b due before groups m o = operand-fits (sign-of b) b before groups o
   byte-fits b (escaping begin) before groups m o =
       picked-fits (special (sign-of b)) _ (refused 7 begin) (fits (after (leaf b)) before groups tt o) (omega arith)
   byte-fits b (after t) before groups m o = follow-fits (sign-of b) b t before groups o
 
 -- at the end in each phase
-end-fits : (end place : ℕ) → place ≤ end → (phase : Phase) (before : Before) (groups : List Group) → Marked end phase → Opened end groups → Fits end (end-at place phase before groups)
+end-fits : (end place : ℕ) → place ≤ end → (phase : Phase) (before : Before) (groups : List Group) → Marked end phase
+    → Opened end groups → Fits end (end-at place phase before groups)
 end-fits end place h due before groups m o = omega arith
 end-fits end place h (escaping begin) before groups m o = omega arith
 end-fits end place h (after t) before [] m o = tt
 end-fits end place h (after t) before (g ∷ groups) m o = omega arith
 
 -- by induction on the bytes that are left
-scan-fits : (end : ℕ) (bytes : List ℕ) (place : ℕ) → place + length bytes ≤ end → (phase : Phase) (before : Before) (groups : List Group) → Marked end phase → Opened end groups → Fits end (scan bytes place phase before groups)
+scan-fits : (end : ℕ) (bytes : List ℕ) (place : ℕ) → place + length bytes ≤ end
+    → (phase : Phase) (before : Before) (groups : List Group) → Marked end phase → Opened end groups
+    → Fits end (scan bytes place phase before groups)
 unfolding scan
 scan-fits end [] place h = end-fits end place (omega arith)
-scan-fits end (b ∷ rest) place h = byte-fits end place (omega arith) (scan rest (place + 1)) (scan-fits end rest (place + 1) (omega arith)) b
+scan-fits end (b ∷ rest) place h =
+    byte-fits end place (omega arith) (scan rest (place + 1)) (scan-fits end rest (place + 1) (omega arith)) b
 
 -- the scan of a whole expression refuses with a number of 3 to 7, at a place up to its length
-pub refused-cases : (bytes : List ℕ) (number place : ℕ) → scan bytes 0 due nothing [] ≡ refused number place → Fault (length bytes) number place
-refused-cases bytes number place e = subst (Fits (length bytes)) e (scan-fits (length bytes) bytes 0 (omega arith) due nothing [] tt tt)
+pub refused-cases : (bytes : List ℕ) (number place : ℕ) → scan bytes 0 due nothing [] ≡ refused number place
+    → Fault (length bytes) number place
+refused-cases bytes number place e =
+    subst (Fits (length bytes)) e (scan-fits (length bytes) bytes 0 (omega arith) due nothing [] tt tt)

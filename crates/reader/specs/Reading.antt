@@ -1,4 +1,5 @@
--- What the readers of an operand, a catenation and a union promise: the tree read, in all surroundings, with its labels written; or the refusal.
+-- What the readers of an operand, a catenation and a union promise: the tree read, in all surroundings, with its labels
+-- written; or the refusal.
 -- Assumes nothing.
 use Prim.Native.Nat.{ℕ, _+_, _*_, _<_, _≤_}
 use native.Mathlib.Omega.{arith}
@@ -9,11 +10,21 @@ use mathlib.Core.List.{List, [], _∷_, _++_, append-assoc}
 use lib.ListN.{length, take, getD, set}
 use lib.Seq.{take-suc-set}
 use Rattle.language.specs.Tree.{Tree, leaf, catenation, union, star}
+use Rattle.tree.specs.Leaf.{Leaf}
 use Rattle.tree.specs.Records.{labels, label-of}
 use Rattle.reader.specs.Bytes.{sign-of}
 use Rattle.reader.specs.Grammar.{Level, starred, joined, united}
 use Rattle.reader.specs.Stopping.{Stops, beginning, closes-united}
-use Rattle.reader.specs.Surroundings.{Leads, Fails, leads-star, leads-group, leads-joined, leads-united, leads-factor, leads-branch}
+use Rattle.reader.specs.Surroundings.{
+  Leads,
+  Fails,
+  leads-star,
+  leads-group,
+  leads-joined,
+  leads-united,
+  leads-factor,
+  leads-branch,
+}
 use Rattle.reader.specs.declared.part.Part.{Part}
 use Rattle.reader.specs.declared.part.Part.the-variants.{Read, Refused}
 
@@ -24,8 +35,9 @@ pub record Room (bytes : List ℕ) (at depth count : ℕ) (scratch : List ℕ) :
   pub enough : count + 2 * length bytes ≤ length scratch + 1 + 2 * at
 
 -- a tree was read from `at` up to `next`, and its labels stand after the `count` earlier ones
-pub record Went (level : Level) (bytes : List ℕ) (depth at count : ℕ) (earlier : List ℕ) (next total : ℕ) (later : List ℕ) : Type 0 where
-  pub read : Tree ℕ
+pub record Went (level : Level) (bytes : List ℕ) (depth at count : ℕ) (earlier : List ℕ) (next total : ℕ)
+    (later : List ℕ) : Type 0 where
+  pub read : Tree Leaf
   pub leads : Leads level bytes depth at read next
   pub written : take total later ≡ take count earlier ++ labels read
   pub further : at < next
@@ -33,13 +45,15 @@ pub record Went (level : Level) (bytes : List ℕ) (depth at count : ℕ) (earli
   pub bounded : total + 1 + 2 * at ≤ count + 2 * next
 
 -- the same, and nothing more of this level follows
-pub record Whole (level : Level) (bytes : List ℕ) (depth at count : ℕ) (earlier : List ℕ) (next total : ℕ) (later : List ℕ) : Type 0 where
+pub record Whole (level : Level) (bytes : List ℕ) (depth at count : ℕ) (earlier : List ℕ) (next total : ℕ)
+    (later : List ℕ) : Type 0 where
   pub went : Went level bytes depth at count earlier next total later
   pub stops : Stops level bytes next
 
 -- what a reader of this level answers
 abbrev pub Reading : Level → List ℕ → (at depth count : ℕ) → (earlier later : List ℕ) → Part → Type 0
-Reading level bytes at depth count earlier later (Read next total) = Whole level bytes depth at count earlier next total later
+Reading level bytes at depth count earlier later (Read next total) =
+    Whole level bytes depth at count earlier next total later
 Reading level bytes at depth count earlier later (Refused number place) = Fails level bytes depth at number place
 
 -- one character was read, whatever is open
@@ -56,13 +70,16 @@ Single bytes at count earlier later (Read next total) = Character bytes at count
 Single bytes at count earlier later (Refused number place) = Faulty bytes at number place
 
 -- what was read up to `place` can be read on up to `next`
-pub record Carries (level : Level) (bytes : List ℕ) (depth place count : ℕ) (earlier : List ℕ) (next total : ℕ) (later : List ℕ) : Type 0 where
-  pub on : (at first : ℕ) (start : List ℕ) → Went level bytes depth at first start place count earlier → Went level bytes depth at first start next total later
+pub record Carries (level : Level) (bytes : List ℕ) (depth place count : ℕ) (earlier : List ℕ) (next total : ℕ)
+    (later : List ℕ) : Type 0 where
+  pub on : (at first : ℕ) (start : List ℕ) → Went level bytes depth at first start place count earlier
+      → Went level bytes depth at first start next total later
 
 -- what was read up to `place` is read on over all the stars there
-pub record Starred (bytes : List ℕ) (place count : ℕ) (earlier : List ℕ) (next total : ℕ) (later : List ℕ) : Type 0 where
-  pub carries : (depth : ℕ) → Carries starred bytes depth place count earlier next total later
-  pub stops : Stops starred bytes next
+pub record Starred (bytes : List ℕ) (place count : ℕ) (earlier : List ℕ) (next total : ℕ) (later : List ℕ) : Type 0
+  where
+    pub carries : (depth : ℕ) → Carries starred bytes depth place count earlier next total later
+    pub stops : Stops starred bytes next
 
 -- what the reader of stars answers: it refuses nothing
 abbrev pub Stars : List ℕ → (place count : ℕ) → (earlier later : List ℕ) → Part → Type 0
@@ -70,15 +87,20 @@ Stars bytes place count earlier later (Read next total) = Starred bytes place co
 Stars bytes place count earlier later (Refused number place·) = ⊥
 
 -- one more label
-one-more : (later front : List ℕ) (n v : ℕ) → take n later ≡ front → n < length later → take (n + 1) (set later n v) ≡ front ++ (v ∷ [])
+one-more : (later front : List ℕ) (n v : ℕ) → take n later ≡ front → n < length later → take (n + 1) (set later n v)
+    ≡ front ++ (v ∷ [])
 one-more later front n v e h = rw (add-one, take-suc-set later n v h, e)
 
 -- two trees read one after the other, and the label of the node over them
-both : (later middle front s t : List ℕ) (n v : ℕ) → middle ≡ front ++ s → take n later ≡ middle ++ t → n < length later → take (n + 1) (set later n v) ≡ front ++ (s ++ t ++ (v ∷ []))
+both : (later middle front s t : List ℕ) (n v : ℕ) → middle ≡ front ++ s → take n later ≡ middle ++ t → n < length later
+    → take (n + 1) (set later n v) ≡ front ++ (s ++ t ++ (v ∷ []))
 both later middle front s t n v e f h = one-more later _ n v f h ∙ simp (e, append-assoc)
 
 -- a character was read, and its label is the last one
-pub character-read : {bytes : List ℕ} {at count : ℕ} (earlier : List ℕ) {later : List ℕ} {answer : Part} (next b : ℕ) → ((depth : ℕ) → Leads starred bytes depth at (leaf b) next) → at < next → next ≤ length bytes → count < length earlier → answer ≡ Read next (count + 1) → later ≡ set earlier count (label-of 1 b) → Single bytes at count earlier later answer
+pub character-read : {bytes : List ℕ} {at count : ℕ} (earlier : List ℕ) {later : List ℕ} {answer : Part} (next b : ℕ)
+    → ((depth : ℕ) → Leads starred bytes depth at (leaf b) next) → at < next → next ≤ length bytes
+    → count < length earlier → answer ≡ Read next (count + 1) → later ≡ set earlier count (label-of 1 b)
+    → Single bytes at count earlier later answer
 character-read {count = count} earlier next b leads further within room answered written =
     rw (answered, written)
     (record {
@@ -94,19 +116,24 @@ character-read {count = count} earlier next b leads further within room answered
 
 module _ {bytes : List ℕ} {depth at count : ℕ} {earlier : List ℕ} where
   -- what was read, with a star
-  pub went-star : {place n : ℕ} {later : List ℕ} → Went starred bytes depth at count earlier place n later → place < length bytes → getD bytes place 0 ≡ 42 → n < length later → Went starred bytes depth at count earlier (place + 1) (n + 1) (set later n 4)
+  pub went-star : {place n : ℕ} {later : List ℕ} → Went starred bytes depth at count earlier place n later
+      → place < length bytes → getD bytes place 0 ≡ 42 → n < length later
+      → Went starred bytes depth at count earlier (place + 1) (n + 1) (set later n 4)
   went-star {place} {n} {later} w h e room =
       record {
         read = star (w .read);
         leads = leads-star bytes place (w .leads) h e;
-        written = one-more later _ n 4 (w .written) room ∙ append-assoc (take count earlier) (labels (w .read)) (4 ∷ []);
+        written = one-more later _ n 4 (w .written) room ∙ append-assoc (take count earlier) (labels (w .read))
+            (4 ∷ []);
         further = omega arith;
         within = omega arith;
         bounded = omega arith;
       }
 
   -- a closed group
-  pub went-group : {next total : ℕ} {later : List ℕ} → Whole united bytes (depth + 1) (at + 1) count earlier next total later → next < length bytes → depth < 32 → at < length bytes → getD bytes at 0 ≡ 40 → Went starred bytes depth at count earlier (next + 1) total later
+  pub went-group : {next total : ℕ} {later : List ℕ}
+      → Whole united bytes (depth + 1) (at + 1) count earlier next total later → next < length bytes → depth < 32
+      → at < length bytes → getD bytes at 0 ≡ 40 → Went starred bytes depth at count earlier (next + 1) total later
   went-group {next = next} r inside few h e =
       record {
         read = r .went .read;
@@ -118,37 +145,63 @@ module _ {bytes : List ℕ} {depth at count : ℕ} {earlier : List ℕ} where
       }
 
   -- an operand is read when its stars are
-  pub then-stars : {next total : ℕ} {middle : List ℕ} (later : List ℕ) (answer : Part) → Went starred bytes depth at count earlier next total middle → Stars bytes next total middle later answer → Reading starred bytes at depth count earlier later answer
+  pub then-stars : {next total : ℕ} {middle : List ℕ} (later : List ℕ) (answer : Part)
+      → Went starred bytes depth at count earlier next total middle → Stars bytes next total middle later answer
+      → Reading starred bytes at depth count earlier later answer
   then-stars later (Read last sum) w s = record { went = s .carries depth .on at count earlier w; stops = s .stops }
   then-stars later (Refused number place) w s = absurd s
 
   -- an operand is a catenation, and a catenation a union
-  pub went-joined : {next total : ℕ} {later : List ℕ} → Went starred bytes depth at count earlier next total later → Went joined bytes depth at count earlier next total later
-  went-joined w = record { read = w .read; leads = leads-joined bytes (w .leads); written = w .written; further = w .further; within = w .within; bounded = w .bounded }
+  pub went-joined : {next total : ℕ} {later : List ℕ} → Went starred bytes depth at count earlier next total later
+      → Went joined bytes depth at count earlier next total later
+  went-joined w = record {
+    read = w .read;
+    leads = leads-joined bytes (w .leads);
+    written = w .written;
+    further =
+        w .further;
+    within = w .within;
+    bounded = w .bounded;
+  }
 
-  pub went-united : {next total : ℕ} {later : List ℕ} → Went joined bytes depth at count earlier next total later → Went united bytes depth at count earlier next total later
-  went-united w = record { read = w .read; leads = leads-united bytes (w .leads); written = w .written; further = w .further; within = w .within; bounded = w .bounded }
+  pub went-united : {next total : ℕ} {later : List ℕ} → Went joined bytes depth at count earlier next total later
+      → Went united bytes depth at count earlier next total later
+  went-united w = record {
+    read = w .read;
+    leads = leads-united bytes (w .leads);
+    written = w .written;
+    further =
+        w .further;
+    within = w .within;
+    bounded = w .bounded;
+  }
 
   module _ {place n : ℕ} {middle : List ℕ} {next total : ℕ} {later : List ℕ} where
     -- a catenation with one more operand
-    pub went-factor : Went joined bytes depth at count earlier place n middle → place < length bytes → beginning (sign-of (getD bytes place 0)) ≡ true → Whole starred bytes depth place n middle next total later → total < length later → Went joined bytes depth at count earlier next (total + 1) (set later total 2)
+    pub went-factor : Went joined bytes depth at count earlier place n middle → place < length bytes
+        → beginning (sign-of (getD bytes place 0)) ≡ true → Whole starred bytes depth place n middle next total later
+        → total < length later → Went joined bytes depth at count earlier next (total + 1) (set later total 2)
     went-factor w h more r room =
         record {
           read = catenation (w .read) (r .went .read);
           leads = leads-factor bytes place (w .leads) h more (r .went .leads) (r .stops);
-          written = both later (take n middle) (take count earlier) (labels (w .read)) (labels (r .went .read)) total 2 (w .written) (r .went .written) room;
+          written = both later (take n middle) (take count earlier) (labels (w .read)) (labels (r .went .read)) total 2
+              (w .written) (r .went .written) room;
           further = omega arith;
           within = omega arith;
           bounded = omega arith;
         }
 
     -- a union with one more branch
-    pub went-branch : Went united bytes depth at count earlier place n middle → place < length bytes → getD bytes place 0 ≡ 124 → Whole joined bytes depth (place + 1) n middle next total later → total < length later → Went united bytes depth at count earlier next (total + 1) (set later total 3)
+    pub went-branch : Went united bytes depth at count earlier place n middle → place < length bytes
+        → getD bytes place 0 ≡ 124 → Whole joined bytes depth (place + 1) n middle next total later
+        → total < length later → Went united bytes depth at count earlier next (total + 1) (set later total 3)
     went-branch w h e r room =
         record {
           read = union (w .read) (r .went .read);
           leads = leads-branch bytes place (w .leads) h e (r .went .leads) (r .stops);
-          written = both later (take n middle) (take count earlier) (labels (w .read)) (labels (r .went .read)) total 3 (w .written) (r .went .written) room;
+          written = both later (take n middle) (take count earlier) (labels (w .read)) (labels (r .went .read)) total 3
+              (w .written) (r .went .written) room;
           further = omega arith;
           within = omega arith;
           bounded = omega arith;

@@ -7,23 +7,24 @@ use mathlib.Core.List.{List, [], _∷_}
 use lib.ListN.{length}
 use lib.Dec.{ltb}
 use Rattle.language.specs.Tree.{Tree, leaf, catenation, union, star}
+use Rattle.tree.specs.Leaf.{Leaf}
 use Rattle.reader.specs.Bytes.{Sign, opening, closing, bar, asterisk, backslash, plain, sign-of, special}
 
 -- what scanning gives: the expression's tree, or the first fault by number and place
 pub data Outcome : Type 0 where
-  tree : Tree ℕ → Outcome
+  tree : Tree Leaf → Outcome
   refused : (number place : ℕ) → Outcome
 
 -- where the scanner stands: an operand is due; a `\` stands at this place; an operand with this tree has just been read
 pub data Phase : Type 0 where
   due : Phase
   escaping : (place : ℕ) → Phase
-  after : Tree ℕ → Phase
+  after : Tree Leaf → Phase
 
 -- what was read of an expression before the operand at hand: the union up to the last `|`, and the catenation after it
 pub record Before : Type 0 where
-  pub unions : Option (Tree ℕ)
-  pub factors : Option (Tree ℕ)
+  pub unions : Option (Tree Leaf)
+  pub factors : Option (Tree Leaf)
 
 -- an open group: the place of its `(`, and what was read before it
 pub record Group : Type 0 where
@@ -35,25 +36,25 @@ abbrev pub nothing : Before
 nothing = record { unions = none; factors = none }
 
 -- the catenation, grouped to the left, with one more operand
-abbrev pub catenated : Option (Tree ℕ) → Tree ℕ → Tree ℕ
+abbrev pub catenated : Option (Tree Leaf) → Tree Leaf → Tree Leaf
 catenated none t = t
 catenated (some s) t = catenation s t
 
 -- the union, grouped to the left, with one more
-abbrev pub united : Option (Tree ℕ) → Tree ℕ → Tree ℕ
+abbrev pub united : Option (Tree Leaf) → Tree Leaf → Tree Leaf
 united none t = t
 united (some s) t = union s t
 
 -- the tree of what was read, with the last operand
-abbrev pub finished : Before → Tree ℕ → Tree ℕ
+abbrev pub finished : Before → Tree Leaf → Tree Leaf
 finished before t = united (before .unions) (catenated (before .factors) t)
 
 -- after a `|`: the union so far, and no catenation yet
-abbrev pub next-union : Before → Tree ℕ → Before
+abbrev pub next-union : Before → Tree Leaf → Before
 next-union before t = record { unions = some (finished before t); factors = none }
 
 -- before another operand: the catenation so far
-abbrev pub next-factor : Before → Tree ℕ → Before
+abbrev pub next-factor : Before → Tree Leaf → Before
 next-factor before t = record { unions = before .unions; factors = some (catenated (before .factors) t) }
 
 -- how the scan goes on: with this phase, what was read before, and the open groups, the innermost first
@@ -77,12 +78,12 @@ operand backslash b place on before groups = on (escaping place) before groups
 operand plain b place on before groups = on (after (leaf b)) before groups
 
 -- a `)` after an operand: 5 with no group open
-abbrev pub closed : Tree ℕ → ℕ → Onward → Before → List Group → Outcome
+abbrev pub closed : Tree Leaf → ℕ → Onward → Before → List Group → Outcome
 closed t place on before [] = refused 5 place
 closed t place on before (group ∷ groups) = on (after (finished before t)) (group .outside) groups
 
 -- the byte b after an operand: a star of it, a `|`, a `)`, or the next operand
-abbrev pub follow : Sign → ℕ → Tree ℕ → ℕ → Onward → Before → List Group → Outcome
+abbrev pub follow : Sign → ℕ → Tree Leaf → ℕ → Onward → Before → List Group → Outcome
 follow asterisk b t place on before groups = on (after (star t)) before groups
 follow bar b t place on before groups = on due (next-union before t) groups
 follow closing b t place on before groups = closed t place on before groups
@@ -109,7 +110,8 @@ unfoldable pub scan : List ℕ → ℕ → Phase → Before → List Group → O
 scan [] place phase before groups = end-at place phase before groups
 scan (b ∷ rest) place phase before groups = byte-at b place phase (scan rest (place + 1)) before groups
 
--- a whole expression: 1 where it has no bytes, 2 where it has more than 1,024, else the first fault from left to right, or its tree
+-- a whole expression: 1 where it has no bytes, 2 where it has more than 1,024, else the first fault from left to right,
+-- or its tree
 unfoldable pub scanned : List ℕ → Outcome
 scanned [] = refused 1 0
 scanned (b ∷ rest) = pick-outcome (ltb 1024 (length (b ∷ rest))) (refused 2 1024) (scan (b ∷ rest) 0 due nothing [])

@@ -10,7 +10,8 @@ use Rattle.reader.specs.Bytes.{Sign, opening, closing, bar, asterisk, ba
 use Rattle.reader.specs.Signs.{Means, sign-means}
 use Rattle.reader.specs.Grammar.{Level, single, starred, joined, united}
 
--- whether a reading of this level stops before a byte: an operand takes every `*`, a catenation goes on to `|` or `)`, a union to `)`
+-- whether a reading of this level stops before a byte: an operand takes every `*`, a catenation goes on to `|` or `)`,
+-- a union to `)`
 abbrev pub stopping : Level → Sign → Bool
 stopping single s = true
 stopping starred asterisk = false
@@ -56,7 +57,8 @@ not-special asterisk e = cc
 not-special backslash e = cc
 
 -- after an operand with its stars, a byte other than `|` and `)` begins the next operand
-next-begins : (sign : Sign) (b : ℕ) → Means b sign → (b ≡ 124 → ⊥) → (b ≡ 41 → ⊥) → stopping starred sign ≡ true → beginning sign ≡ true
+next-begins : (sign : Sign) (b : ℕ) → Means b sign → (b ≡ 124 → ⊥) → (b ≡ 41 → ⊥) → stopping starred sign ≡ true
+    → beginning sign ≡ true
 next-begins opening b means no-bar no-closing e = refl
 next-begins backslash b means no-bar no-closing e = refl
 next-begins plain b means no-bar no-closing e = refl
@@ -65,7 +67,8 @@ next-begins bar b means no-bar no-closing e = absurd (no-bar means)
 next-begins closing b means no-bar no-closing e = absurd (no-closing means)
 
 -- a catenation that stops at a byte other than `|` stops at a `)`
-only-closing : (sign : Sign) (b : ℕ) → Means b sign → (b ≡ 124 → ⊥) → stopping joined sign ≡ true → stopping united sign ≡ true
+only-closing : (sign : Sign) (b : ℕ) → Means b sign → (b ≡ 124 → ⊥) → stopping joined sign ≡ true
+    → stopping united sign ≡ true
 only-closing closing b means no-bar e = refl
 only-closing bar b means no-bar e = absurd (no-bar means)
 only-closing opening b means no-bar e = cc
@@ -94,19 +97,29 @@ closes plain b means e = cc
 module _ (bytes : List ℕ) where
   -- the same at a place
   pub stops-starred : (place : ℕ) → place < length bytes → (getD bytes place 0 ≡ 42 → ⊥) → Stops starred bytes place
-  stops-starred place h no-asterisk = at-sign h (no-star (sign-of (getD bytes place 0)) (getD bytes place 0) (sign-means (getD bytes place 0)) no-asterisk)
+  stops-starred place h no-asterisk =
+      at-sign h (no-star (sign-of (getD bytes place 0)) (getD bytes place 0) (sign-means (getD bytes place 0))
+      no-asterisk)
 
-  pub stops-at : {level : Level} {b : ℕ} (place : ℕ) → place < length bytes → getD bytes place 0 ≡ b → stopping level (sign-of b) ≡ true → Stops level bytes place
+  pub stops-at : {level : Level} {b : ℕ} (place : ℕ) → place < length bytes → getD bytes place 0 ≡ b
+      → stopping level (sign-of b) ≡ true → Stops level bytes place
   stops-at {level} place h e stop = at-sign h (ap (λ (x : ℕ). stopping level (sign-of x)) e ∙ stop)
 
-  pub stops-united : (place : ℕ) → place < length bytes → (getD bytes place 0 ≡ 124 → ⊥) → Stops joined bytes place → Stops united bytes place
+  pub stops-united : (place : ℕ) → place < length bytes → (getD bytes place 0 ≡ 124 → ⊥) → Stops joined bytes place
+      → Stops united bytes place
   stops-united place h no-bar (at-end e) = at-end e
-  stops-united place h no-bar (at-sign h′ e) = at-sign h (only-closing (sign-of (getD bytes place 0)) (getD bytes place 0) (sign-means (getD bytes place 0)) no-bar e)
+  stops-united place h no-bar (at-sign h′ e) =
+      at-sign h (only-closing (sign-of (getD bytes place 0)) (getD bytes place 0) (sign-means (getD bytes place 0))
+      no-bar e)
 
-  pub begins-next : (place : ℕ) → place < length bytes → (getD bytes place 0 ≡ 124 → ⊥) → (getD bytes place 0 ≡ 41 → ⊥) → Stops starred bytes place → beginning (sign-of (getD bytes place 0)) ≡ true
+  pub begins-next : (place : ℕ) → place < length bytes → (getD bytes place 0 ≡ 124 → ⊥) → (getD bytes place 0 ≡ 41 → ⊥)
+      → Stops starred bytes place → beginning (sign-of (getD bytes place 0)) ≡ true
   begins-next place h no-bar no-closing (at-end e) = absurd (omega arith)
-  begins-next place h no-bar no-closing (at-sign h′ e) = next-begins (sign-of (getD bytes place 0)) (getD bytes place 0) (sign-means (getD bytes place 0)) no-bar no-closing e
+  begins-next place h no-bar no-closing (at-sign h′ e) =
+      next-begins (sign-of (getD bytes place 0)) (getD bytes place 0) (sign-means (getD bytes place 0)) no-bar
+      no-closing e
 
   pub closes-united : (place : ℕ) → Stops united bytes place → place < length bytes → getD bytes place 0 ≡ 41
   closes-united place (at-end e) h = absurd (omega arith)
-  closes-united place (at-sign h′ e) h = closes (sign-of (getD bytes place 0)) (getD bytes place 0) (sign-means (getD bytes place 0)) e
+  closes-united place (at-sign h′ e) h =
+      closes (sign-of (getD bytes place 0)) (getD bytes place 0) (sign-means (getD bytes place 0)) e

@@ -9,6 +9,7 @@ use lib.ListN.{length, drop}
 use lib.Dec.{ltb}
 use borrow.Author.Tests.{lt-ltb, le-ltb}
 use Rattle.language.specs.Tree.{Tree, nodes}
+use Rattle.tree.specs.Leaf.{Leaf}
 use Rattle.tree.specs.Records.{labels, encode, piece-count}
 use Rattle.tree.specs.Lengths.{length-labels}
 use Rattle.reader.specs.Scanner.{tree}
@@ -18,18 +19,18 @@ use Rattle.reader.specs.declared.answer.Answer.the-variants.{Read, Refus
 
 -- of whatever tree the labels are, the answer is that tree's, and so is what the buffer holds afterwards
 pub record Stored (ls before after : List ℕ) (r : Answer) : Type 0 where
-  pub answer : (t : Tree ℕ) → ls ≡ labels t → numbers r ≡ answer-for (tree t) (length before)
-  pub buffer : (t : Tree ℕ) → ls ≡ labels t → after ≡ buffer-for (tree t) before
+  pub answer : (t : Tree Leaf) → ls ≡ labels t → numbers r ≡ answer-for (tree t) (length before)
+  pub buffer : (t : Tree Leaf) → ls ≡ labels t → after ≡ buffer-for (tree t) before
 
-module _ (ls before : List ℕ) (n : ℕ) (count : (t : Tree ℕ) → ls ≡ labels t → n ≡ piece-count t) where
+module _ (ls before : List ℕ) (n : ℕ) (count : (t : Tree Leaf) → ls ≡ labels t → n ≡ piece-count t) where
   -- the tests, as the tree has them
-  many : (t : Tree ℕ) → ls ≡ labels t → 128 < n → ltb 128 (piece-count t) ≡ true
+  many : (t : Tree Leaf) → ls ≡ labels t → 128 < n → ltb 128 (piece-count t) ≡ true
   many t e h = lt-ltb 128 (piece-count t) (omega (arith, count t e))
 
-  not-many : (t : Tree ℕ) → ls ≡ labels t → n ≤ 128 → ltb 128 (piece-count t) ≡ false
+  not-many : (t : Tree Leaf) → ls ≡ labels t → n ≤ 128 → ltb 128 (piece-count t) ≡ false
   not-many t e h = le-ltb 128 (piece-count t) (omega (arith, count t e))
 
-  long : (t : Tree ℕ) → ls ≡ labels t → length ls ≡ nodes t
+  long : (t : Tree Leaf) → ls ≡ labels t → length ls ≡ nodes t
   long t e = ap length e ∙ length-labels t
 
   pub stored-many : 128 < n → Stored ls before before (Refused 8 0)
@@ -42,9 +43,16 @@ module _ (ls before : List ℕ) (n : ℕ) (count : (t : Tree ℕ) → ls ≡ lab
         buffer = λ t e. rw (not-many t e h, lt-ltb (length before) (8 * nodes t) (omega (arith, long t e)));
       }
 
-  pub stored-whole : {after : List ℕ} → n ≤ 128 → 8 * length ls ≤ length before → ((t : Tree ℕ) → ls ≡ labels t → after ≡ encode t ++ drop (8 * nodes t) before) → Stored ls before after (Read (length ls) n)
+  pub stored-whole : {after : List ℕ} → n ≤ 128 → 8 * length ls ≤ length before
+      → ((t : Tree Leaf) → ls ≡ labels t → after ≡ encode t ++ drop (8 * nodes t) before)
+      → Stored ls before after (Read (length ls) n)
   stored-whole h room wrote =
       record {
-        answer = λ t e. rw (not-many t e h, le-ltb (length before) (8 * nodes t) (omega (arith, long t e)), long t e, count t e);
+        answer = λ t e. rw (
+          not-many t e h,
+          le-ltb (length before) (8 * nodes t) (omega (arith, long t e)),
+          long t e,
+          count t e,
+        );
         buffer = λ t e. rw (not-many t e h, le-ltb (length before) (8 * nodes t) (omega (arith, long t e))) (wrote t e);
       }

@@ -39,7 +39,8 @@ fn leaf(byte: u8, next: usize, labels: &mut [u16], count: usize) -> Part
     }
 }
 
-// Reads the character at a place: 3 where a `|`, `*` or `)` stands there, 7 at a `\` that is last or not before a special byte.
+// Reads the character at a place: 3 where a `|`, `*` or `)` stands there, 7 at a `\` that is last or not before a
+// special byte.
 pub fn character(expr: &[u8], at: usize, labels: &mut [u16], count: usize) -> Part
     requires within { ⌜ at < length (now expr) ⌝ }
     requires character { ⌜ (getD (now expr) at 0 ≡ 40 → ⊥) ⌝ }

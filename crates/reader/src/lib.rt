@@ -17,7 +17,8 @@ ghost use mathlib.Core.Path.{_≡_};
 ghost use lib.ListN.{length};
 ghost use Rattle.reader.specs.Answer.{numbers, answered, stored};
 
-// Reads an expression and writes its tree's records. The labels are collected apart, so that nothing is written before the answer is sure.
+// Reads an expression and writes its tree's records. The labels are collected apart, so that nothing is written before
+// the answer is sure.
 pub fn read(expr: &[u8], records: &mut [u8]) -> Answer
     ensures answer { λ r. ⌜ numbers r ≡ answered (now (expr .entry)) (length (now (records .entry))) ⌝ }
     ensures buffer { λ r. ⌜ now (records .exit) ≡ stored (now (expr .entry)) (now (records .entry)) ⌝ }

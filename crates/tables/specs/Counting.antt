@@ -10,8 +10,33 @@ use lib.Dec.{eqb}
 use lib.ListN.{length, getD, set}
 use lib.Seq.{getD-set-same, getD-set-other}
 use Rattle.language.specs.Nested.{Nested, leaf, catenation, union, star, below}
+use Rattle.tree.specs.Leaf.{Leaf}
 use Rattle.tables.specs.Words.{run}
-use Rattle.tables.specs.Standing.{size, size-positive, Spot, spot, tree, first, Plain, Fine, child-fine, catenation-left, catenation-right, union-left, union-right, operand, under, leaf-shows, catenation-shows, union-shows, star-shows, piece-shows, within, in-fine, node-at}
+use Rattle.tables.specs.Standing.{
+  size,
+  size-positive,
+  Spot,
+  spot,
+  tree,
+  first,
+  Plain,
+  Fine,
+  child-fine,
+  catenation-left,
+  catenation-right,
+  union-left,
+  union-right,
+  operand,
+  under,
+  leaf-shows,
+  catenation-shows,
+  union-shows,
+  star-shows,
+  piece-shows,
+  within,
+  in-fine,
+  node-at,
+}
 use Rattle.tables.specs.Filling.{cond-equal, cond-different}
 use Rattle.tables.specs.Walking.{own-piece, kind-of, left-of, right-of}
 
@@ -36,13 +61,15 @@ adds list counts child p = getD counts child 0 + cond (eqb (own-piece list child
 
 module _ {list counts : List ℕ} {j : ℕ} (counted : Counted list counts j) where
   -- a child in its parent's piece adds the pieces below it
-  plain-adds : {f p n i : ℕ} (x : Nested ℕ) → Plain x → Fine list (spot x f p n i) → (child : ℕ) → child + 1 ≡ f + size x → child < j → adds list counts child p ≡ run x
+  plain-adds : {f p n i : ℕ} (x : Nested Leaf) → Plain x → Fine list (spot x f p n i) → (child : ℕ)
+      → child + 1 ≡ f + size x → child < j → adds list counts child p ≡ run x
   plain-adds {p = p} x plain h child e before =
       let same = cond-equal (own-piece list child) p 0 1 (piece-shows x plain h child e) in
       omega (arith, counted .each child before _ h plain e)
 
   -- a child piece adds itself too
-  child-adds : {f p n i : ℕ} (x : Nested ℕ) → Fine list (spot x f p n i) → (child : ℕ) → child + 1 ≡ f + size x → child < j → adds list counts child p ≡ run x
+  child-adds : {f p n i : ℕ} (x : Nested Leaf) → Fine list (spot x f p n i) → (child : ℕ) → child + 1 ≡ f + size x
+      → child < j → adds list counts child p ≡ run x
   child-adds (leaf a) h child e before = plain-adds (leaf a) tt h child e before
   child-adds (catenation x y) h child e before = plain-adds (catenation x y) tt h child e before
   child-adds (union x y) h child e before = plain-adds (union x y) tt h child e before
@@ -54,14 +81,16 @@ module _ {list counts : List ℕ} {j : ℕ} (counted : Counted list counts j) wh
       omega (arith, counted .each child before _ under-h (h .sound .0) e)
 
   -- the child's record comes before the parent's
-  kid-adds : {f p n i : ℕ} (x : Nested ℕ) → Fine list (spot x f p n i) → (child : ℕ) → child ≡ f + size x - 1 → f + size x ≤ j → adds list counts child p ≡ run x
+  kid-adds : {f p n i : ℕ} (x : Nested Leaf) → Fine list (spot x f p n i) → (child : ℕ) → child ≡ f + size x - 1
+      → f + size x ≤ j → adds list counts child p ≡ run x
   kid-adds x h child e before = child-adds x h child (omega (arith, size-positive x)) (omega (arith, size-positive x))
 
 module _ {list counts : List ℕ} {node : ℕ} (counted : Counted list counts node) where
   -- there are none below a leaf
   pub runs-leaf : kind-of list node ≡ 1 → Runs list node 0
   runs-leaf kind (spot (leaf a) f p n i) h plain e = refl
-  runs-leaf kind (spot (catenation x y) f p n i) h plain e = absurd (omega (arith, catenation-shows h node e .kind-byte))
+  runs-leaf kind (spot (catenation x y) f p n i) h plain e =
+      absurd (omega (arith, catenation-shows h node e .kind-byte))
   runs-leaf kind (spot (union x y) f p n i) h plain e = absurd (omega (arith, union-shows h node e .kind-byte))
   runs-leaf kind (spot (star x) f p n i) h plain e = absurd (omega (arith, star-shows h node e .kind-byte))
   runs-leaf kind (spot (below x) f p n i) h plain e = absurd plain
@@ -72,7 +101,8 @@ module _ {list counts : List ℕ} {node : ℕ} (counted : Counted list counts no
   -- below a star there are those that its operand adds
   pub runs-star : kind-of list node ≡ 4 → Runs list node (adds list counts (left-of list node) (own-piece list node))
   runs-star kind (spot (leaf a) f p n i) h plain e = absurd (omega (arith, leaf-shows h node e .kind-byte))
-  runs-star kind (spot (catenation x y) f p n i) h plain e = absurd (omega (arith, catenation-shows h node e .kind-byte))
+  runs-star kind (spot (catenation x y) f p n i) h plain e =
+      absurd (omega (arith, catenation-shows h node e .kind-byte))
   runs-star kind (spot (union x y) f p n i) h plain e = absurd (omega (arith, union-shows h node e .kind-byte))
   runs-star kind (spot (star x) f p n i) h plain e =
       let shown = star-shows h node e in
@@ -81,21 +111,27 @@ module _ {list counts : List ℕ} {node : ℕ} (counted : Counted list counts no
 
   -- below a node with two children, those that both add
   pub runs-two : (kind-of list node ≡ 1 → ⊥) → (kind-of list node ≡ 4 → ⊥)
-      → Runs list node (adds list counts (left-of list node) (own-piece list node) + adds list counts (right-of list node) (own-piece list node))
+      → Runs list node
+      (adds list counts (left-of list node) (own-piece list node) + adds list counts (right-of list node)
+      (own-piece list node))
   runs-two kind other (spot (leaf a) f p n i) h plain e = absurd (kind (leaf-shows h node e .kind-byte))
   runs-two kind other (spot (catenation x y) f p n i) h plain e =
       let shown = catenation-shows h node e in
       omega (
         arith,
-        adds-at (left-of list node) _ p _ (shown .piece-word) (kid-adds counted x (child-fine catenation-left h) _ (shown .left-word) (omega arith)),
-        adds-at (right-of list node) _ p _ (shown .piece-word) (kid-adds counted y (child-fine catenation-right h) _ (shown .right-word) (omega arith)),
+        adds-at (left-of list node) _ p _ (shown .piece-word)
+            (kid-adds counted x (child-fine catenation-left h) _ (shown .left-word) (omega arith)),
+        adds-at (right-of list node) _ p _ (shown .piece-word)
+            (kid-adds counted y (child-fine catenation-right h) _ (shown .right-word) (omega arith)),
       )
   runs-two kind other (spot (union x y) f p n i) h plain e =
       let shown = union-shows h node e in
       omega (
         arith,
-        adds-at (left-of list node) _ p _ (shown .piece-word) (kid-adds counted x (child-fine union-left h) _ (shown .left-word) (omega arith)),
-        adds-at (right-of list node) _ p _ (shown .piece-word) (kid-adds counted y (child-fine union-right h) _ (shown .right-word) (omega arith)),
+        adds-at (left-of list node) _ p _ (shown .piece-word)
+            (kid-adds counted x (child-fine union-left h) _ (shown .left-word) (omega arith)),
+        adds-at (right-of list node) _ p _ (shown .piece-word)
+            (kid-adds counted y (child-fine union-right h) _ (shown .right-word) (omega arith)),
       )
   runs-two kind other (spot (star x) f p n i) h plain e = absurd (other (star-shows h node e .kind-byte))
   runs-two kind other (spot (below x) f p n i) h plain e = absurd plain
@@ -113,7 +149,8 @@ kid-listed : {list : List ℕ} {node : ℕ} → Node list node → (child : ℕ)
 kid-listed h child low = record { earlier = low; inside = omega (arith, node-listed h) }
 
 -- the left or only child's record is in the list, before its parent's
-pub left-listed : {list : List ℕ} {node : ℕ} → Node list node → (kind-of list node ≡ 1 → ⊥) → Kids-listed list node (left-of list node)
+pub left-listed : {list : List ℕ} {node : ℕ} → Node list node → (kind-of list node ≡ 1 → ⊥)
+    → Kids-listed list node (left-of list node)
 left-listed {list} {node} h kind = kid-listed h _ (low (h .at) (h .fine) (h .plain) (h .is-root))
   where
     low : (s : Spot) → Fine list s → Plain (tree s) → node + 1 ≡ first s + size (tree s) → left-of list node < node
@@ -124,55 +161,73 @@ left-listed {list} {node} h kind = kid-listed h _ (low (h .at) (h .fine) (h .pla
     low (spot (below x) f p n i) g plain e = absurd plain
 
 -- and so is the right child's
-pub right-listed : {list : List ℕ} {node : ℕ} → Node list node → (kind-of list node ≡ 1 → ⊥) → (kind-of list node ≡ 4 → ⊥) → Kids-listed list node (right-of list node)
+pub right-listed : {list : List ℕ} {node : ℕ} → Node list node → (kind-of list node ≡ 1 → ⊥)
+    → (kind-of list node ≡ 4 → ⊥) → Kids-listed list node (right-of list node)
 right-listed {list} {node} h kind other = kid-listed h _ (low (h .at) (h .fine) (h .plain) (h .is-root))
   where
     low : (s : Spot) → Fine list s → Plain (tree s) → node + 1 ≡ first s + size (tree s) → right-of list node < node
     low (spot (leaf a) f p n i) g plain e = absurd (kind (leaf-shows g node e .kind-byte))
-    low (spot (catenation x y) f p n i) g plain e = omega (arith, catenation-shows g node e .right-word, size-positive x, size-positive y)
-    low (spot (union x y) f p n i) g plain e = omega (arith, union-shows g node e .right-word, size-positive x, size-positive y)
+    low (spot (catenation x y) f p n i) g plain e =
+        omega (arith, catenation-shows g node e .right-word, size-positive x, size-positive y)
+    low (spot (union x y) f p n i) g plain e =
+        omega (arith, union-shows g node e .right-word, size-positive x, size-positive y)
     low (spot (star x) f p n i) g plain e = absurd (other (star-shows g node e .kind-byte))
     low (spot (below x) f p n i) g plain e = absurd plain
 
 -- one more node counted
-pub counted-more : {list counts : List ℕ} {j r : ℕ} → Counted list counts j → Runs list j r → j < length counts → Counted list (set counts j r) (j + 1)
+pub counted-more : {list counts : List ℕ} {j r : ℕ} → Counted list counts j → Runs list j r → j < length counts
+    → Counted list (set counts j r) (j + 1)
 counted-more {list} {counts} {j} {r} counted more fits = record {
   each = λ k low s h plain e.
       elim (decLt k j) [
         | yes before ↦ getD-set-other counts j k r 0 (λ same. omega arith) ∙ counted .each k before s h plain e
         | no after ↦ let same : k ≡ j = omega arith in
-            ap (λ (m : ℕ). getD (set counts j r) m 0) same ∙ getD-set-same counts j r 0 fits ∙ more s h plain (subst (λ (m : ℕ). m + 1 ≡ first s + size (tree s)) same e)
+            ap (λ (m : ℕ). getD (set counts j r) m 0) same ∙ getD-set-same counts j r 0 fits
+            ∙ more s h plain (subst (λ (m : ℕ). m + 1 ≡ first s + size (tree s)) same e)
       ];
 }
 
 -- what a child adds, by whether its piece is its parent's
-pub adds-same : (list counts : List ℕ) (child p own : ℕ) → own ≡ own-piece list child → own ≡ p → adds list counts child p ≡ getD counts child 0
+pub adds-same : (list counts : List ℕ) (child p own : ℕ) → own ≡ own-piece list child → own ≡ p
+    → adds list counts child p ≡ getD counts child 0
 adds-same list counts child p own shown same = omega (arith, cond-equal (own-piece list child) p 0 1 (sym shown ∙ same))
 
-pub adds-other : (list counts : List ℕ) (child p own : ℕ) → own ≡ own-piece list child → (own ≡ p → ⊥) → adds list counts child p ≡ getD counts child 0 + 1
-adds-other list counts child p own shown other = omega (arith, cond-different (own-piece list child) p 0 1 (λ same. other (shown ∙ same)))
+pub adds-other : (list counts : List ℕ) (child p own : ℕ) → own ≡ own-piece list child → (own ≡ p → ⊥)
+    → adds list counts child p ≡ getD counts child 0 + 1
+adds-other list counts child p own shown other =
+    omega (arith, cond-different (own-piece list child) p 0 1 (λ same. other (shown ∙ same)))
 
 -- with the fields as they were read
-module _ {list counts : List ℕ} {node kind piece left : ℕ} (counted : Counted list counts node) (of-kind : kind ≡ kind-of list node) (of-piece : piece ≡ own-piece list node) (of-left : left ≡ left-of list node) where
-  adds-read : (child read : ℕ) → read ≡ child → adds list counts read piece ≡ adds list counts child (own-piece list node)
-  adds-read child read e = ap (λ (k : ℕ). adds list counts k piece) e ∙ ap (λ (p : ℕ). adds list counts child p) of-piece
+module _ {list counts : List ℕ} {node kind piece left : ℕ} (counted : Counted list counts node)
+    (of-kind : kind ≡ kind-of list node) (of-piece : piece ≡ own-piece list node) (of-left : left ≡ left-of list node)
+  where
+    adds-read : (child read : ℕ) → read ≡ child → adds list counts read piece
+        ≡ adds list counts child (own-piece list node)
+    adds-read child read e = ap (λ (k : ℕ). adds list counts k piece) e
+        ∙ ap (λ (p : ℕ). adds list counts child p) of-piece
 
-  pub read-star : {r : ℕ} → kind ≡ 4 → r ≡ adds list counts left piece → Runs list node r
-  read-star e g s h plain root = g ∙ adds-read _ _ of-left ∙ runs-star counted (sym of-kind ∙ e) s h plain root
+    pub read-star : {r : ℕ} → kind ≡ 4 → r ≡ adds list counts left piece → Runs list node r
+    read-star e g s h plain root = g ∙ adds-read _ _ of-left ∙ runs-star counted (sym of-kind ∙ e) s h plain root
 
-  pub read-two : {a b right : ℕ} → (kind ≡ 1 → ⊥) → (kind ≡ 4 → ⊥) → right ≡ right-of list node → a ≡ adds list counts left piece → b ≡ adds list counts right piece → Runs list node (a + b)
-  read-two {a} {b} inner other of-right f g s h plain root =
-      omega (arith, f ∙ adds-read _ _ of-left, g ∙ adds-read _ _ of-right, runs-two counted (λ e. inner (of-kind ∙ e)) (λ e. other (of-kind ∙ e)) s h plain root)
+    pub read-two : {a b right : ℕ} → (kind ≡ 1 → ⊥) → (kind ≡ 4 → ⊥) → right ≡ right-of list node
+        → a ≡ adds list counts left piece → b ≡ adds list counts right piece → Runs list node (a + b)
+    read-two {a} {b} inner other of-right f g s h plain root =
+        omega (
+          arith,
+          f ∙ adds-read _ _ of-left,
+          g ∙ adds-read _ _ of-right,
+          runs-two counted (λ e. inner (of-kind ∙ e)) (λ e. other (of-kind ∙ e)) s h plain root,
+        )
 
 -- the list is that of x, and its numbers are within bounds
-pub record Top (list : List ℕ) (x : Nested ℕ) : Type 0 where
+pub record Top (list : List ℕ) (x : Nested Leaf) : Type 0 where
   pub fine : Fine list (spot x 0 0 1 0)
   pub plain : Plain x
   pub all : length list ≡ 8 * size x
 
 -- the list is that of some tree
 pub record Listed (list : List ℕ) : Type 0 where
-  pub some : Nested ℕ
+  pub some : Nested Leaf
   pub top : Top list some
 
 -- each record is that of a node
@@ -181,7 +236,13 @@ node-of h node low =
     let x = h .some in
     let top = h .top in
     let found = node-at x 0 0 1 0 node (omega arith) (omega (arith, top .all)) in
-    record { at = found .at; fine = in-fine (found .inside) (top .fine); plain = found .plain; is-root = found .is-root }
+    record {
+      at = found .at;
+      fine = in-fine (found .inside) (top .fine);
+      plain = found .plain;
+      is-root =
+          found .is-root;
+    }
 
 -- there are fewer than 128 pieces below a node
 pub few-runs : {list : List ℕ} {node r : ℕ} → Node list node → Runs list node r → r < 128

@@ -8,6 +8,7 @@ use native.Mathlib.Numerals.{add-one}
 use lib.ListN.{length, getD, set, take, drop, length-append, length-set}
 use lib.Seq.{getD-set-same, getD-set-other, drop-cons}
 use Rattle.language.specs.Nested.{Nested, leaf, catenation, union, star, below}
+use Rattle.tree.specs.Leaf.{Leaf}
 use Rattle.tables.specs.Words.{width}
 use Rattle.tables.specs.Plan.{nexts, takes}
 
@@ -25,17 +26,22 @@ pub lies-is : {table : List ℕ} {at : ℕ} {l m : List ℕ} → Lies table at l
 lies-is {table} {at} h e = subst (λ (k : List ℕ). Lies table at k) e h
 
 -- one part behind another
-pub lies-append : {table : List ℕ} {at to : ℕ} {l m : List ℕ} → Lies table at l → Lies table to m → at + length l ≡ to → Lies table at (l ++ m)
+pub lies-append : {table : List ℕ} {at to : ℕ} {l m : List ℕ} → Lies table at l → Lies table to m → at + length l ≡ to
+    → Lies table at (l ++ m)
 lies-append ends g e = lies-at g (omega arith)
 lies-append (entry v h) g e = entry v (lies-append h g (omega arith))
 
 -- a part stands still where none of its entries changes
-pub lies-same : {table : List ℕ} (after : List ℕ) {at : ℕ} {l : List ℕ} → Lies table at l → ((j : ℕ) → at ≤ j → j < at + length l → getD after j 0 ≡ getD table j 0) → Lies after at l
+pub lies-same : {table : List ℕ} (after : List ℕ) {at : ℕ} {l : List ℕ} → Lies table at l
+    → ((j : ℕ) → at ≤ j → j < at + length l → getD after j 0 ≡ getD table j 0) → Lies after at l
 lies-same after ends same = ends
-lies-same after {at} (entry v h) same = entry (same at (omega arith) (omega arith) ∙ v) (lies-same after h (λ j low high. same j (omega arith) (omega arith)))
+lies-same after {at} (entry v h) same =
+    entry (same at (omega arith) (omega arith) ∙ v)
+    (lies-same after h (λ j low high. same j (omega arith) (omega arith)))
 
 -- a part is what `take` and `drop` cut out
-pub lies-row : {table : List ℕ} {at : ℕ} {l : List ℕ} → Lies table at l → at + length l ≤ length table → take (length l) (drop at table) ≡ l
+pub lies-row : {table : List ℕ} {at : ℕ} {l : List ℕ} → Lies table at l → at + length l ≤ length table
+    → take (length l) (drop at table) ≡ l
 lies-row ends fits = refl
 lies-row {table} {at} (entry {v = v} {l = l} e h) fits =
     ap (λ (m : List ℕ). take (suc (length l)) m) (drop-cons table at 0 (omega arith))
@@ -44,15 +50,18 @@ lies-row {table} {at} (entry {v = v} {l = l} e h) fits =
     ∙ ap (λ (m : List ℕ). v ∷ m) (lies-row h (omega arith))
 
 -- the words of the empty transitions but for that of the accepting state
-abbrev pub fronts : Nested ℕ → ℕ → List ℕ
+abbrev pub fronts : Nested Leaf → ℕ → List ℕ
 fronts (leaf a) i = 0 ∷ []
-fronts (catenation x y) i = (2 ^ (i + 1)) ∷ (nexts x (i + 1) (2 ^ (i + (1 + width x))) ++ nexts y (i + (1 + width x)) (2 ^ (i + (1 + width x + width y))))
-fronts (union x y) i = (2 ^ (i + 1) + 2 ^ (i + (1 + width x))) ∷ (nexts x (i + 1) (2 ^ (i + (1 + width x + width y))) ++ nexts y (i + (1 + width x)) (2 ^ (i + (1 + width x + width y))))
+fronts (catenation x y) i =
+    (2 ^ (i + 1)) ∷ (nexts x (i + 1) (2 ^ (i + (1 + width x)))
+    ++ nexts y (i + (1 + width x)) (2 ^ (i + (1 + width x + width y))))
+fronts (union x y) i = (2 ^ (i + 1) + 2 ^ (i + (1 + width x))) ∷ (nexts x (i + 1) (2 ^ (i + (1 + width x + width y)))
+    ++ nexts y (i + (1 + width x)) (2 ^ (i + (1 + width x + width y))))
 fronts (star x) i = (2 ^ (i + 1) + 2 ^ (i + (1 + width x))) ∷ nexts x (i + 1) (2 ^ (i + 1) + 2 ^ (i + (1 + width x)))
 fronts (below x) i = 0 ∷ []
 
 -- the word of the accepting state comes last
-pub nexts-fronts : (x : Nested ℕ) (i exit : ℕ) → nexts x i exit ≡ fronts x i ++ (exit ∷ [])
+pub nexts-fronts : (x : Nested Leaf) (i exit : ℕ) → nexts x i exit ≡ fronts x i ++ (exit ∷ [])
 nexts-fronts (leaf a) i exit = refl
 nexts-fronts (catenation x y) i exit = refl
 nexts-fronts (union x y) i exit = refl
@@ -60,27 +69,31 @@ nexts-fronts (star x) i exit = refl
 nexts-fronts (below x) i exit = refl
 
 -- one word for each state
-pub length-nexts : (x : Nested ℕ) (i exit : ℕ) → length (nexts x i exit) ≡ width x
+pub length-nexts : (x : Nested Leaf) (i exit : ℕ) → length (nexts x i exit) ≡ width x
 length-nexts (leaf a) i exit = refl
-length-nexts (catenation x y) i exit = let e = length-nexts x in let g = length-nexts y in simp (length-append, e, g) (omega arith)
-length-nexts (union x y) i exit = let e = length-nexts x in let g = length-nexts y in simp (length-append, e, g) (omega arith)
+length-nexts (catenation x y) i exit = let e = length-nexts x in let g =
+    length-nexts y in simp (length-append, e, g) (omega arith)
+length-nexts (union x y) i exit = let e = length-nexts x in let g =
+    length-nexts y in simp (length-append, e, g) (omega arith)
 length-nexts (star x) i exit = let e = length-nexts x in simp (length-append, e) (omega arith)
 length-nexts (below x) i exit = refl
 
 -- one word for each state but the accepting one
-pub length-fronts : (x : Nested ℕ) (i : ℕ) → length (fronts x i) + 1 ≡ width x
-length-fronts x i = sym (length-append (fronts x i) (0 ∷ [])) ∙ ap length (sym (nexts-fronts x i 0)) ∙ length-nexts x i 0
+pub length-fronts : (x : Nested Leaf) (i : ℕ) → length (fronts x i) + 1 ≡ width x
+length-fronts x i = sym (length-append (fronts x i) (0 ∷ [])) ∙ ap length (sym (nexts-fronts x i 0))
+    ∙ length-nexts x i 0
 
 -- one label for each state
-pub length-takes : (x : Nested ℕ) → length (takes x) ≡ width x
+pub length-takes : (x : Nested Leaf) → length (takes x) ≡ width x
 length-takes (leaf a) = refl
-length-takes (catenation x y) = let e = length-takes x in let g = length-takes y in simp (length-append, e, g) (omega arith)
+length-takes (catenation x y) = let e = length-takes x in let g =
+    length-takes y in simp (length-append, e, g) (omega arith)
 length-takes (union x y) = let e = length-takes x in let g = length-takes y in simp (length-append, e, g) (omega arith)
 length-takes (star x) = let e = length-takes x in simp (length-append, e) (omega arith)
 length-takes (below x) = refl
 
 -- a state for the start and one for accepting at least
-pub wide : (x : Nested ℕ) → 2 ≤ width x
+pub wide : (x : Nested Leaf) → 2 ≤ width x
 wide (leaf a) = omega arith
 wide (catenation x y) = omega arith
 wide (union x y) = omega arith
@@ -93,16 +106,20 @@ thrice table a b c u v w = set (set (set table a u) b v) c w
 
 module _ (table : List ℕ) (a b c u v w : ℕ) where
   -- an entry that was not set
-  pub thrice-other : (j : ℕ) → (j ≡ a → ⊥) → (j ≡ b → ⊥) → (j ≡ c → ⊥) → getD (thrice table a b c u v w) j 0 ≡ getD table j 0
-  thrice-other j not-a not-b not-c = getD-set-other (set (set table a u) b v) c j w 0 not-c ∙ getD-set-other (set table a u) b j v 0 not-b ∙ getD-set-other table a j u 0 not-a
+  pub thrice-other : (j : ℕ) → (j ≡ a → ⊥) → (j ≡ b → ⊥) → (j ≡ c → ⊥) → getD (thrice table a b c u v w) j 0
+      ≡ getD table j 0
+  thrice-other j not-a not-b not-c = getD-set-other (set (set table a u) b v) c j w 0 not-c
+      ∙ getD-set-other (set table a u) b j v 0 not-b ∙ getD-set-other table a j u 0 not-a
 
   -- the entry set first, where it was not set again
   pub thrice-first : a < length table → (a ≡ b → ⊥) → (a ≡ c → ⊥) → getD (thrice table a b c u v w) a 0 ≡ u
-  thrice-first fits not-b not-c = getD-set-other (set (set table a u) b v) c a w 0 not-c ∙ getD-set-other (set table a u) b a v 0 not-b ∙ getD-set-same table a u 0 fits
+  thrice-first fits not-b not-c = getD-set-other (set (set table a u) b v) c a w 0 not-c
+      ∙ getD-set-other (set table a u) b a v 0 not-b ∙ getD-set-same table a u 0 fits
 
   -- the entry set second
   pub thrice-second : b < length table → (b ≡ c → ⊥) → getD (thrice table a b c u v w) b 0 ≡ v
-  thrice-second fits not-c = getD-set-other (set (set table a u) b v) c b w 0 not-c ∙ getD-set-same (set table a u) b v 0 (simp length-set fits)
+  thrice-second fits not-c = getD-set-other (set (set table a u) b v) c b w 0 not-c
+      ∙ getD-set-same (set table a u) b v 0 (simp length-set fits)
 
   -- the entry set last
   pub thrice-third : c < length table → getD (thrice table a b c u v w) c 0 ≡ w

@@ -11,11 +11,58 @@ use borrow.Author.Tests.{eq-eqb, ne-eqb}
 use lib.ListN.{length, getD, set, length-append, length-set}
 use lib.Seq.{getD-set-same, getD-set-other}
 use Rattle.language.specs.Nested.{Nested, leaf, catenation, union, star, below}
+use Rattle.tree.specs.Leaf.{Leaf}
 use Rattle.tables.specs.Words.{width, run}
 use Rattle.tables.specs.Plan
 use Rattle.tables.specs.Plan.{takes}
-use Rattle.tables.specs.Entries.{Lies, ends, entry, lies-at, lies-is, lies-append, lies-same, fronts, nexts-fronts, length-nexts, length-fronts, length-takes, wide, thrice, thrice-other, thrice-first, thrice-second, thrice-third}
-use Rattle.tables.specs.Standing.{size, Spot, spot, tree, first, piece, number, Child, catenation-left, catenation-right, union-left, union-right, operand, under, In, here, step, Plain, Fine, child-fine, piece-grows, Reaches-piece, in-reaches, Stand-in, stand-in, stand-in-reaches}
+use Rattle.tables.specs.Entries.{
+  Lies,
+  ends,
+  entry,
+  lies-at,
+  lies-is,
+  lies-append,
+  lies-same,
+  fronts,
+  nexts-fronts,
+  length-nexts,
+  length-fronts,
+  length-takes,
+  wide,
+  thrice,
+  thrice-other,
+  thrice-first,
+  thrice-second,
+  thrice-third,
+}
+use Rattle.tables.specs.Standing.{
+  size,
+  Spot,
+  spot,
+  tree,
+  first,
+  piece,
+  number,
+  Child,
+  catenation-left,
+  catenation-right,
+  union-left,
+  union-right,
+  operand,
+  under,
+  In,
+  here,
+  step,
+  Plain,
+  Fine,
+  child-fine,
+  piece-grows,
+  Reaches-piece,
+  in-reaches,
+  Stand-in,
+  stand-in,
+  stand-in-reaches,
+}
 
 -- the tables while they are filled: `roots` has the root's record number of each child piece met so far
 pub record Tables : Type 0 where
@@ -29,7 +76,8 @@ abbrev pub tables : (nexts labels stands roots : List ℕ) → Tables
 tables a b c d = record { nexts = a; labels = b; stands = c; roots = d }
 
 -- tables with the same words and labels
-pub tables-same : {a b : List ℕ} {c d : List ℕ} (stands roots : List ℕ) → a ≡ b → c ≡ d → tables a c stands roots ≡ tables b d stands roots
+pub tables-same : {a b : List ℕ} {c d : List ℕ} (stands roots : List ℕ) → a ≡ b → c ≡ d
+    → tables a c stands roots ≡ tables b d stands roots
 tables-same stands roots p q = λ i. tables (p i) (q i) stands roots
 
 -- the tables have room for 128 pieces of 64 states
@@ -55,7 +103,8 @@ pub record Same-place (t after : Tables) (k : ℕ) : Type 0 where
   pub stand : getD (after .stands) k 0 ≡ getD (t .stands) k 0
   pub root : getD (after .roots) k 0 ≡ getD (t .roots) k 0
 
--- the part of s has been filled but for the word of its accepting state, and `end` is the number after its last state's.
+-- the part of s has been filled but for the word of its accepting state, and `end` is the number after its last
+-- state's.
 -- What comes before it in the tables is as it was, and so is what is told of child pieces with no stand-in in this part
 pub record Filled (s : Spot) (t after : Tables) (end : ℕ) : Type 0 where
   pub ended : end ≡ number s + width (tree s)
@@ -71,13 +120,17 @@ abbrev pub two-entries : Tables → (at label : ℕ) → Tables
 two-entries t at label = tables (set (t .nexts) at 0) (set (set (t .labels) at label) (at + 1) 0) (t .stands) (t .roots)
 
 -- the two labels of a leaf, and that what comes before them is as it was
-labels-lie : (table : List ℕ) (at label : ℕ) → at + 1 < length table → Lies (set (set table at label) (at + 1) 0) at (label ∷ 0 ∷ [])
+labels-lie : (table : List ℕ) (at label : ℕ) → at + 1 < length table
+    → Lies (set (set table at label) (at + 1) 0) at (label ∷ 0 ∷ [])
 labels-lie table at label fits =
-    entry (getD-set-other (set table at label) (at + 1) at 0 0 (λ e. omega arith) ∙ getD-set-same table at label 0 (omega arith))
+    entry (getD-set-other (set table at label) (at + 1) at 0 0 (λ e. omega arith)
+    ∙ getD-set-same table at label 0 (omega arith))
     (entry (getD-set-same (set table at label) (at + 1) 0 0 (simp length-set fits)) ends)
 
-labels-before : (table : List ℕ) (at label j : ℕ) → j < at → getD (set (set table at label) (at + 1) 0) j 0 ≡ getD table j 0
-labels-before table at label j low = getD-set-other (set table at label) (at + 1) j 0 0 (λ e. omega arith) ∙ getD-set-other table at j label 0 (λ e. omega arith)
+labels-before : (table : List ℕ) (at label j : ℕ) → j < at → getD (set (set table at label) (at + 1) 0) j 0
+    ≡ getD table j 0
+labels-before table at label j low = getD-set-other (set table at label) (at + 1) j 0 0 (λ e. omega arith)
+    ∙ getD-set-other table at j label 0 (λ e. omega arith)
 
 -- a node is no stand-in
 plain-no-stand-in : {u : Spot} {k : ℕ} → Plain (tree u) → Stand-in u k → ⊥
@@ -88,7 +141,8 @@ no-stand-in-at-leaf : {a f p n i : ℕ} {u : Spot} {k : ℕ} → In (spot (leaf 
 no-stand-in-at-leaf here m = plain-no-stand-in tt m
 
 -- a leaf's part
-pub fill-leaf : {list : List ℕ} {a f p n i : ℕ} → Fine list (spot (leaf a) f p n i) → (t : Tables) → Room t → Filled (spot (leaf a) f p n i) t (two-entries t (64 * p + i) (a + 1)) (i + 2)
+pub fill-leaf : {list : List ℕ} {a f p n i : ℕ} → Fine list (spot (leaf a) f p n i) → (t : Tables) → Room t
+    → Filled (spot (leaf a) f p n i) t (two-entries t (64 * p + i) (a + 1)) (i + 2)
 fill-leaf {a = a} {p = p} {i = i} h t room =
     let r = room .of-nexts in
     let q = room .of-labels in
@@ -104,11 +158,14 @@ fill-leaf {a = a} {p = p} {i = i} h t room =
 
 -- two entries for a stand-in, and what is told of its child piece k: the stand-in's number and its root's record
 abbrev pub stand-entries : Tables → (at k i node : ℕ) → Tables
-stand-entries t at k i node = tables (set (t .nexts) at 0) (set (set (t .labels) at 0) (at + 1) 0) (set (t .stands) k i) (set (t .roots) k node)
+stand-entries t at k i node = tables (set (t .nexts) at 0) (set (set (t .labels) at 0) (at + 1) 0) (set (t .stands) k i)
+    (set (t .roots) k node)
 
 -- a stand-in's own child piece is told of
-stand-placed : {list : List ℕ} {x : Nested ℕ} {f p n i : ℕ} → Fine list (spot (below x) f p n i) → (t : Tables) → Room t → (node : ℕ) → node + 1 ≡ f + size x
-    → {u : Spot} {k : ℕ} → In (spot (below x) f p n i) u → Stand-in u k → piece u ≡ p → Placed (stand-entries t (64 * p + i) n i node) u k
+stand-placed : {list : List ℕ} {x : Nested Leaf} {f p n i : ℕ} → Fine list (spot (below x) f p n i) → (t : Tables)
+    → Room t → (node : ℕ) → node + 1 ≡ f + size x
+    → {u : Spot} {k : ℕ} → In (spot (below x) f p n i) u → Stand-in u k → piece u ≡ p
+    → Placed (stand-entries t (64 * p + i) n i node) u k
 stand-placed {x = x} {n = n} {i = i} h t room node at here stand-in e =
     let r = room .of-stands in
     let q = room .of-roots in
@@ -119,7 +176,8 @@ stand-placed {x = x} {n = n} {i = i} h t room node at here stand-in e =
 stand-placed h t room node at (step under m) s e = absurd (omega (arith, piece-grows (child-fine under h) m))
 
 -- a stand-in's part
-pub fill-stand : {list : List ℕ} {x : Nested ℕ} {f p n i : ℕ} → Fine list (spot (below x) f p n i) → (t : Tables) → Room t → (node : ℕ) → node + 1 ≡ f + size x
+pub fill-stand : {list : List ℕ} {x : Nested Leaf} {f p n i : ℕ} → Fine list (spot (below x) f p n i) → (t : Tables)
+    → Room t → (node : ℕ) → node + 1 ≡ f + size x
     → Filled (spot (below x) f p n i) t (stand-entries t (64 * p + i) n i node) (i + 2)
 fill-stand {x = x} {f = f} {p = p} {n = n} {i = i} h t room node at =
     let r = room .of-nexts in
@@ -132,8 +190,19 @@ fill-stand {x = x} {f = f} {p = p} {n = n} {i = i} h t room node at =
       leaves-before = λ j low. labels-before (t .labels) (64 * p + i) 0 j low;
       placed = λ u k m. stand-placed h t room node at (m .inside) (m .stands-for) (m .same-piece);
       others = λ k none.
-          let other : k ≡ n → ⊥ = λ e. none _ (record { inside = here; stands-for = subst (λ (m : ℕ). Stand-in (spot (below x) f p n i) m) (sym e) stand-in; same-piece = refl }) in
-          record { stand = getD-set-other (t .stands) n k i 0 other; root = getD-set-other (t .roots) n k node 0 other };
+          let other : k ≡ n
+          → ⊥ = λ e. none _
+          (record {
+            inside = here;
+            stands-for =
+                subst (λ (m : ℕ). Stand-in (spot (below x) f p n i) m) (sym e) stand-in;
+            same-piece = refl;
+          }) in
+          record {
+            stand = getD-set-other (t .stands) n k i 0 other;
+            root =
+                getD-set-other (t .roots) n k node 0 other;
+          };
     }
 
 -- a choice by whether two numbers are the same
@@ -143,7 +212,8 @@ cond-equal a b x y e = ap (λ c. cond c x y) (eq-eqb a b e)
 pub cond-different : (a b x y : ℕ) → (a ≡ b → ⊥) → cond (eqb a b) x y ≡ y
 cond-different a b x y e = ap (λ c. cond c x y) (ne-eqb a b e)
 
--- the word of a node's start, by the kind of its record: `middle` is the number after its left or only child's last state
+-- the word of a node's start, by the kind of its record: `middle` is the number after its left or only child's last
+-- state
 abbrev pub start-word : (kind at middle : ℕ) → ℕ
 start-word kind at middle = cond (eqb kind 2) (2 ^ (at + 1)) (2 ^ (at + 1) + 2 ^ middle)
 
@@ -159,7 +229,8 @@ left-exit kind at middle last = cond (eqb kind 2) (2 ^ middle) (right-exit kind 
 abbrev pub joined : Tables → (base kind at middle last : ℕ) → Tables
 joined t base kind at middle last =
     tables
-    (thrice (t .nexts) (base + at) (base + middle - 1) (base + last - 1) (start-word kind at middle) (left-exit kind at middle last) (right-exit kind at middle last))
+    (thrice (t .nexts) (base + at) (base + middle - 1) (base + last - 1) (start-word kind at middle)
+    (left-exit kind at middle last) (right-exit kind at middle last))
     (set (set (t .labels) (base + at) 0) (base + last) 0)
     (t .stands)
     (t .roots)
@@ -174,27 +245,31 @@ pub record Joint (kind : ℕ) (s l r : Spot) : Type 0 where
   pub number-right : number r ≡ number s + (1 + width (tree l))
   pub wide-as : width (tree s) ≡ 1 + width (tree l) + width (tree r) + 1
   pub words-as : let last = number s + (1 + width (tree l) + width (tree r)) in
-      fronts (tree s) (number s) ≡ start-word kind (number s) (number r) ∷ (Plan.nexts (tree l) (number l) (left-exit kind (number s) (number r) last) ++ Plan.nexts (tree r) (number r) (right-exit kind (number s) (number r) last))
+      fronts (tree s) (number s) ≡ start-word kind (number s) (number r)
+      ∷ (Plan.nexts (tree l) (number l) (left-exit kind (number s) (number r) last)
+      ++ Plan.nexts (tree r) (number r) (right-exit kind (number s) (number r) last))
   pub leaves-as : takes (tree s) ≡ 0 ∷ (takes (tree l) ++ takes (tree r) ++ (0 ∷ []))
   pub either : (u : Spot) (k : ℕ) → In s u → Stand-in u k → In l u ⊎ In r u
   pub apart : (k : ℕ) → Reaches-piece l k → Reaches-piece r k → ⊥
 
 -- a stand-in below a node with two children is below one of them
-either-catenation : {x y : Nested ℕ} {f p n i : ℕ} {u : Spot} {k : ℕ} → In (spot (catenation x y) f p n i) u → Stand-in u k
+either-catenation : {x y : Nested Leaf} {f p n i : ℕ} {u : Spot} {k : ℕ} → In (spot (catenation x y) f p n i) u
+    → Stand-in u k
     → In (spot x f p n (i + 1)) u ⊎ In (spot y (f + size x) p (n + run x) (i + (1 + width x))) u
 either-catenation here s = absurd (plain-no-stand-in tt s)
 either-catenation (step catenation-left m) s = inl m
 either-catenation (step catenation-right m) s = inr m
 
-either-union : {x y : Nested ℕ} {f p n i : ℕ} {u : Spot} {k : ℕ} → In (spot (union x y) f p n i) u → Stand-in u k
+either-union : {x y : Nested Leaf} {f p n i : ℕ} {u : Spot} {k : ℕ} → In (spot (union x y) f p n i) u → Stand-in u k
     → In (spot x f p n (i + 1)) u ⊎ In (spot y (f + size x) p (n + run x) (i + (1 + width x))) u
 either-union here s = absurd (plain-no-stand-in tt s)
 either-union (step union-left m) s = inl m
 either-union (step union-right m) s = inr m
 
-module _ {x y : Nested ℕ} {f p n i : ℕ} where
+module _ {x y : Nested Leaf} {f p n i : ℕ} where
   -- catenations and unions are such nodes
-  pub catenation-joint : Joint 2 (spot (catenation x y) f p n i) (spot x f p n (i + 1)) (spot y (f + size x) p (n + run x) (i + (1 + width x)))
+  pub catenation-joint : Joint 2 (spot (catenation x y) f p n i) (spot x f p n (i + 1))
+      (spot y (f + size x) p (n + run x) (i + (1 + width x)))
   catenation-joint = record {
     left = catenation-left;
     right = catenation-right;
@@ -209,7 +284,8 @@ module _ {x y : Nested ℕ} {f p n i : ℕ} where
     apart = λ k a b. omega arith;
   }
 
-  pub union-joint : Joint 3 (spot (union x y) f p n i) (spot x f p n (i + 1)) (spot y (f + size x) p (n + run x) (i + (1 + width x)))
+  pub union-joint : Joint 3 (spot (union x y) f p n i) (spot x f p n (i + 1))
+      (spot y (f + size x) p (n + run x) (i + (1 + width x)))
   union-joint = record {
     left = union-left;
     right = union-right;
@@ -225,7 +301,8 @@ module _ {x y : Nested ℕ} {f p n i : ℕ} where
   }
 
 -- two labels set to 0
-labels-other : (table : List ℕ) (a b k : ℕ) → (k ≡ a → ⊥) → (k ≡ b → ⊥) → getD (set (set table a 0) b 0) k 0 ≡ getD table k 0
+labels-other : (table : List ℕ) (a b k : ℕ) → (k ≡ a → ⊥) → (k ≡ b → ⊥) → getD (set (set table a 0) b 0) k 0
+    ≡ getD table k 0
 labels-other table a b k not-a not-b = getD-set-other (set table a 0) b k 0 0 not-b ∙ getD-set-other table a k 0 0 not-a
 
 labels-first : (table : List ℕ) (a b : ℕ) → a < length table → (a ≡ b → ⊥) → getD (set (set table a 0) b 0) a 0 ≡ 0
@@ -249,18 +326,22 @@ still-placed p e = record { stand = e .stand ∙ p .stand; root = ap (λ (n : �
 both-same : {t mid after : Tables} {k : ℕ} → Same-place t mid k → Same-place mid after k → Same-place t after k
 both-same a b = record { stand = b .stand ∙ a .stand; root = b .root ∙ a .root }
 
-module _ {list : List ℕ} {kind : ℕ} {s l r : Spot} (j : Joint kind s l r) (h : Fine list s) (t mid after : Tables) (room : Room after) (middle last : ℕ) (a : Filled l t mid middle) (b : Filled r mid after last) where
+module _ {list : List ℕ} {kind : ℕ} {s l r : Spot} (j : Joint kind s l r) (h : Fine list s) (t mid after : Tables)
+    (room : Room after) (middle last : ℕ) (a : Filled l t mid middle) (b : Filled r mid after last) where
   -- what the children's parts tell of child pieces stands
   two-placed : (u : Spot) (k : ℕ) → Own-stand-in s u k → Placed after u k
   two-placed u k m =
       ⊎-elim
       (λ inside. still-placed (a .placed u k (down (j .piece-left) inside m))
-      (b .others k (λ v w. j .apart k (in-reaches inside (stand-in-reaches (m .stands-for))) (in-reaches (w .inside) (stand-in-reaches (w .stands-for))))))
+      (b .others k
+      (λ v w. j .apart k (in-reaches inside (stand-in-reaches (m .stands-for)))
+      (in-reaches (w .inside) (stand-in-reaches (w .stands-for))))))
       (λ inside. b .placed u k (down (j .piece-right) inside m))
       (j .either u k (m .inside) (m .stands-for))
 
   two-others : (k : ℕ) → ((u : Spot) → Own-stand-in s u k → ⊥) → Same-place t after k
-  two-others k none = both-same (a .others k (λ u w. none u (up (j .left) (j .piece-left) w))) (b .others k (λ u w. none u (up (j .right) (j .piece-right) w)))
+  two-others k none = both-same (a .others k (λ u w. none u (up (j .left) (j .piece-left) w)))
+      (b .others k (λ u w. none u (up (j .right) (j .piece-right) w)))
 
   -- the numbers at which the children's parts end
   middle-is : middle ≡ number r
@@ -274,7 +355,8 @@ module _ {list : List ℕ} {kind : ℕ} {s l r : Spot} (j : Joint kind s l r) (h
   two-base = 64 * piece s
 
   -- the words, from those of the children's parts
-  two-words : Lies (joined after two-base kind (number s) middle last .nexts) (two-base + number s) (fronts (tree s) (number s))
+  two-words : Lies (joined after two-base kind (number s) middle last .nexts) (two-base + number s)
+      (fronts (tree s) (number s))
   two-words =
       let e = middle-is in
       let g = last-is in
@@ -298,20 +380,29 @@ module _ {list : List ℕ} {kind : ℕ} {s l r : Spot} (j : Joint kind s l r) (h
       let u = start-word kind (number s) middle in
       let v = left-exit kind (number s) middle last in
       let w = right-exit kind (number s) middle last in
-      let keeps : (k : ℕ) → (k ≡ x → ⊥) → (k ≡ y → ⊥) → (k ≡ z → ⊥) → getD table k 0 ≡ getD (after .nexts) k 0 = thrice-other (after .nexts) x y z u v w in
+      let keeps : (k : ℕ) → (k ≡ x → ⊥) → (k ≡ y → ⊥) → (k ≡ z → ⊥) → getD table k 0 ≡ getD (after .nexts) k 0 =
+      thrice-other (after .nexts) x y z u v w in
       let front-l : Lies table (x + 1) (fronts (tree l) (number l)) =
-      lies-at (lies-same table (a .words) (λ k low high. keeps k (λ same. omega arith) (λ same. omega arith) (λ same. omega arith) ∙ b .words-before k (omega arith))) (omega arith) in
+      lies-at (lies-same table (a .words)
+      (λ k low high. keeps k (λ same. omega arith) (λ same. omega arith) (λ same. omega arith)
+      ∙ b .words-before k (omega arith))) (omega arith) in
       let front-r : Lies table (y + 1) (fronts (tree r) (number r)) =
-      lies-at (lies-same table (b .words) (λ k low high. keeps k (λ same. omega arith) (λ same. omega arith) (λ same. omega arith))) (omega arith) in
+      lies-at (lies-same table (b .words)
+      (λ k low high. keeps k (λ same. omega arith) (λ same. omega arith) (λ same. omega arith))) (omega arith) in
       let part-l : Lies table (x + 1) (Plan.nexts (tree l) (number l) v) =
-      lies-is (lies-append front-l (entry (thrice-second (after .nexts) x y z u v w (omega arith) (λ same. omega arith)) ends) (omega arith)) (sym (nexts-fronts (tree l) (number l) v)) in
+      lies-is (lies-append front-l (entry (thrice-second (after .nexts) x y z u v w (omega arith) (λ same. omega arith))
+      ends) (omega arith)) (sym (nexts-fronts (tree l) (number l) v)) in
       let part-r : Lies table (y + 1) (Plan.nexts (tree r) (number r) w) =
-      lies-is (lies-append front-r (entry (thrice-third (after .nexts) x y z u v w (omega arith)) ends) (omega arith)) (sym (nexts-fronts (tree r) (number r) w)) in
+      lies-is (lies-append front-r (entry (thrice-third (after .nexts) x y z u v w (omega arith)) ends) (omega arith))
+      (sym (nexts-fronts (tree r) (number r) w)) in
       lies-is
       (entry (thrice-first (after .nexts) x y z u v w (omega arith) (λ same. omega arith) (λ same. omega arith))
       (lies-append part-l part-r (omega (arith, length-nexts (tree l) (number l) v))))
-      (ap (λ (n : ℕ). start-word kind (number s) n ∷ (Plan.nexts (tree l) (number l) (left-exit kind (number s) n last) ++ Plan.nexts (tree r) (number r) (right-exit kind (number s) n last))) e
-      ∙ ap (λ (n : ℕ). start-word kind (number s) (number r) ∷ (Plan.nexts (tree l) (number l) (left-exit kind (number s) (number r) n) ++ Plan.nexts (tree r) (number r) (right-exit kind (number s) (number r) n))) g
+      (ap (λ (n : ℕ). start-word kind (number s) n ∷ (Plan.nexts (tree l) (number l) (left-exit kind (number s) n last)
+      ++ Plan.nexts (tree r) (number r) (right-exit kind (number s) n last))) e
+      ∙ ap (λ (n : ℕ). start-word kind (number s) (number r)
+      ∷ (Plan.nexts (tree l) (number l) (left-exit kind (number s) (number r) n)
+      ++ Plan.nexts (tree r) (number r) (right-exit kind (number s) (number r) n))) g
       ∙ sym (j .words-as))
 
   -- the labels, from those of the children's parts
@@ -333,14 +424,18 @@ module _ {list : List ℕ} {kind : ℕ} {s l r : Spot} (j : Joint kind s l r) (h
       let x = two-base + number s in
       let z = two-base + last in
       let table = set (set (after .labels) x 0) z 0 in
-      let keeps : (k : ℕ) → (k ≡ x → ⊥) → (k ≡ z → ⊥) → getD table k 0 ≡ getD (after .labels) k 0 = labels-other (after .labels) x z in
+      let keeps : (k : ℕ) → (k ≡ x → ⊥) → (k ≡ z → ⊥) → getD table k 0 ≡ getD (after .labels) k 0 =
+      labels-other (after .labels) x z in
       let part-l : Lies table (x + 1) (takes (tree l)) =
-      lies-at (lies-same table (a .leaves) (λ k low high. keeps k (λ same. omega arith) (λ same. omega arith) ∙ b .leaves-before k (omega arith))) (omega arith) in
+      lies-at (lies-same table (a .leaves) (λ k low high. keeps k (λ same. omega arith) (λ same. omega arith)
+      ∙ b .leaves-before k (omega arith))) (omega arith) in
       let part-r : Lies table (two-base + middle) (takes (tree r)) =
-      lies-at (lies-same table (b .leaves) (λ k low high. keeps k (λ same. omega arith) (λ same. omega arith))) (omega arith) in
+      lies-at (lies-same table (b .leaves) (λ k low high. keeps k (λ same. omega arith) (λ same. omega arith)))
+      (omega arith) in
       lies-is
       (entry (labels-first (after .labels) x z (omega arith) (λ same. omega arith))
-      (lies-append (lies-append part-l part-r (omega arith)) (entry (labels-last (after .labels) x z (omega arith)) ends)
+      (lies-append (lies-append part-l part-r (omega arith))
+      (entry (labels-last (after .labels) x z (omega arith)) ends)
       (omega (arith, length-append (takes (tree l)) (takes (tree r))))))
       (sym (j .leaves-as))
 
@@ -361,20 +456,24 @@ module _ {list : List ℕ} {kind : ℕ} {s l r : Spot} (j : Joint kind s l r) (h
         ended = omega arith;
         words = two-words;
         words-before = λ k low.
-            thrice-other (after .nexts) x (two-base + middle - 1) (two-base + last - 1) _ _ _ k (λ same. omega arith) (λ same. omega arith) (λ same. omega arith)
+            thrice-other (after .nexts) x (two-base + middle - 1) (two-base + last - 1) _ _ _ k (λ same. omega arith)
+            (λ same. omega arith) (λ same. omega arith)
             ∙ b .words-before k (omega arith) ∙ a .words-before k (omega arith);
         leaves = two-leaves;
-        leaves-before = λ k low. labels-other (after .labels) x (two-base + last) k (λ same. omega arith) (λ same. omega arith) ∙ b .leaves-before k (omega arith) ∙ a .leaves-before k (omega arith);
+        leaves-before = λ k low. labels-other (after .labels) x (two-base + last) k (λ same. omega arith)
+            (λ same. omega arith) ∙ b .leaves-before k (omega arith) ∙ a .leaves-before k (omega arith);
         placed = λ u k m. still-placed (two-placed u k m) (record { stand = refl; root = refl });
         others = λ k none. both-same (two-others k none) (record { stand = refl; root = refl });
       }
 
 -- a stand-in below a star is below its operand
-operand-only : {x : Nested ℕ} {f p n i : ℕ} {u : Spot} {k : ℕ} → In (spot (star x) f p n i) u → Stand-in u k → In (spot x f p n (i + 1)) u
+operand-only : {x : Nested Leaf} {f p n i : ℕ} {u : Spot} {k : ℕ} → In (spot (star x) f p n i) u → Stand-in u k
+    → In (spot x f p n (i + 1)) u
 operand-only here s = absurd (plain-no-stand-in tt s)
 operand-only (step operand m) s = m
 
-module _ {list : List ℕ} {x : Nested ℕ} {f p n i : ℕ} (h : Fine list (spot (star x) f p n i)) (t after : Tables) (room : Room after) (last : ℕ) (a : Filled (spot x f p n (i + 1)) t after last) where
+module _ {list : List ℕ} {x : Nested Leaf} {f p n i : ℕ} (h : Fine list (spot (star x) f p n i)) (t after : Tables)
+    (room : Room after) (last : ℕ) (a : Filled (spot x f p n (i + 1)) t after last) where
   -- a star's words, from those of its operand's part
   star-words : Lies (joined after (64 * p) 4 i last last .nexts) (64 * p + i) (fronts (star x) i)
   star-words =
@@ -389,10 +488,14 @@ module _ {list : List ℕ} {x : Nested ℕ} {f p n i : ℕ} (h : Fine list (spot
       let z = 64 * p + last - 1 in
       let w = 2 ^ (i + 1) + 2 ^ last in
       let front : Lies table (64 * p + i + 1) (fronts x (i + 1)) =
-      lies-at (lies-same table (a .words) (λ k low high. thrice-other (after .nexts) (64 * p + i) z z w w w k (λ same. omega arith) (λ same. omega arith) (λ same. omega arith))) (omega arith) in
+      lies-at (lies-same table (a .words)
+      (λ k low high. thrice-other (after .nexts) (64 * p + i) z z w w w k (λ same. omega arith)
+      (λ same. omega arith) (λ same. omega arith))) (omega arith) in
       let part : Lies table (64 * p + i + 1) (Plan.nexts x (i + 1) w) =
-      lies-is (lies-append front (entry (thrice-third (after .nexts) (64 * p + i) z z w w w (omega arith)) ends) (omega arith)) (sym (nexts-fronts x (i + 1) w)) in
-      lies-is (entry (thrice-first (after .nexts) (64 * p + i) z z w w w (omega arith) (λ same. omega arith) (λ same. omega arith)) part)
+      lies-is (lies-append front (entry (thrice-third (after .nexts) (64 * p + i) z z w w w (omega arith)) ends)
+      (omega arith)) (sym (nexts-fronts x (i + 1) w)) in
+      lies-is (entry (thrice-first (after .nexts) (64 * p + i) z z w w w (omega arith) (λ same. omega arith)
+      (λ same. omega arith)) part)
       (ap (λ (m : ℕ). (2 ^ (i + 1) + 2 ^ m) ∷ Plan.nexts x (i + 1) (2 ^ (i + 1) + 2 ^ m)) (omega arith))
 
   -- and its labels
@@ -406,9 +509,12 @@ module _ {list : List ℕ} {x : Nested ℕ} {f p n i : ℕ} (h : Fine list (spot
       let full = room .of-labels in
       let table = joined after (64 * p) 4 i last last .labels in
       let part : Lies table (64 * p + i + 1) (takes x) =
-      lies-at (lies-same table (a .leaves) (λ k low high. labels-other (after .labels) (64 * p + i) (64 * p + last) k (λ same. omega arith) (λ same. omega arith))) (omega arith) in
+      lies-at (lies-same table (a .leaves)
+      (λ k low high. labels-other (after .labels) (64 * p + i) (64 * p + last) k (λ same. omega arith)
+      (λ same. omega arith))) (omega arith) in
       entry (labels-first (after .labels) (64 * p + i) (64 * p + last) (omega arith) (λ same. omega arith))
-      (lies-append part (entry (labels-last (after .labels) (64 * p + i) (64 * p + last) (omega arith)) ends) (omega arith))
+      (lies-append part (entry (labels-last (after .labels) (64 * p + i) (64 * p + last) (omega arith)) ends)
+      (omega arith))
 
   -- the part of a star
   pub fill-star : Filled (spot (star x) f p n i) t (joined after (64 * p) 4 i last last) (last + 1)
@@ -419,9 +525,13 @@ module _ {list : List ℕ} {x : Nested ℕ} {f p n i : ℕ} (h : Fine list (spot
         ended = omega arith;
         words = star-words;
         words-before = λ k low.
-            thrice-other (after .nexts) (64 * p + i) (64 * p + last - 1) (64 * p + last - 1) _ _ _ k (λ same. omega arith) (λ same. omega arith) (λ same. omega arith) ∙ a .words-before k (omega arith);
+            thrice-other (after .nexts) (64 * p + i) (64 * p + last - 1) (64 * p + last - 1) _ _ _ k
+            (λ same. omega arith) (λ same. omega arith) (λ same. omega arith) ∙ a .words-before k (omega arith);
         leaves = star-leaves;
-        leaves-before = λ k low. labels-other (after .labels) (64 * p + i) (64 * p + last) k (λ same. omega arith) (λ same. omega arith) ∙ a .leaves-before k (omega arith);
-        placed = λ u k m. still-placed (a .placed u k (down refl (operand-only (m .inside) (m .stands-for)) m)) (record { stand = refl; root = refl });
-        others = λ k none. both-same (a .others k (λ u w. none u (up operand refl w))) (record { stand = refl; root = refl });
+        leaves-before = λ k low. labels-other (after .labels) (64 * p + i) (64 * p + last) k (λ same. omega arith)
+            (λ same. omega arith) ∙ a .leaves-before k (omega arith);
+        placed = λ u k m. still-placed (a .placed u k (down refl (operand-only (m .inside) (m .stands-for)) m))
+            (record { stand = refl; root = refl });
+        others = λ k none. both-same (a .others k (λ u w. none u (up operand refl w)))
+            (record { stand = refl; root = refl });
       }

@@ -7,6 +7,7 @@ use native.Mathlib.Omega.{arith}
 use lib.ListN.{length, getD}
 use Rattle.language.specs.Tree.{Tree, nodes}
 use Rattle.language.specs.Nested.{Nested, leaf, catenation, union, star, below, own}
+use Rattle.tree.specs.Leaf.{Leaf}
 use Rattle.tree.specs.Records.{Good, piece-count}
 use Rattle.tree.specs.Nesting.{Small, Every-below}
 use Rattle.tree.specs.Stored.{stored}
@@ -20,7 +21,7 @@ use Rattle.tables.specs.Counting.{Top, Listed, Counted}
 use Rattle.tables.specs.Making.{whole-spot, made-none, made-planned, made-nexts, Making, making-at, Total}
 
 -- two states for each node of a piece's own tree
-pub width-own : (x : Nested ℕ) → width x ≡ 2 * nodes (own x)
+pub width-own : (x : Nested Leaf) → width x ≡ 2 * nodes (own x)
 width-own (leaf a) = refl
 width-own (catenation x y) = omega (arith, width-own x, width-own y)
 width-own (union x y) = omega (arith, width-own x, width-own y)
@@ -28,11 +29,11 @@ width-own (star x) = omega (arith, width-own x)
 width-own (below x) = refl
 
 -- a small piece has at most 62 states
-pub small-narrow : (x : Nested ℕ) → Small x → width x ≤ 62
+pub small-narrow : (x : Nested Leaf) → Small x → width x ≤ 62
 small-narrow x small = omega (arith, width-own x, small .few-own-nodes)
 
 -- its root is a node
-small-plain : (x : Nested ℕ) → Small x → Plain x
+small-plain : (x : Nested Leaf) → Small x → Plain x
 small-plain (leaf a) small = tt
 small-plain (catenation x y) small = tt
 small-plain (union x y) small = tt
@@ -40,7 +41,7 @@ small-plain (star x) small = tt
 small-plain (below x) small = omega (arith, small .some-node)
 
 -- below each stand-in stands a small piece
-small-sound : (x : Nested ℕ) → Every-below Small x → Sound x
+small-sound : (x : Nested Leaf) → Every-below Small x → Sound x
 small-sound (leaf a) h = tt
 small-sound (catenation x y) h = (small-sound x (h .0), small-sound y (h .1))
 small-sound (union x y) h = (small-sound x (h .0), small-sound y (h .1))
@@ -48,14 +49,19 @@ small-sound (star x) h = small-sound x h
 small-sound (below x) h = (small-plain x (h .0), small-narrow x (h .0), small-sound x (h .1))
 
 -- the list of a good list's tree, cut up
-pub good-top : {list : List ℕ} {t : Tree ℕ} → Good list t → Top list (cut-up t)
+pub good-top : {list : List ℕ} {t : Tree Leaf} → Good list t → Top list (cut-up t)
 good-top {list} {t} good =
     let x = cut-up t in
     let told = good-tells list t good in
     let small = told .cut .every-small in
     record {
       fine = record {
-        written = record { before = []; after = []; parts = told .bytes-stored ∙ sym (append-nil (stored x 0 0 1)); begins = refl };
+        written = record {
+          before = [];
+          after = [];
+          parts = told .bytes-stored ∙ sym (append-nil (stored x 0 0 1));
+          begins = refl;
+        };
         later = omega arith;
         few = omega (arith, told .few-pieces);
         narrow = omega (arith, small-narrow x (small .0));
@@ -68,11 +74,11 @@ good-top {list} {t} good =
 
 -- the list is good
 pub record Good-list (list : List ℕ) : Type 0 where
-  pub some : Tree ℕ
+  pub some : Tree Leaf
   pub good : Good list some
 
 -- the tables are those of t: of its pieces, the words of the empty transitions, and the number of the pieces
-pub record Laid (t : Tree ℕ) (nexts labels runs stands tops : List ℕ) (count : ℕ) : Type 0 where
+pub record Laid (t : Tree Leaf) (nexts labels runs stands tops : List ℕ) (count : ℕ) : Type 0 where
   pub planned : Planned (record { labels = labels; runs = runs; stands = stands; tops = tops }) (cut-up t)
   pub words : Each Nexts nexts (cut-up t)
   pub counted : count ≡ piece-count t
@@ -82,7 +88,7 @@ pub good-listed : {list : List ℕ} → Good-list list → Listed list
 good-listed h = record { some = cut-up (h .some); top = good-top (h .good) }
 
 -- the last record is the root's
-last-root : {list : List ℕ} {x : Nested ℕ} → Top list x → length list / 8 - 1 + 1 ≡ size x
+last-root : {list : List ℕ} {x : Nested Leaf} → Top list x → length list / 8 - 1 + 1 ≡ size x
 last-root {x = x} top = omega (arith, top .all, size-positive x)
 
 -- it has a record at least
@@ -90,31 +96,51 @@ pub has-records : {list : List ℕ} → Listed list → (1 ≤ length list / 8) 
 has-records h = omega (arith, h .top .all, size-positive (h .some), h .top .fine .short)
 
 -- the number of all pieces is one more than of those below the root's
-pub total-of : {list counts : List ℕ} {count total : ℕ} → Counted list counts (length list / 8) → count ≡ getD counts (length list / 8 - 1) 0 → total ≡ count + 1 → Total list total
+pub total-of : {list counts : List ℕ} {count total : ℕ} → Counted list counts (length list / 8)
+    → count ≡ getD counts (length list / 8 - 1) 0 → total ≡ count + 1 → Total list total
 total-of counted e f = record {
   counts-all = λ x top.
-      omega (arith, last-root top, size-positive x, counted .each _ (omega (arith, last-root top, size-positive x)) (whole-spot x) (top .fine) (top .plain) (last-root top ∙ omega arith));
+      omega (
+        arith,
+        last-root top,
+        size-positive x,
+        counted .each _ (omega (arith, last-root top, size-positive x)) (whole-spot x) (top .fine) (top .plain)
+            (last-root top ∙ omega arith),
+      );
 }
 
 -- before the first piece
-pub making-none : {list counts nexts labels runs stands tops roots : List ℕ} → Listed list → Counted list counts (length list / 8) → length counts ≡ 1920 → Roomy nexts labels runs stands tops → length roots ≡ 128
+pub making-none : {list counts nexts labels runs stands tops roots : List ℕ} → Listed list
+    → Counted list counts (length list / 8) → length counts ≡ 1920 → Roomy nexts labels runs stands tops
+    → length roots ≡ 128
     → getD roots 0 0 ≡ length list / 8 - 1 → Making list counts 0 (tables nexts labels stands roots) runs tops
 making-none {runs = runs} {tops = tops} listed counted counts-room roomy roots-room first =
     record {
       listed = listed;
       counted = counted;
       counts-room = counts-room;
-      room = record { of-nexts = roomy .reach-room; of-labels = roomy .labels-room; of-stands = roomy .stands-room; of-roots = roots-room };
+      room = record {
+        of-nexts = roomy .reach-room;
+        of-labels = roomy .labels-room;
+        of-stands = roomy .stands-room;
+        of-roots = roots-room;
+      };
       runs-room = roomy .runs-room;
       tops-room = roomy .tops-room;
       so-far = λ x top. made-none x _ runs tops (omega (arith, last-root top));
     }
 
 -- after the last
-pub laid : {list counts nexts labels runs stands tops roots : List ℕ} {total : ℕ} → Making list counts total (tables nexts labels stands roots) runs tops → Total list total
-    → (t : Tree ℕ) → Good list t → Laid t nexts labels runs stands tops total
+pub laid : {list counts nexts labels runs stands tops roots : List ℕ} {total : ℕ}
+    → Making list counts total (tables nexts labels stands roots) runs tops → Total list total
+    → (t : Tree Leaf) → Good list t → Laid t nexts labels runs stands tops total
 laid making all t good =
     let top = good-top good in
     let count = all .counts-all (cut-up t) top in
     let made = making-at making count .so-far (cut-up t) top in
-    record { planned = made-planned top (making .room) made; words = made-nexts top (making .room) made; counted = count ∙ stated t .all-pieces }
+    record {
+      planned = made-planned top (making .room) made;
+      words = made-nexts top (making .room) made;
+      counted =
+          count ∙ stated t .all-pieces;
+    }

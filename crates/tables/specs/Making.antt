@@ -8,11 +8,54 @@ use native.Mathlib.Decide.{decLt}
 use lib.ListN.{length, getD, set, take, drop}
 use lib.Seq.{getD-set-same, getD-set-other}
 use Rattle.language.specs.Nested.{Nested, leaf, catenation, union, star, below}
+use Rattle.tree.specs.Leaf.{Leaf}
 use Rattle.tables.specs.Words.{width, run}
 use Rattle.tables.specs.Plan
 use Rattle.tables.specs.Plan.{takes}
-use Rattle.tables.specs.Entries.{Lies, ends, entry, lies-at, lies-is, lies-append, lies-same, lies-row, fronts, nexts-fronts, length-nexts, length-fronts, length-takes, wide}
-use Rattle.tables.specs.Standing.{size, Spot, spot, tree, first, piece, number, Child, catenation-left, catenation-right, union-left, union-right, operand, under, In, here, step, in-child, Plain, in-fine, Stand-in, stand-in, stand-in-reaches, in-reaches, one-stand-in, piece-below}
+use Rattle.tables.specs.Entries.{
+  Lies,
+  ends,
+  entry,
+  lies-at,
+  lies-is,
+  lies-append,
+  lies-same,
+  lies-row,
+  fronts,
+  nexts-fronts,
+  length-nexts,
+  length-fronts,
+  length-takes,
+  wide,
+}
+use Rattle.tables.specs.Standing.{
+  size,
+  Spot,
+  spot,
+  tree,
+  first,
+  piece,
+  number,
+  Child,
+  catenation-left,
+  catenation-right,
+  union-left,
+  union-right,
+  operand,
+  under,
+  In,
+  here,
+  step,
+  in-child,
+  Plain,
+  in-fine,
+  Stand-in,
+  stand-in,
+  stand-in-reaches,
+  in-reaches,
+  one-stand-in,
+  piece-below,
+}
 use Rattle.tables.specs.Filling.{Tables, tables, Room, Placed, Same-place, Filled, still-placed}
 use Rattle.tables.specs.Walking.{Sits, sits, Visited, Ready, filled-ends, room-kept}
 use Rattle.tables.specs.Counting.{Top, Listed, Counted, Node, Runs, node-listed, few-runs}
@@ -23,101 +66,116 @@ in-in here m = m
 in-in (step c l) m = step c (in-in l m)
 
 -- the whole tree stands at the first record, in the piece 0
-abbrev pub whole-spot : Nested ℕ → Spot
+abbrev pub whole-spot : Nested Leaf → Spot
 whole-spot x = spot x 0 0 1 0
 
 -- y is the tree of the piece n with the child pieces below it, and its records begin at f
-pub data Head (x : Nested ℕ) : (y : Nested ℕ) (f n : ℕ) → Type 0 where
+pub data Head (x : Nested Leaf) : (y : Nested Leaf) (f n : ℕ) → Type 0 where
   root : Head x x 0 0
-  child : {y : Nested ℕ} {f p n i : ℕ} → In (whole-spot x) (spot (below y) f p n i) → Head x y f n
+  child : {y : Nested Leaf} {f p n i : ℕ} → In (whole-spot x) (spot (below y) f p n i) → Head x y f n
 
 -- the top of a piece
-abbrev pub head-spot : Nested ℕ → (f n : ℕ) → Spot
+abbrev pub head-spot : Nested Leaf → (f n : ℕ) → Spot
 head-spot y f n = spot y f n (n + 1) 0
 
 -- a piece's top lies in the whole tree
-pub head-in : {x y : Nested ℕ} {f n : ℕ} → Head x y f n → In (whole-spot x) (head-spot y f n)
+pub head-in : {x y : Nested Leaf} {f n : ℕ} → Head x y f n → In (whole-spot x) (head-spot y f n)
 head-in root = here
 head-in (child m) = in-child m under
 
 -- the piece k of x
-pub record Piece-of (x : Nested ℕ) (k : ℕ) : Type 0 where
-  pub top : Nested ℕ
+pub record Piece-of (x : Nested Leaf) (k : ℕ) : Type 0 where
+  pub top : Nested Leaf
   pub begin : ℕ
   pub head : Head x top begin k
 
 -- each number below their count is that of a piece
-pub piece-of : (x : Nested ℕ) (k : ℕ) → k < 1 + run x → Piece-of x k
+pub piece-of : (x : Nested Leaf) (k : ℕ) → k < 1 + run x → Piece-of x k
 piece-of x k low =
     elim (decLt 0 k) [
-      | yes h ↦ let found = piece-below x 0 0 1 0 k (omega arith) (omega arith) in record { top = found .top; begin = found .begin; head = child (found .inside) }
+      | yes h ↦ let found = piece-below x 0 0 1 0 k (omega arith) (omega arith) in record {
+        top = found .top;
+        begin =
+            found .begin;
+        head = child (found .inside);
+      }
       | no h ↦ subst (Piece-of x) (omega arith) (record { top = x; begin = 0; head = root })
     ]
 
 -- the piece in which a spot is
-pub record Owner (x : Nested ℕ) (u : Spot) : Type 0 where
-  pub top : Nested ℕ
+pub record Owner (x : Nested Leaf) (u : Spot) : Type 0 where
+  pub top : Nested Leaf
   pub begin : ℕ
   pub head : Head x top begin (piece u)
   pub inside : In (head-spot top begin (piece u)) u
 
 -- a child is in its parent's piece, or is the top of its own
-child-owner : {x : Nested ℕ} {s t : Spot} → Child s t → Owner x s → Owner x t
-child-owner catenation-left o = record { top = o .top; begin = o .begin; head = o .head; inside = in-child (o .inside) catenation-left }
-child-owner catenation-right o = record { top = o .top; begin = o .begin; head = o .head; inside = in-child (o .inside) catenation-right }
-child-owner union-left o = record { top = o .top; begin = o .begin; head = o .head; inside = in-child (o .inside) union-left }
-child-owner union-right o = record { top = o .top; begin = o .begin; head = o .head; inside = in-child (o .inside) union-right }
+child-owner : {x : Nested Leaf} {s t : Spot} → Child s t → Owner x s → Owner x t
+child-owner catenation-left o =
+    record { top = o .top; begin = o .begin; head = o .head; inside = in-child (o .inside) catenation-left }
+child-owner catenation-right o =
+    record { top = o .top; begin = o .begin; head = o .head; inside = in-child (o .inside) catenation-right }
+child-owner union-left o =
+    record { top = o .top; begin = o .begin; head = o .head; inside = in-child (o .inside) union-left }
+child-owner union-right o =
+    record { top = o .top; begin = o .begin; head = o .head; inside = in-child (o .inside) union-right }
 child-owner operand o = record { top = o .top; begin = o .begin; head = o .head; inside = in-child (o .inside) operand }
 child-owner under o = record { top = _; begin = _; head = child (in-in (head-in (o .head)) (o .inside)); inside = here }
 
-in-owner : {x : Nested ℕ} {s t : Spot} → In s t → Owner x s → Owner x t
+in-owner : {x : Nested Leaf} {s t : Spot} → In s t → Owner x s → Owner x t
 in-owner here o = o
 in-owner (step c m) o = in-owner m (child-owner c o)
 
 -- each spot is in a piece
-pub owner : {x : Nested ℕ} {u : Spot} → In (whole-spot x) u → Owner x u
+pub owner : {x : Nested Leaf} {u : Spot} → In (whole-spot x) u → Owner x u
 owner {x} m = in-owner m (record { top = x; begin = 0; head = root; inside = here })
 
 -- all entries of the piece n, which is the top piece of y, are there
-pub record Row-made (y : Nested ℕ) (n : ℕ) (t : Tables) (runs tops : List ℕ) : Type 0 where
+pub record Row-made (y : Nested Leaf) (n : ℕ) (t : Tables) (runs tops : List ℕ) : Type 0 where
   pub words : Lies (t .nexts) (64 * n) (Plan.nexts y 0 0)
   pub leaves : Lies (t .labels) (64 * n) (takes y)
   pub ran : getD runs n 0 ≡ 1 + run y
   pub topped : getD tops n 0 ≡ width y - 1
 
 -- the pieces of x up to k have been made
-pub record Made (x : Nested ℕ) (k : ℕ) (t : Tables) (runs tops : List ℕ) : Type 0 where
+pub record Made (x : Nested Leaf) (k : ℕ) (t : Tables) (runs tops : List ℕ) : Type 0 where
   pub rooted : getD (t .roots) 0 0 + 1 ≡ size x
   pub placed : (u : Spot) (n : ℕ) → In (whole-spot x) u → Stand-in u n → piece u < k → Placed t u n
-  pub rows : {y : Nested ℕ} {f n : ℕ} → Head x y f n → n < k → Row-made y n t runs tops
+  pub rows : {y : Nested Leaf} {f n : ℕ} → Head x y f n → n < k → Row-made y n t runs tops
 
 -- the root's record of a piece whose parent has been made
-head-root : {list : List ℕ} {x y : Nested ℕ} {f n : ℕ} {t : Tables} {runs tops : List ℕ} → Top list x → Made x n t runs tops → Head x y f n → getD (t .roots) n 0 + 1 ≡ f + size y
+head-root : {list : List ℕ} {x y : Nested Leaf} {f n : ℕ} {t : Tables} {runs tops : List ℕ} → Top list x
+    → Made x n t runs tops → Head x y f n → getD (t .roots) n 0 + 1 ≡ f + size y
 head-root top made root = made .rooted ∙ omega arith
 head-root top made (child m) = made .placed _ _ m stand-in (in-fine m (top .fine) .later) .root
 
 -- so the top of the piece sits at that record
-pub head-sits : {list : List ℕ} {x y : Nested ℕ} {f n : ℕ} {t : Tables} {runs tops : List ℕ} → Top list x → Made x n t runs tops → Head x y f n → Sits list (getD (t .roots) n 0) n 0 (head-spot y f n)
+pub head-sits : {list : List ℕ} {x y : Nested Leaf} {f n : ℕ} {t : Tables} {runs tops : List ℕ} → Top list x
+    → Made x n t runs tops → Head x y f n → Sits list (getD (t .roots) n 0) n 0 (head-spot y f n)
 head-sits top made head = sits (in-fine (head-in head) (top .fine)) (head-root top made head)
 
 -- a piece's top is a node
-head-plain : {list : List ℕ} {x y : Nested ℕ} {f n : ℕ} → Top list x → Head x y f n → Plain y
+head-plain : {list : List ℕ} {x y : Nested Leaf} {f n : ℕ} → Top list x → Head x y f n → Plain y
 head-plain top root = top .plain
 head-plain top (child m) = in-fine m (top .fine) .sound .0
 
 -- nothing has been made yet
-pub made-none : (x : Nested ℕ) (t : Tables) (runs tops : List ℕ) → getD (t .roots) 0 0 + 1 ≡ size x → Made x 0 t runs tops
-made-none x t runs tops e = record { rooted = e; placed = λ u n m s low. absurd (omega arith); rows = λ head low. absurd (omega arith) }
+pub made-none : (x : Nested Leaf) (t : Tables) (runs tops : List ℕ) → getD (t .roots) 0 0 + 1 ≡ size x
+    → Made x 0 t runs tops
+made-none x t runs tops e =
+    record { rooted = e; placed = λ u n m s low. absurd (omega arith); rows = λ head low. absurd (omega arith) }
 
 -- the tables when a piece has been walked and its last word set
 abbrev pub closed-row : Tables → (k last : ℕ) → Tables
 closed-row t k last = tables (set (t .nexts) (64 * k + last - 1) 0) (t .labels) (t .stands) (t .roots)
 
-module _ {list : List ℕ} {x : Nested ℕ} (top : Top list x) (k : ℕ) (inside : k < 1 + run x) {t after : Tables} (full : Room after)
+module _ {list : List ℕ} {x : Nested Leaf} (top : Top list x) (k : ℕ) (inside : k < 1 + run x) {t after : Tables}
+    (full : Room after)
     {runs tops : List ℕ} (runs-room : length runs ≡ 128) (tops-room : length tops ≡ 128) (made : Made x k t runs tops)
-    {last r : ℕ} (done : Visited list (getD (t .roots) k 0) k 0 t after last) (counted : Runs list (getD (t .roots) k 0) r) where
+    {last r : ℕ} (done : Visited list (getD (t .roots) k 0) k 0 t after last)
+    (counted : Runs list (getD (t .roots) k 0) r) where
   -- the walk has filled the row of the piece k
-  filled : {y : Nested ℕ} {f : ℕ} → Head x y f k → Filled (head-spot y f k) t after last
+  filled : {y : Nested Leaf} {f : ℕ} → Head x y f k → Filled (head-spot y f k) t after last
   filled head = done _ (head-sits top made head)
 
   -- there is a piece k
@@ -146,18 +204,22 @@ module _ {list : List ℕ} {x : Nested ℕ} (top : Top list x) (k : ℕ) (inside
             let same : piece u ≡ k = omega arith in
             let own = owner m in
             let at : Head x (own .top) (own .begin) k = subst (Head x (own .top) (own .begin)) same (own .head) in
-            let inside-u : In (head-spot (own .top) (own .begin) k) u = subst (λ (p : ℕ). In (head-spot (own .top) (own .begin) p) u) same (own .inside) in
+            let inside-u : In (head-spot (own .top) (own .begin) k) u =
+            subst (λ (p : ℕ). In (head-spot (own .top) (own .begin) p) u) same (own .inside) in
             filled at .placed u n (record { inside = inside-u; stands-for = s; same-piece = same })
       ]
 
   -- the root's record stays
   rooted-more : getD (after .roots) 0 0 + 1 ≡ size x
   rooted-more =
-      let same = this-filled .others 0 (λ v own. omega (arith, in-reaches (in-in (head-in (this .head)) (own .inside)) (stand-in-reaches (own .stands-for)))) in
+      let same = this-filled .others 0
+      (λ v own. omega
+      (arith, in-reaches (in-in (head-in (this .head)) (own .inside)) (stand-in-reaches (own .stands-for)))) in
       ap (λ (n : ℕ). n + 1) (same .root) ∙ made .rooted
 
   -- the row of the piece k is made
-  row-this : {y : Nested ℕ} {f : ℕ} → Head x y f k → Row-made y k (closed-row after k last) (set runs k (r + 1)) (set tops k (last - 1))
+  row-this : {y : Nested Leaf} {f : ℕ} → Head x y f k
+      → Row-made y k (closed-row after k last) (set runs k (r + 1)) (set tops k (last - 1))
   row-this {y} {f} head =
       let part = filled head in
       let e = part .ended in
@@ -167,16 +229,26 @@ module _ {list : List ℕ} {x : Nested ℕ} (top : Top list x) (k : ℕ) (inside
       let room = full .of-nexts in
       let low-k = few in
       let front : Lies (closed-row after k last .nexts) (64 * k) (fronts y 0) =
-      lies-at (lies-same (closed-row after k last .nexts) (part .words) (λ j low high. getD-set-other (after .nexts) (64 * k + last - 1) j 0 0 (λ same. omega arith))) (omega arith) in
+      lies-at (lies-same (closed-row after k last .nexts) (part .words)
+      (λ j low high. getD-set-other (after .nexts) (64 * k + last - 1) j 0 0 (λ same. omega arith)))
+      (omega arith) in
       record {
-        words = lies-is (lies-append front (entry (getD-set-same (after .nexts) (64 * k + last - 1) 0 0 (omega arith)) ends) (omega arith)) (sym (nexts-fronts y 0 0));
+        words = lies-is
+            (lies-append front (entry (getD-set-same (after .nexts) (64 * k + last - 1) 0 0 (omega arith)) ends)
+            (omega arith)) (sym (nexts-fronts y 0 0));
         leaves = lies-at (part .leaves) (omega arith);
-        ran = getD-set-same runs k (r + 1) 0 (omega arith) ∙ omega (arith, counted _ (in-fine (head-in head) (top .fine)) (head-plain top head) (head-root top made head));
+        ran = getD-set-same runs k (r + 1) 0 (omega arith)
+            ∙ omega (
+              arith,
+              counted _ (in-fine (head-in head) (top .fine)) (head-plain top head)
+                  (head-root top made head),
+            );
         topped = getD-set-same tops k (last - 1) 0 (omega arith) ∙ omega arith;
       }
 
   -- the rows before it stay
-  row-before : {y : Nested ℕ} {f n : ℕ} → Head x y f n → n < k → Row-made y n (closed-row after k last) (set runs k (r + 1)) (set tops k (last - 1))
+  row-before : {y : Nested Leaf} {f n : ℕ} → Head x y f n → n < k
+      → Row-made y n (closed-row after k last) (set runs k (r + 1)) (set tops k (last - 1))
   row-before {y} {f} {n} head low =
       let part = this-filled in
       let e = part .ended in
@@ -187,7 +259,8 @@ module _ {list : List ℕ} {x : Nested ℕ} (top : Top list x) (k : ℕ) (inside
       let long-labels = length-takes y in
       record {
         words = lies-same (closed-row after k last .nexts) (row .words)
-            (λ j above high. getD-set-other (after .nexts) (64 * k + last - 1) j 0 0 (λ same. omega arith) ∙ part .words-before j (omega arith));
+            (λ j above high. getD-set-other (after .nexts) (64 * k + last - 1) j 0 0 (λ same. omega arith)
+            ∙ part .words-before j (omega arith));
         leaves = lies-same (after .labels) (row .leaves) (λ j above high. part .leaves-before j (omega arith));
         ran = getD-set-other runs k n (r + 1) 0 (λ same. omega arith) ∙ row .ran;
         topped = getD-set-other tops k n (last - 1) 0 (λ same. omega arith) ∙ row .topped;
@@ -201,55 +274,65 @@ module _ {list : List ℕ} {x : Nested ℕ} (top : Top list x) (k : ℕ) (inside
     rows = λ {y} {f} {n} head low. elim (decLt n k) [
       | yes h ↦ row-before head h
       | no h ↦ let same : k ≡ n = omega arith in
-          subst (λ (m : ℕ). Row-made y m (closed-row after k last) (set runs k (r + 1)) (set tops k (last - 1))) same (row-this (subst (Head x y f) (sym same) head))
+          subst (λ (m : ℕ). Row-made y m (closed-row after k last) (set runs k (r + 1)) (set tops k (last - 1))) same
+          (row-this (subst (Head x y f) (sym same) head))
     ];
   }
 
 -- when all pieces have been made, the tables are those that are wanted
-module _ {list : List ℕ} {x : Nested ℕ} (top : Top list x) {t : Tables} (room : Room t) {runs tops : List ℕ} (made : Made x (1 + run x) t runs tops) where
+module _ {list : List ℕ} {x : Nested Leaf} (top : Top list x) {t : Tables} (room : Room t) {runs tops : List ℕ}
+    (made : Made x (1 + run x) t runs tops) where
   -- the tables without the words
   abbrev told : Plan.Pieces
   told = record { labels = t .labels; runs = runs; stands = t .stands; tops = tops }
 
   -- a piece's number is below their count
-  head-low : {y : Nested ℕ} {f n : ℕ} → Head x y f n → n < 1 + run x
+  head-low : {y : Nested Leaf} {f n : ℕ} → Head x y f n → n < 1 + run x
   head-low root = omega arith
   head-low (child {y = y} {f = f} {p = p} {n = n} {i = i} m) =
       let itself : Stand-in (spot (below y) f p n i) n = stand-in in
       omega (arith, in-reaches m (stand-in-reaches itself))
 
   -- the tables tell of each piece
-  piece-told : {y : Nested ℕ} {f n : ℕ} → Head x y f n → Plan.Piece-at told y n
+  piece-told : {y : Nested Leaf} {f n : ℕ} → Head x y f n → Plan.Piece-at told y n
   piece-told {y} {f} {n} head =
       let row = made .rows head (head-low head) in
       let long = length-takes y in
       let small = in-fine (head-in head) (top .fine) in
       record {
-        labelled = subst (λ (k : ℕ). take k (drop (64 * n) (t .labels)) ≡ takes y) long (lies-row (row .leaves) (omega (arith, room .of-labels, small .narrow, small .later, small .few)));
+        labelled = subst (λ (k : ℕ). take k (drop (64 * n) (t .labels)) ≡ takes y) long
+            (lies-row (row .leaves) (omega (arith, room .of-labels, small .narrow, small .later, small .few)));
         ran = row .ran;
         topped = row .topped;
       }
 
   -- each piece's row has its words
-  words-told : {y : Nested ℕ} {f n : ℕ} → Head x y f n → Plan.Nexts y (Plan.row (t .nexts) n (width y))
+  words-told : {y : Nested Leaf} {f n : ℕ} → Head x y f n → Plan.Nexts y (Plan.row (t .nexts) n (width y))
   words-told {y} {f} {n} head =
       let row = made .rows head (head-low head) in
       let long = length-nexts y 0 0 in
       let small = in-fine (head-in head) (top .fine) in
-      subst (λ (k : ℕ). take k (drop (64 * n) (t .nexts)) ≡ Plan.nexts y 0 0) long (lies-row (row .words) (omega (arith, room .of-nexts, small .narrow, small .later, small .few)))
+      subst (λ (k : ℕ). take k (drop (64 * n) (t .nexts)) ≡ Plan.nexts y 0 0) long
+      (lies-row (row .words) (omega (arith, room .of-nexts, small .narrow, small .later, small .few)))
 
   -- so they do of the child pieces below each spot
-  children-told : (y : Nested ℕ) {f p n i : ℕ} → In (whole-spot x) (spot y f p n i) → Plan.Children-at told y i n
+  children-told : (y : Nested Leaf) {f p n i : ℕ} → In (whole-spot x) (spot y f p n i) → Plan.Children-at told y i n
   children-told (leaf a) m = tt
-  children-told (catenation y z) m = (children-told y (in-child m catenation-left), children-told z (in-child m catenation-right))
+  children-told (catenation y z) m =
+      (children-told y (in-child m catenation-left), children-told z (in-child m catenation-right))
   children-told (union y z) m = (children-told y (in-child m union-left), children-told z (in-child m union-right))
   children-told (star y) m = children-told y (in-child m operand)
-  children-told (below y) m =
-      (made .placed _ _ m stand-in (omega (arith, head-low (child m), in-fine m (top .fine) .later)) .stand, piece-told (child m), children-told y (in-child m under))
+  children-told (below y) m = (
+    made .placed _ _ m stand-in (omega (arith, head-low (child m), in-fine m (top .fine) .later)) .stand,
+    piece-told (child m),
+    children-told y (in-child m under),
+  )
 
-  below-told : (y : Nested ℕ) {f p n i : ℕ} → In (whole-spot x) (spot y f p n i) → Plan.Each-below Plan.Nexts (t .nexts) y n
+  below-told : (y : Nested Leaf) {f p n i : ℕ} → In (whole-spot x) (spot y f p n i)
+      → Plan.Each-below Plan.Nexts (t .nexts) y n
   below-told (leaf a) m = tt
-  below-told (catenation y z) m = (below-told y (in-child m catenation-left), below-told z (in-child m catenation-right))
+  below-told (catenation y z) m =
+      (below-told y (in-child m catenation-left), below-told z (in-child m catenation-right))
   below-told (union y z) m = (below-told y (in-child m union-left), below-told z (in-child m union-right))
   below-told (star y) m = below-told y (in-child m operand)
   below-told (below y) m = (words-told (child m), below-told y (in-child m under))
@@ -268,14 +351,15 @@ pub record Making (list counts : List ℕ) (k : ℕ) (t : Tables) (runs tops : L
   pub room : Room t
   pub runs-room : length runs ≡ 128
   pub tops-room : length tops ≡ 128
-  pub so-far : (x : Nested ℕ) → Top list x → Made x k t runs tops
+  pub so-far : (x : Nested Leaf) → Top list x → Made x k t runs tops
 
 -- k is the number of a piece
 pub record Inside (list : List ℕ) (k : ℕ) : Type 0 where
-  pub below-count : (x : Nested ℕ) → Top list x → k < 1 + run x
+  pub below-count : (x : Nested Leaf) → Top list x → k < 1 + run x
 
 -- what walking the piece k needs, and what it makes
-module _ {list counts : List ℕ} {k : ℕ} {t : Tables} {runs tops : List ℕ} (making : Making list counts k t runs tops) (inside : Inside list k) where
+module _ {list counts : List ℕ} {k : ℕ} {t : Tables} {runs tops : List ℕ} (making : Making list counts k t runs tops)
+    (inside : Inside list k) where
   -- the piece k of the tree that the list has
   the-top : Top list (making .listed .some)
   the-top = making .listed .top
@@ -311,8 +395,11 @@ module _ {list counts : List ℕ} {k : ℕ} {t : Tables} {runs tops : List ℕ} 
     piece-ends = omega (arith, filled-ends the-sits (done _ the-sits))
 
     -- and the pieces up to k + 1 have been made
-    pub piece-made : Room after → (x : Nested ℕ) → Top list x → Made x (k + 1) (closed-row after k last) (set runs k (getD counts (getD (t .roots) k 0) 0 + 1)) (set tops k (last - 1))
-    piece-made full x top = made-more top k (inside .below-count x top) full (making .runs-room) (making .tops-room) (making .so-far x top) done piece-runs
+    pub piece-made : Room after → (x : Nested Leaf) → Top list x
+        → Made x (k + 1) (closed-row after k last) (set runs k (getD counts (getD (t .roots) k 0) 0 + 1))
+        (set tops k (last - 1))
+    piece-made full x top = made-more top k (inside .below-count x top) full (making .runs-room) (making .tops-room)
+        (making .so-far x top) done piece-runs
 
 -- all that storing the piece's numbers needs
 pub record Storable (k last node count : ℕ) : Type 0 where
@@ -322,16 +409,25 @@ pub record Storable (k last node count : ℕ) : Type 0 where
   pub few-nodes : node < 1920
   pub small : count < 128
 
-pub piece-storable : {list counts : List ℕ} {k : ℕ} {t after : Tables} {runs tops : List ℕ} {last : ℕ} → Making list counts k t runs tops → Inside list k
-    → Visited list (getD (t .roots) k 0) k 0 t after last → Storable k last (getD (t .roots) k 0) (getD counts (getD (t .roots) k 0) 0)
+pub piece-storable : {list counts : List ℕ} {k : ℕ} {t after : Tables} {runs tops : List ℕ} {last : ℕ}
+    → Making list counts k t runs tops → Inside list k
+    → Visited list (getD (t .roots) k 0) k 0 t after last
+    → Storable k last (getD (t .roots) k 0) (getD counts (getD (t .roots) k 0) 0)
 piece-storable making inside done =
     let ended = piece-ends making inside done in
     let node = piece-node making inside in
-    record { few = piece-few making inside; two = ended .0; narrow = ended .1; few-nodes = node-listed node .1; small = few-runs node (piece-runs making inside) }
+    record {
+      few = piece-few making inside;
+      two = ended .0;
+      narrow = ended .1;
+      few-nodes = node-listed node .1;
+      small =
+          few-runs node (piece-runs making inside);
+    }
 
 -- the number of the pieces
 pub record Total (list : List ℕ) (total : ℕ) : Type 0 where
-  pub counts-all : (x : Nested ℕ) → Top list x → total ≡ 1 + run x
+  pub counts-all : (x : Nested Leaf) → Top list x → total ≡ 1 + run x
 
 -- each number below the count is that of a piece
 pub total-inside : {list : List ℕ} {k total : ℕ} → Total list total → k < total → Inside list k
@@ -343,9 +439,10 @@ total-few listed all = omega (arith, all .counts-all _ (listed .top), listed .to
 
 -- from one piece to the next
 pub making-more : {list counts : List ℕ} {k : ℕ} {t : Tables} {runs tops : List ℕ} → Making list counts k t runs tops
-    → (nexts labels runs-after stands tops-after roots : List ℕ) → length nexts ≡ length (t .nexts) → length labels ≡ length (t .labels) → length runs-after ≡ length runs
+    → (nexts labels runs-after stands tops-after roots : List ℕ) → length nexts ≡ length (t .nexts)
+    → length labels ≡ length (t .labels) → length runs-after ≡ length runs
     → length stands ≡ length (t .stands) → length tops-after ≡ length tops → length roots ≡ length (t .roots)
-    → ((x : Nested ℕ) → Top list x → Made x (k + 1) (tables nexts labels stands roots) runs-after tops-after)
+    → ((x : Nested Leaf) → Top list x → Made x (k + 1) (tables nexts labels stands roots) runs-after tops-after)
     → Making list counts (k + 1) (tables nexts labels stands roots) runs-after tops-after
 making-more making nexts labels runs-after stands tops-after roots a b c d e f more =
     record {
@@ -358,5 +455,7 @@ making-more making nexts labels runs-after stands tops-after roots a b c d e f m
       so-far = more;
     }
 
-pub making-at : {list counts : List ℕ} {k j : ℕ} {t : Tables} {runs tops : List ℕ} → Making list counts k t runs tops → k ≡ j → Making list counts j t runs tops
-making-at {list} {counts} {t = t} {runs = runs} {tops = tops} making e = subst (λ (m : ℕ). Making list counts m t runs tops) e making
+pub making-at : {list counts : List ℕ} {k j : ℕ} {t : Tables} {runs tops : List ℕ} → Making list counts k t runs tops
+    → k ≡ j → Making list counts j t runs tops
+making-at {list} {counts} {t = t} {runs = runs} {tops = tops} making e =
+    subst (λ (m : ℕ). Making list counts m t runs tops) e making

@@ -9,16 +9,17 @@ use lib.ListN.{length, getD, length-append}
 use lib.Seq.{getD-append-add}
 use Rattle.language.specs.Tree.{nodes}
 use Rattle.language.specs.Nested.{Nested, leaf, catenation, union, star, below, whole}
+use Rattle.tree.specs.Leaf.{Leaf}
 use Rattle.tree.specs.Records.{record-of}
 use Rattle.tree.specs.Stored.{stored}
 use Rattle.tables.specs.Words.{width, run}
 
 -- how many nodes there are, in all pieces
-abbrev pub size : Nested ℕ → ℕ
+abbrev pub size : Nested Leaf → ℕ
 size x = nodes (whole x)
 
 -- the record of x's root
-abbrev pub root-record : Nested ℕ → (first piece new : ℕ) → List ℕ
+abbrev pub root-record : Nested Leaf → (first piece new : ℕ) → List ℕ
 root-record (leaf a) f p n = record-of 1 a 65535 65535 p
 root-record (catenation x y) f p n = record-of 2 0 (f + size x - 1) (f + size x + size y - 1) p
 root-record (union x y) f p n = record-of 3 0 (f + size x - 1) (f + size x + size y - 1) p
@@ -26,7 +27,7 @@ root-record (star x) f p n = record-of 4 0 (f + size x - 1) 65535 p
 root-record (below x) f p n = root-record x f n (n + 1)
 
 -- there is a node at least: the root
-pub size-positive : (x : Nested ℕ) → 1 ≤ size x
+pub size-positive : (x : Nested Leaf) → 1 ≤ size x
 size-positive (leaf a) = omega arith
 size-positive (catenation x y) = omega arith
 size-positive (union x y) = omega arith
@@ -34,7 +35,7 @@ size-positive (star x) = omega arith
 size-positive (below x) = size-positive x
 
 -- the records before x's root
-abbrev inner : Nested ℕ → (first piece new : ℕ) → List ℕ
+abbrev inner : Nested Leaf → (first piece new : ℕ) → List ℕ
 inner (leaf a) f p n = []
 inner (catenation x y) f p n = stored x f p n ++ stored y (f + size x) p (n + run x)
 inner (union x y) f p n = stored x f p n ++ stored y (f + size x) p (n + run x)
@@ -42,7 +43,7 @@ inner (star x) f p n = stored x f p n
 inner (below x) f p n = inner x f n (n + 1)
 
 -- x's root is stored last
-stored-inner : (x : Nested ℕ) (f p n : ℕ) → stored x f p n ≡ inner x f p n ++ root-record x f p n
+stored-inner : (x : Nested Leaf) (f p n : ℕ) → stored x f p n ≡ inner x f p n ++ root-record x f p n
 stored-inner (leaf a) f p n = refl
 stored-inner (catenation x y) f p n = refl
 stored-inner (union x y) f p n = refl
@@ -50,18 +51,22 @@ stored-inner (star x) f p n = refl
 stored-inner (below x) f p n = stored-inner x f n (n + 1)
 
 -- 8 bytes for each node
-pub length-stored : (x : Nested ℕ) (f p n : ℕ) → length (stored x f p n) ≡ 8 * size x
+pub length-stored : (x : Nested Leaf) (f p n : ℕ) → length (stored x f p n) ≡ 8 * size x
 length-stored (leaf a) f p n = refl
-length-stored (catenation x y) f p n = let e = length-stored x in let g = length-stored y in simp (length-append, e, g) (omega arith)
-length-stored (union x y) f p n = let e = length-stored x in let g = length-stored y in simp (length-append, e, g) (omega arith)
+length-stored (catenation x y) f p n = let e = length-stored x in let g =
+    length-stored y in simp (length-append, e, g) (omega arith)
+length-stored (union x y) f p n = let e = length-stored x in let g =
+    length-stored y in simp (length-append, e, g) (omega arith)
 length-stored (star x) f p n = let e = length-stored x in simp (length-append, e) (omega arith)
 length-stored (below x) f p n = length-stored x f n (n + 1)
 
 -- 8 bytes for each node but the root
-length-inner : (x : Nested ℕ) (f p n : ℕ) → length (inner x f p n) + 8 ≡ 8 * size x
+length-inner : (x : Nested Leaf) (f p n : ℕ) → length (inner x f p n) + 8 ≡ 8 * size x
 length-inner (leaf a) f p n = refl
-length-inner (catenation x y) f p n = let e = length-stored x in let g = length-stored y in simp (length-append, e, g) (omega arith)
-length-inner (union x y) f p n = let e = length-stored x in let g = length-stored y in simp (length-append, e, g) (omega arith)
+length-inner (catenation x y) f p n = let e = length-stored x in let g =
+    length-stored y in simp (length-append, e, g) (omega arith)
+length-inner (union x y) f p n = let e = length-stored x in let g =
+    length-stored y in simp (length-append, e, g) (omega arith)
 length-inner (star x) f p n = let e = length-stored x in simp e (omega arith)
 length-inner (below x) f p n = length-inner x f n (n + 1)
 
@@ -82,11 +87,13 @@ byte-past : (before rest : List ℕ) (m k : ℕ) → length before ≡ m → get
 byte-past before rest m k e = rw (← e) (getD-append-add before rest k 0)
 
 -- a record that stands in the list after r others shows its fields
-shows : (before after : List ℕ) (r kind character left right piece : ℕ) → length before ≡ 8 * r → left < 65536 → right < 65536 → piece < 65536
+shows : (before after : List ℕ) (r kind character left right piece : ℕ) → length before ≡ 8 * r → left < 65536
+    → right < 65536 → piece < 65536
     → Shows (before ++ (record-of kind character left right piece ++ after)) r kind character left right piece
 shows before after r kind character left right piece e small-left small-right small-piece =
     let rest = record-of kind character left right piece ++ after in
-    let at : (k m : ℕ) → 8 * r + k ≡ m → getD (before ++ rest) m 0 ≡ getD rest k 0 = λ k m h. rw (← h) (byte-past before rest (8 * r) k e) in
+    let at : (k m : ℕ) → 8 * r + k ≡ m → getD (before ++ rest) m 0 ≡ getD rest k 0 =
+    λ k m h. rw (← h) (byte-past before rest (8 * r) k e) in
     record {
       kind-byte = at 0 _ (omega arith);
       character-byte = at 1 _ (omega arith);
@@ -98,10 +105,10 @@ shows before after r kind character left right piece e small-left small-right sm
 -- a node, or a stand-in with the child piece below it, and where it stands: the number of its first record, its piece,
 -- the number from which the child pieces below it are numbered, and the number of its start in its piece
 pub data Spot : Type 0 where
-  spot : Nested ℕ → (first piece new number : ℕ) → Spot
+  spot : Nested Leaf → (first piece new number : ℕ) → Spot
 
 -- the spot's node, with all below it
-abbrev pub tree : Spot → Nested ℕ
+abbrev pub tree : Spot → Nested Leaf
 tree (spot x f p n i) = x
 
 -- the number of the spot's first record
@@ -122,12 +129,14 @@ number (spot x f p n i) = i
 
 -- the second spot is a child of the first; a stand-in's child is the top of the child piece
 pub data Child : Spot → Spot → Type 0 where
-  catenation-left : {x y : Nested ℕ} {f p n i : ℕ} → Child (spot (catenation x y) f p n i) (spot x f p n (i + 1))
-  catenation-right : {x y : Nested ℕ} {f p n i : ℕ} → Child (spot (catenation x y) f p n i) (spot y (f + size x) p (n + run x) (i + (1 + width x)))
-  union-left : {x y : Nested ℕ} {f p n i : ℕ} → Child (spot (union x y) f p n i) (spot x f p n (i + 1))
-  union-right : {x y : Nested ℕ} {f p n i : ℕ} → Child (spot (union x y) f p n i) (spot y (f + size x) p (n + run x) (i + (1 + width x)))
-  operand : {x : Nested ℕ} {f p n i : ℕ} → Child (spot (star x) f p n i) (spot x f p n (i + 1))
-  under : {x : Nested ℕ} {f p n i : ℕ} → Child (spot (below x) f p n i) (spot x f n (n + 1) 0)
+  catenation-left : {x y : Nested Leaf} {f p n i : ℕ} → Child (spot (catenation x y) f p n i) (spot x f p n (i + 1))
+  catenation-right : {x y : Nested Leaf} {f p n i : ℕ}
+      → Child (spot (catenation x y) f p n i) (spot y (f + size x) p (n + run x) (i + (1 + width x)))
+  union-left : {x y : Nested Leaf} {f p n i : ℕ} → Child (spot (union x y) f p n i) (spot x f p n (i + 1))
+  union-right : {x y : Nested Leaf} {f p n i : ℕ}
+      → Child (spot (union x y) f p n i) (spot y (f + size x) p (n + run x) (i + (1 + width x)))
+  operand : {x : Nested Leaf} {f p n i : ℕ} → Child (spot (star x) f p n i) (spot x f p n (i + 1))
+  under : {x : Nested Leaf} {f p n i : ℕ} → Child (spot (below x) f p n i) (spot x f n (n + 1) 0)
 
 -- the second spot is the first or lies below it
 pub data In : Spot → Spot → Type 0 where
@@ -140,7 +149,7 @@ in-child here c = step c here
 in-child (step d m) c = step d (in-child m c)
 
 -- the root is a node of the tree and no stand-in
-abbrev pub Plain : Nested ℕ → Type 0
+abbrev pub Plain : Nested Leaf → Type 0
 Plain (leaf a) = Unit {0}
 Plain (catenation x y) = Unit {0}
 Plain (union x y) = Unit {0}
@@ -148,7 +157,7 @@ Plain (star x) = Unit {0}
 Plain (below x) = ⊥
 
 -- below each stand-in stands the top node of a child piece with at most 62 states
-abbrev pub Sound : Nested ℕ → Type 0
+abbrev pub Sound : Nested Leaf → Type 0
 Sound (leaf a) = Unit {0}
 Sound (catenation x y) = Sound x × Sound y
 Sound (union x y) = Sound x × Sound y
@@ -172,20 +181,28 @@ pub record Fine (list : List ℕ) (s : Spot) : Type 0 where
   pub sound : Sound (tree s)
 
 -- three parts, and what is before and after them
-regroup : (before xs ys zs after : List ℕ) → before ++ ((xs ++ ys ++ zs) ++ after) ≡ before ++ (xs ++ (ys ++ (zs ++ after)))
+regroup : (before xs ys zs after : List ℕ) → before ++ ((xs ++ ys ++ zs) ++ after) ≡ before
+    ++ (xs ++ (ys ++ (zs ++ after)))
 regroup before xs ys zs after = simp append-assoc
 
 -- the records of the first and of the second of three parts
-written-left : {list : List ℕ} (xs ys zs before after : List ℕ) → list ≡ before ++ ((xs ++ ys ++ zs) ++ after) → list ≡ before ++ (xs ++ (ys ++ (zs ++ after)))
+written-left : {list : List ℕ} (xs ys zs before after : List ℕ) → list ≡ before ++ ((xs ++ ys ++ zs) ++ after)
+    → list ≡ before ++ (xs ++ (ys ++ (zs ++ after)))
 written-left xs ys zs before after e = e ∙ regroup before xs ys zs after
 
-written-right : {list : List ℕ} (xs ys zs before after : List ℕ) → list ≡ before ++ ((xs ++ ys ++ zs) ++ after) → list ≡ (before ++ xs) ++ (ys ++ (zs ++ after))
+written-right : {list : List ℕ} (xs ys zs before after : List ℕ) → list ≡ before ++ ((xs ++ ys ++ zs) ++ after)
+    → list ≡ (before ++ xs) ++ (ys ++ (zs ++ after))
 written-right xs ys zs before after e = e ∙ regroup before xs ys zs after ∙ sym (append-assoc before xs _)
 
 -- a child's records stand within its parent's
 child-written : {list : List ℕ} {s t : Spot} → Child s t → Written list s → Written list t
 child-written (catenation-left {x = x} {y = y} {f = f} {p = p} {n = n}) w =
-    record { before = w .before; after = _; parts = written-left (stored x f p n) _ _ (w .before) (w .after) (w .parts); begins = w .begins }
+    record {
+      before = w .before;
+      after = _;
+      parts = written-left (stored x f p n) _ _ (w .before) (w .after) (w .parts);
+      begins = w .begins;
+    }
 child-written (catenation-right {x = x} {y = y} {f = f} {p = p} {n = n}) w =
     record {
       before = w .before ++ stored x f p n;
@@ -194,7 +211,12 @@ child-written (catenation-right {x = x} {y = y} {f = f} {p = p} {n = n}) w =
       begins = let e = w .begins in let g = length-stored x f p n in simp length-append (omega arith);
     }
 child-written (union-left {x = x} {y = y} {f = f} {p = p} {n = n}) w =
-    record { before = w .before; after = _; parts = written-left (stored x f p n) _ _ (w .before) (w .after) (w .parts); begins = w .begins }
+    record {
+      before = w .before;
+      after = _;
+      parts = written-left (stored x f p n) _ _ (w .before) (w .after) (w .parts);
+      begins = w .begins;
+    }
 child-written (union-right {x = x} {y = y} {f = f} {p = p} {n = n}) w =
     record {
       before = w .before ++ stored x f p n;
@@ -203,23 +225,76 @@ child-written (union-right {x = x} {y = y} {f = f} {p = p} {n = n}) w =
       begins = let e = w .begins in let g = length-stored x f p n in simp length-append (omega arith);
     }
 child-written (operand {x = x} {f = f} {p = p} {n = n}) w =
-    record { before = w .before; after = _; parts = w .parts ∙ ap (λ (l : List ℕ). w .before ++ l) (append-assoc (stored x f p n) _ (w .after)); begins = w .begins }
+    record {
+      before = w .before;
+      after = _;
+      parts =
+          w .parts ∙ ap (λ (l : List ℕ). w .before ++ l) (append-assoc (stored x f p n) _ (w .after));
+      begins =
+          w .begins;
+    }
 child-written under w = record { before = w .before; after = w .after; parts = w .parts; begins = w .begins }
 
 -- the children of a spot within bounds are so too
 pub child-fine : {list : List ℕ} {s t : Spot} → Child s t → Fine list s → Fine list t
 child-fine (catenation-left {x = x} {y = y}) h =
-    record { written = child-written catenation-left (h .written); later = h .later; few = omega arith; narrow = omega arith; short = omega arith; sound = h .sound .0 }
+    record {
+      written = child-written catenation-left (h .written);
+      later = h .later;
+      few = omega arith;
+      narrow =
+          omega arith;
+      short = omega arith;
+      sound = h .sound .0;
+    }
 child-fine (catenation-right {x = x} {y = y}) h =
-    record { written = child-written catenation-right (h .written); later = omega arith; few = omega arith; narrow = omega arith; short = omega arith; sound = h .sound .1 }
+    record {
+      written = child-written catenation-right (h .written);
+      later = omega arith;
+      few = omega arith;
+      narrow =
+          omega arith;
+      short = omega arith;
+      sound = h .sound .1;
+    }
 child-fine (union-left {x = x} {y = y}) h =
-    record { written = child-written union-left (h .written); later = h .later; few = omega arith; narrow = omega arith; short = omega arith; sound = h .sound .0 }
+    record {
+      written = child-written union-left (h .written);
+      later = h .later;
+      few = omega arith;
+      narrow = omega arith;
+      short = omega arith;
+      sound = h .sound .0;
+    }
 child-fine (union-right {x = x} {y = y}) h =
-    record { written = child-written union-right (h .written); later = omega arith; few = omega arith; narrow = omega arith; short = omega arith; sound = h .sound .1 }
+    record {
+      written = child-written union-right (h .written);
+      later = omega arith;
+      few = omega arith;
+      narrow =
+          omega arith;
+      short = omega arith;
+      sound = h .sound .1;
+    }
 child-fine (operand {x = x}) h =
-    record { written = child-written operand (h .written); later = h .later; few = omega arith; narrow = omega arith; short = omega arith; sound = h .sound }
+    record {
+      written = child-written operand (h .written);
+      later = h .later;
+      few = omega arith;
+      narrow = omega arith;
+      short = omega arith;
+      sound = h .sound;
+    }
 child-fine (under {x = x}) h =
-    record { written = child-written under (h .written); later = omega arith; few = omega arith; narrow = omega (arith, h .sound .1); short = omega arith; sound = h .sound .2 }
+    record {
+      written = child-written under (h .written);
+      later = omega arith;
+      few = omega arith;
+      narrow =
+          omega (arith, h .sound .1);
+      short = omega arith;
+      sound = h .sound .2;
+    }
 
 -- and so is all that lies below it
 pub in-fine : {list : List ℕ} {s t : Spot} → In s t → Fine list s → Fine list t
@@ -227,32 +302,41 @@ in-fine here h = h
 in-fine (step c m) h = in-fine m (child-fine c h)
 
 -- the root's record of a spot in the list
-root-shows : {list : List ℕ} {s : Spot} → Written list s → (r kind character left right own : ℕ) → r + 1 ≡ first s + size (tree s)
-    → root-record (tree s) (first s) (piece s) (new s) ≡ record-of kind character left right own → left < 65536 → right < 65536 → own < 65536
+root-shows : {list : List ℕ} {s : Spot} → Written list s → (r kind character left right own : ℕ)
+    → r + 1 ≡ first s + size (tree s)
+    → root-record (tree s) (first s) (piece s) (new s) ≡ record-of kind character left right own → left < 65536
+    → right < 65536 → own < 65536
     → Shows list r kind character left right own
 root-shows {list} {s = spot x f p n i} w r kind character left right own at e small-left small-right small-piece =
     let split : list ≡ (w .before ++ inner x f p n) ++ (record-of kind character left right own ++ w .after) =
-    w .parts ∙ ap (λ (l : List ℕ). w .before ++ (l ++ w .after)) (stored-inner x f p n ∙ ap (λ (l : List ℕ). inner x f p n ++ l) e) ∙ simp append-assoc in
+    w .parts ∙ ap (λ (l : List ℕ). w .before ++ (l ++ w .after))
+    (stored-inner x f p n ∙ ap (λ (l : List ℕ). inner x f p n ++ l) e) ∙ simp append-assoc in
     let begins = w .begins in
     let long = length-inner x f p n in
-    rw split (shows (w .before ++ inner x f p n) (w .after) r kind character left right own (simp length-append (omega arith)) small-left small-right small-piece)
+    rw split (shows (w .before ++ inner x f p n) (w .after) r kind character left right own
+    (simp length-append (omega arith)) small-left small-right small-piece)
 
 module _ {list : List ℕ} {f p n i : ℕ} where
   -- what the record of a node shows, by the node's kind
-  pub leaf-shows : {a : ℕ} → Fine list (spot (leaf a) f p n i) → (r : ℕ) → r + 1 ≡ f + 1 → Shows list r 1 a 65535 65535 p
+  pub leaf-shows : {a : ℕ} → Fine list (spot (leaf a) f p n i) → (r : ℕ) → r + 1 ≡ f + 1
+      → Shows list r 1 a 65535 65535 p
   leaf-shows h r at = root-shows (h .written) r _ _ _ _ _ at refl (omega arith) (omega arith) (omega arith)
 
-  pub catenation-shows : {x y : Nested ℕ} → Fine list (spot (catenation x y) f p n i) → (r : ℕ) → r + 1 ≡ f + size (catenation x y) → Shows list r 2 0 (f + size x - 1) (f + size x + size y - 1) p
+  pub catenation-shows : {x y : Nested Leaf} → Fine list (spot (catenation x y) f p n i) → (r : ℕ)
+      → r + 1 ≡ f + size (catenation x y) → Shows list r 2 0 (f + size x - 1) (f + size x + size y - 1) p
   catenation-shows h r at = root-shows (h .written) r _ _ _ _ _ at refl (omega arith) (omega arith) (omega arith)
 
-  pub union-shows : {x y : Nested ℕ} → Fine list (spot (union x y) f p n i) → (r : ℕ) → r + 1 ≡ f + size (union x y) → Shows list r 3 0 (f + size x - 1) (f + size x + size y - 1) p
+  pub union-shows : {x y : Nested Leaf} → Fine list (spot (union x y) f p n i) → (r : ℕ) → r + 1 ≡ f + size (union x y)
+      → Shows list r 3 0 (f + size x - 1) (f + size x + size y - 1) p
   union-shows h r at = root-shows (h .written) r _ _ _ _ _ at refl (omega arith) (omega arith) (omega arith)
 
-  pub star-shows : {x : Nested ℕ} → Fine list (spot (star x) f p n i) → (r : ℕ) → r + 1 ≡ f + size (star x) → Shows list r 4 0 (f + size x - 1) 65535 p
+  pub star-shows : {x : Nested Leaf} → Fine list (spot (star x) f p n i) → (r : ℕ) → r + 1 ≡ f + size (star x)
+      → Shows list r 4 0 (f + size x - 1) 65535 p
   star-shows h r at = root-shows (h .written) r _ _ _ _ _ at refl (omega arith) (omega arith) (omega arith)
 
 -- the piece that a node's record shows is the node's
-pub piece-shows : {list : List ℕ} {f p n i : ℕ} (x : Nested ℕ) → Plain x → Fine list (spot x f p n i) → (r : ℕ) → r + 1 ≡ f + size x → word list (8 * r + 6) ≡ p
+pub piece-shows : {list : List ℕ} {f p n i : ℕ} (x : Nested Leaf) → Plain x → Fine list (spot x f p n i) → (r : ℕ)
+    → r + 1 ≡ f + size x → word list (8 * r + 6) ≡ p
 piece-shows (leaf a) plain h r at = leaf-shows h r at .piece-word
 piece-shows (catenation x y) plain h r at = catenation-shows h r at .piece-word
 piece-shows (union x y) plain h r at = union-shows h r at .piece-word
@@ -299,7 +383,7 @@ same-child under under h g = refl
 
 -- the spot is the stand-in of the child piece k
 pub data Stand-in : Spot → ℕ → Type 0 where
-  stand-in : {x : Nested ℕ} {f p n i : ℕ} → Stand-in (spot (below x) f p n i) n
+  stand-in : {x : Nested Leaf} {f p n i : ℕ} → Stand-in (spot (below x) f p n i) n
 
 -- a stand-in has its child piece below it
 pub stand-in-reaches : {s : Spot} {k : ℕ} → Stand-in s k → Reaches-piece s k
@@ -340,13 +424,14 @@ node-below : {s t : Spot} {r : ℕ} → Child s t → Node-at t r → Node-at s 
 node-below c h = record { at = h .at; inside = step c (h .inside); plain = h .plain; is-root = h .is-root }
 
 -- each record of a spot is the root of a node below it
-pub node-at : (x : Nested ℕ) (f p n i r : ℕ) → f ≤ r → r < f + size x → Node-at (spot x f p n i) r
+pub node-at : (x : Nested Leaf) (f p n i r : ℕ) → f ≤ r → r < f + size x → Node-at (spot x f p n i) r
 node-at (leaf a) f p n i r low high = record { at = _; inside = here; plain = tt; is-root = omega arith }
 node-at (catenation x y) f p n i r low high =
     elim (decLt r (f + size x)) [
       | yes h ↦ node-below catenation-left (node-at x f p n (i + 1) r low h)
       | no h ↦ elim (decLt r (f + size x + size y)) [
-        | yes g ↦ node-below catenation-right (node-at y (f + size x) p (n + run x) (i + (1 + width x)) r (omega arith) g)
+        | yes g ↦ node-below catenation-right
+            (node-at y (f + size x) p (n + run x) (i + (1 + width x)) r (omega arith) g)
         | no g ↦ record { at = _; inside = here; plain = tt; is-root = omega arith }
       ]
     ]
@@ -367,7 +452,7 @@ node-at (below x) f p n i r low high = node-below under (node-at x f n (n + 1) 0
 
 -- the stand-in of the child piece k below a spot: `top` is the top piece's tree, and its records begin at `begin`
 pub record Piece-below (s : Spot) (k : ℕ) : Type 0 where
-  pub top : Nested ℕ
+  pub top : Nested Leaf
   pub begin : ℕ
   pub parent : ℕ
   pub place : ℕ
@@ -375,24 +460,40 @@ pub record Piece-below (s : Spot) (k : ℕ) : Type 0 where
 
 -- a child piece below a child is below its parent
 piece-under : {s t : Spot} {k : ℕ} → Child s t → Piece-below t k → Piece-below s k
-piece-under c h = record { top = h .top; begin = h .begin; parent = h .parent; place = h .place; inside = step c (h .inside) }
+piece-under c h = record {
+  top = h .top;
+  begin = h .begin;
+  parent = h .parent;
+  place = h .place;
+  inside =
+      step c (h .inside);
+}
 
 -- each child piece below a spot has a stand-in below it
-pub piece-below : (x : Nested ℕ) (f p n i k : ℕ) → n ≤ k → k < n + run x → Piece-below (spot x f p n i) k
+pub piece-below : (x : Nested Leaf) (f p n i k : ℕ) → n ≤ k → k < n + run x → Piece-below (spot x f p n i) k
 piece-below (leaf a) f p n i k low high = absurd (omega arith)
 piece-below (catenation x y) f p n i k low high =
     elim (decLt k (n + run x)) [
       | yes h ↦ piece-under catenation-left (piece-below x f p n (i + 1) k low h)
-      | no h ↦ piece-under catenation-right (piece-below y (f + size x) p (n + run x) (i + (1 + width x)) k (omega arith) (omega arith))
+      | no h ↦ piece-under catenation-right
+          (piece-below y (f + size x) p (n + run x) (i + (1 + width x)) k (omega arith) (omega arith))
     ]
 piece-below (union x y) f p n i k low high =
     elim (decLt k (n + run x)) [
       | yes h ↦ piece-under union-left (piece-below x f p n (i + 1) k low h)
-      | no h ↦ piece-under union-right (piece-below y (f + size x) p (n + run x) (i + (1 + width x)) k (omega arith) (omega arith))
+      | no h ↦ piece-under union-right
+          (piece-below y (f + size x) p (n + run x) (i + (1 + width x)) k (omega arith) (omega arith))
     ]
 piece-below (star x) f p n i k low high = piece-under operand (piece-below x f p n (i + 1) k low high)
 piece-below (below x) f p n i k low high =
     elim (decLt n k) [
       | yes h ↦ piece-under under (piece-below x f n (n + 1) 0 k (omega arith) (omega arith))
-      | no h ↦ record { top = x; begin = f; parent = p; place = i; inside = subst (λ (m : ℕ). In (spot (below x) f p n i) (spot (below x) f p m i)) (omega arith) here }
+      | no h ↦ record {
+        top = x;
+        begin = f;
+        parent = p;
+        place = i;
+        inside =
+            subst (λ (m : ℕ). In (spot (below x) f p n i) (spot (below x) f p m i)) (omega arith) here;
+      }
     ]

@@ -10,6 +10,7 @@ use Rattle.language.specs.Tree.{Tree}
 use Rattle.language.specs.Language.{Is, Matches}
 use Rattle.language.specs.Automaton.{Started, After}
 use Rattle.language.specs.Nested.{Models}
+use Rattle.tree.specs.Leaf.{Leaf}
 use Rattle.tree.specs.Records.{piece-count}
 use Rattle.tree.specs.Pieces.{cut-up}
 use Rattle.tables.specs.Words.{Bit, Holds, Clean}
@@ -20,7 +21,7 @@ pub record Noted (reach labels : List ℕ) (k : ℕ) : Type 0 where
   pub leaves : (i : ℕ) → i < 62 → (getD labels (64 * k + i) 0 ≡ 0 → ⊥) → Bit (getD reach (64 * k + 63) 0) i
 
 -- the tables are those of t: of its pieces, and document 002's table of each, with its leaves noted
-pub record Prepared (t : Tree ℕ) (reach labels runs stands tops : List ℕ) (count : ℕ) : Type 0 where
+pub record Prepared (t : Tree Leaf) (reach labels runs stands tops : List ℕ) (count : ℕ) : Type 0 where
   pub planned : Planned (record { labels = labels; runs = runs; stands = stands; tops = tops }) (cut-up t)
   pub reached : Each Reaches reach (cut-up t)
   pub noted : (k : ℕ) → k < count → Noted reach labels k
@@ -38,14 +39,14 @@ pub record Roomy (reach labels runs stands tops : List ℕ) : Type 0 where
 -- the tables are those of some tree
 pub record Ready (reach labels runs stands tops : List ℕ) (count : ℕ) : Type 0 where
   pub roomy : Roomy reach labels runs stands tops
-  pub of-tree : (t : Tree ℕ) × Prepared t reach labels runs stands tops count
+  pub of-tree : (t : Tree Leaf) × Prepared t reach labels runs stands tops count
 
 -- the words hold the marks of the plain simulation after the text w, and no bit past a last state
-pub record Holding (t : Tree ℕ) (w words : List ℕ) : Type 0 where
+pub record Holding (t : Tree Leaf) (w words : List ℕ) : Type 0 where
   pub modelled : Models (cut-up t) (Holds (cut-up t) words) (After Is t w (Started t))
   pub clean : Clean (cut-up t) words
 
 -- the words hold the marks after the text w, and `yes` says whether w is in the language
-pub record Answered (t : Tree ℕ) (w words : List ℕ) (yes : Bool) : Type 0 where
+pub record Answered (t : Tree Leaf) (w words : List ℕ) (yes : Bool) : Type 0 where
   pub holding : Holding t w words
   pub answer : (yes ≡ true) ↔ Matches t w

@@ -36,7 +36,8 @@ Own (star x) (right q) = ⊥
 Own (below x) (left q) = ⊥
 Own (below x) (right q) = ⊥
 
--- the number of a state of the top piece: in a walk of its own tree a start is numbered on entry and an accepting state on leaving, from 0
+-- the number of a state of the top piece: in a walk of its own tree a start is numbered on entry and an accepting state
+-- on leaving, from 0
 abbrev pub number : {A : Type 0} → Nested A → State → ℕ
 number x start = 0
 number (leaf a) accepting = 1
@@ -55,7 +56,8 @@ number (star x) (right q) = 0
 number (below x) (left q) = 0
 number (below x) (right q) = 0
 
--- which states are marked. In a walk of the piece's own tree a start is numbered on entry and an accepting state on leaving: x's are
+-- which states are marked. In a walk of the piece's own tree a start is numbered on entry and an accepting state on
+-- leaving: x's are
 -- numbered from i, and their bits stand in the word w. The words of the child pieces below x are at the beginning of ws
 abbrev pub Marked : {A : Type 0} → Nested A → ℕ → ℕ → List ℕ → States
 Marked (leaf a) w i ws start = Bit w i

@@ -1,4 +1,5 @@
-// A piece's row of entries, filled by a walk of the piece's own tree: the words of the empty transitions and the labels of the states.
+// A piece's row of entries, filled by a walk of the piece's own tree: the words of the empty transitions and the labels
+// of the states.
 use crate::fields::field;
 use crate::fields::kind_of;
 ghost use mathlib.Core.Path.{_≡_};
@@ -91,7 +92,9 @@ fn leaf(
     requires { ⌜ Wide (now nexts) (now labels) ⌝ }
     ensures { λ r. ⌜ r ≡ at + 2 ⌝ }
     ensures { λ _. ⌜ now (nexts .exit) ≡ set (now (nexts .entry)) (64 * piece + at) 0 ⌝ }
-    ensures { λ _. ⌜ now (labels .exit) ≡ set (set (now (labels .entry)) (64 * piece + at) (getD (now (list .entry)) (8 * node + 1) 0 + 1)) (64 * piece + at + 1) 0 ⌝ }
+    ensures { λ _. ⌜ now (labels .exit)
+        ≡ set (set (now (labels .entry)) (64 * piece + at) (getD (now (list .entry)) (8 * node + 1) 0 + 1))
+        (64 * piece + at + 1) 0 ⌝ }
 {
     pair(nexts, labels, 64 * piece + at, label(list[8 * node + 1]));
     at + 2
@@ -111,7 +114,9 @@ fn stand(
     requires { ⌜ (child < 128) × (node < 65536) × (piece < 128) × (at + 2 ≤ 62) ⌝ }
     requires { ⌜ Room (tables (now nexts) (now labels) (now stands) (now roots)) ⌝ }
     ensures { λ r. ⌜ r ≡ at + 2 ⌝ }
-    ensures { λ _. ⌜ tables (now (nexts .exit)) (now (labels .exit)) (now (stands .exit)) (now (roots .exit)) ≡ stand-entries (tables (now (nexts .entry)) (now (labels .entry)) (now (stands .entry)) (now (roots .entry))) (64 * piece + at) child at node ⌝ }
+    ensures { λ _. ⌜ tables (now (nexts .exit)) (now (labels .exit)) (now (stands .exit)) (now (roots .exit))
+        ≡ stand-entries (tables (now (nexts .entry)) (now (labels .entry)) (now (stands .entry)) (now (roots .entry)))
+        (64 * piece + at) child at node ⌝ }
 {
     pair(nexts, labels, 64 * piece + at, 0);
     stands[child] = at as u8;
@@ -132,7 +137,9 @@ fn join(
     requires { ⌜ (piece < 128) × (at < middle) × (middle ≤ last) × (last < 62) ⌝ }
     requires { ⌜ Wide (now nexts) (now labels) ⌝ }
     ensures { λ r. ⌜ r ≡ last + 1 ⌝ }
-    ensures { λ _. ⌜ now (nexts .exit) ≡ thrice (now (nexts .entry)) (64 * piece + at) (64 * piece + middle - 1) (64 * piece + last - 1) (start-word kind at middle) (left-exit kind at middle last) (right-exit kind at middle last) ⌝ }
+    ensures { λ _. ⌜ now (nexts .exit) ≡ thrice (now (nexts .entry)) (64 * piece + at) (64 * piece + middle - 1)
+        (64 * piece + last - 1) (start-word kind at middle) (left-exit kind at middle last)
+        (right-exit kind at middle last) ⌝ }
     ensures { λ _. ⌜ now (labels .exit) ≡ set (set (now (labels .entry)) (64 * piece + at) 0) (64 * piece + last) 0 ⌝ }
 {
     let base = 64 * piece;
@@ -147,7 +154,8 @@ fn join(
     last + 1
 }
 
-// The entries of the part of a piece at and below a record, from the number `at` on, but for the word of its accepting state.
+// The entries of the part of a piece at and below a record, from the number `at` on, but for the word of its accepting
+// state.
 // Gives the number after its last state's. A record of another piece is a stand-in's.
 pub fn fill(
     list: &[u8],
@@ -160,7 +168,9 @@ pub fn fill(
     roots: &mut [u16],
 ) -> usize
     requires { ⌜ Ready (now list) node piece at (tables (now nexts) (now labels) (now stands) (now roots)) ⌝ }
-    ensures { λ r. ⌜ Visited (now (list .entry)) node piece at (tables (now (nexts .entry)) (now (labels .entry)) (now (stands .entry)) (now (roots .entry))) (tables (now (nexts .exit)) (now (labels .exit)) (now (stands .exit)) (now (roots .exit))) r ⌝ }
+    ensures { λ r. ⌜ Visited (now (list .entry)) node piece at
+        (tables (now (nexts .entry)) (now (labels .entry)) (now (stands .entry)) (now (roots .entry)))
+        (tables (now (nexts .exit)) (now (labels .exit)) (now (stands .exit)) (now (roots .exit))) r ⌝ }
 {
     let own = field(list, node, 6);
     if own != piece {

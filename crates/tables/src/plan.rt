@@ -5,6 +5,7 @@ use crate::fill::fill;
 ghost use Prim.Native.Nat.{ℕ, _+_, _<_};
 ghost use Rattle.language.specs.Tree.{Tree};
 ghost use Rattle.language.specs.Nested.{Nested};
+ghost use Rattle.tree.specs.Leaf.{Leaf};
 ghost use Rattle.tree.specs.Records.{Good};
 ghost use Rattle.tables.specs.Tables.{Roomy};
 ghost use Rattle.tables.specs.Filling.{tables};
@@ -12,7 +13,8 @@ ghost use Rattle.tables.specs.Counting.{Top};
 ghost use Rattle.tables.specs.Making.{Made, Making, Inside, Total};
 ghost use Rattle.tables.specs.Given.{Good-list, Laid};
 
-// Makes what the tables tell of the piece k: its row, its run and its last state, and of its child pieces where their stand-ins are.
+// Makes what the tables tell of the piece k: its row, its run and its last state, and of its child pieces where their
+// stand-ins are.
 fn piece(
     list: &[u8],
     counts: &[u8],
@@ -24,9 +26,12 @@ fn piece(
     tops: &mut [u8],
     roots: &mut [u16],
 )
-    requires { ⌜ Making (now list) (now counts) k (tables (now nexts) (now labels) (now stands) (now roots)) (now runs) (now tops) ⌝ }
+    requires { ⌜ Making (now list) (now counts) k (tables (now nexts) (now labels) (now stands) (now roots)) (now runs)
+        (now tops) ⌝ }
     requires { ⌜ Inside (now list) k ⌝ }
-    ensures { λ _. ⌜ ((x : Nested ℕ) → Top (now (list .entry)) x → Made x (k + 1) (tables (now (nexts .exit)) (now (labels .exit)) (now (stands .exit)) (now (roots .exit))) (now (runs .exit)) (now (tops .exit))) ⌝ }
+    ensures { λ _. ⌜ ((x : Nested Leaf) → Top (now (list .entry)) x
+        → Made x (k + 1) (tables (now (nexts .exit)) (now (labels .exit)) (now (stands .exit)) (now (roots .exit)))
+        (now (runs .exit)) (now (tops .exit))) ⌝ }
 {
     let node = roots[k] as usize;
     let last = fill(list, node, k, 0, nexts, labels, stands, roots);
@@ -48,9 +53,12 @@ fn pieces(
     tops: &mut [u8],
     roots: &mut [u16],
 )
-    requires { ⌜ Making (now list) (now counts) 0 (tables (now nexts) (now labels) (now stands) (now roots)) (now runs) (now tops) ⌝ }
+    requires { ⌜ Making (now list) (now counts) 0 (tables (now nexts) (now labels) (now stands) (now roots)) (now runs)
+        (now tops) ⌝ }
     requires { ⌜ Total (now list) total ⌝ }
-    ensures { λ _. ⌜ Making (now (list .entry)) (now (counts .entry)) total (tables (now (nexts .exit)) (now (labels .exit)) (now (stands .exit)) (now (roots .exit))) (now (runs .exit)) (now (tops .exit)) ⌝ }
+    ensures { λ _. ⌜ Making (now (list .entry)) (now (counts .entry)) total
+        (tables (now (nexts .exit)) (now (labels .exit)) (now (stands .exit)) (now (roots .exit))) (now (runs .exit))
+        (now (tops .exit)) ⌝ }
 {
     let mut k: usize = 0;
     while k < total {
@@ -70,7 +78,9 @@ pub fn plan(
 ) -> usize
     requires { ⌜ Good-list (now list) ⌝ }
     requires { ⌜ Roomy (now nexts) (now labels) (now runs) (now stands) (now tops) ⌝ }
-    ensures { λ r. ⌜ ((t : Tree ℕ) → Good (now (list .entry)) t → Laid t (now (nexts .exit)) (now (labels .exit)) (now (runs .exit)) (now (stands .exit)) (now (tops .exit)) r) ⌝ }
+    ensures { λ r. ⌜ ((t : Tree Leaf) → Good (now (list .entry)) t
+        → Laid t (now (nexts .exit)) (now (labels .exit)) (now (runs .exit)) (now (stands .exit)) (now (tops .exit)) r)
+        ⌝ }
 {
     let mut counts = [0u8; 1920];
     let mut roots = [0u16; 128];

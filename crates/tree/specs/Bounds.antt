@@ -5,10 +5,23 @@ use mathlib.Core.Bool.{Bool}
 use native.Mathlib.Omega.{arith}
 use Rattle.language.specs.Tree.{Tree, leaf, catenation, union, star, nodes}
 use Rattle.tree.specs.Cut.{kept, one, cuts, pieces, open-size, wanted}
-use Rattle.tree.specs.Choice.{Choice, neither, left-off, right-off, both-off, chosen, Only-choice, stays, goes-off, only-choice, open-positive}
+use Rattle.tree.specs.Choice.{
+  Choice,
+  neither,
+  left-off,
+  right-off,
+  both-off,
+  chosen,
+  Only-choice,
+  stays,
+  goes-off,
+  only-choice,
+  open-positive,
+}
 
 -- a child that the choice cuts off has open size at least 8: it pays for its piece with 8 nodes of its own
-paid-of-two : {l r : ℕ} {b c : Bool} (k m i j : ℕ) → Choice l r b c → 8 * k + l ≤ i → 8 * m + r ≤ j → 8 * (one b + k + (one c + m)) + (1 + kept b l + kept c r) ≤ i + j + 1
+paid-of-two : {l r : ℕ} {b c : Bool} (k m i j : ℕ) → Choice l r b c → 8 * k + l ≤ i → 8 * m + r ≤ j
+    → 8 * (one b + k + (one c + m)) + (1 + kept b l + kept c r) ≤ i + j + 1
 paid-of-two k m i j (neither small) x y = omega arith
 paid-of-two k m i j (left-off large larger small) x y = omega arith
 paid-of-two k m i j (right-off large larger small) x y = omega arith

@@ -14,6 +14,8 @@ four-numbers label left right piece = two-bytes label ++ two-bytes left ++ two-b
 
 -- eight stores from a place on are eight bytes put there
 pub eight-stores : (l : List ℕ) (at a b c d e f g h : ℕ) → at + 8 ≤ length l
-    → set (set (set (set (set (set (set (set l at a) (at + 1) b) (at + 2) c) (at + 3) d) (at + 4) e) (at + 5) f) (at + 6) g) (at + 7) h
+    → set (set (set (set (set (set (set (set l at a) (at + 1) b) (at + 2) c) (at + 3) d) (at + 4) e) (at + 5) f)
+    (at + 6) g) (at + 7) h
     ≡ take at l ++ (a ∷ b ∷ c ∷ d ∷ e ∷ f ∷ g ∷ h ∷ []) ++ drop (at + 8) l
-eight-stores l at a b c d e f g h room = simp towards-suc (simp towards-suc at (sets-eq (a ∷ b ∷ c ∷ d ∷ e ∷ f ∷ g ∷ h ∷ []) l at room))
+eight-stores l at a b c d e f g h room =
+    simp towards-suc (simp towards-suc at (sets-eq (a ∷ b ∷ c ∷ d ∷ e ∷ f ∷ g ∷ h ∷ []) l at room))

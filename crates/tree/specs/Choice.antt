@@ -8,25 +8,34 @@ use borrow.Author.Tests.{lt-ltb, le-ltb, le-leb, lt-leb}
 use Rattle.language.specs.Tree.{Tree, leaf, catenation, union, star}
 use Rattle.tree.specs.Cut.{kept, cut-left, cut-right, cut-only, open-size}
 
--- what the cut of a node with two children, of open sizes l and r, comes to: neither is cut off, or the larger, the left one on a tie, or both
+-- what the cut of a node with two children, of open sizes l and r, comes to: neither is cut off, or the larger, the
+-- left one on a tie, or both
 pub data Choice (l r : ℕ) : Bool → Bool → Type 0 where
   neither : 1 + l + r ≤ 15 → Choice l r false false
   left-off : 15 < 1 + l + r → r ≤ l → 1 + r ≤ 15 → Choice l r true false
   right-off : 15 < 1 + l + r → l < r → 1 + l ≤ 15 → Choice l r false true
   both-off : 15 < 1 + l → 15 < 1 + r → Choice l r true true
 
--- the choice at open sizes of at most 15: by cases on the sum, on which is the larger, and on whether the other is too large alone
+-- the choice at open sizes of at most 15: by cases on the sum, on which is the larger, and on whether the other is too
+-- large alone
 pub choice : (l r : ℕ) → l ≤ 15 → r ≤ 15 → Choice l r (cut-left l r) (cut-right l r)
 choice l r p q = by-sum (decLe (1 + l + r) 15) (decLt l r) (decLt 15 (1 + r))
   where
     by-sum : Dec (1 + l + r ≤ 15) → Dec (l < r) → Dec (15 < 1 + r) → Choice l r (cut-left l r) (cut-right l r)
     by-sum (yes small) b c = rw (le-ltb 15 (1 + l + r)) (neither small)
     by-sum (no large) (yes larger) c =
-        rw (lt-ltb 15 (1 + l + r) (omega arith), lt-leb r l, le-ltb 15 (1 + l) (omega arith), lt-ltb l r) (right-off (omega arith) larger (omega arith))
+        rw (lt-ltb 15 (1 + l + r) (omega arith), lt-leb r l, le-ltb 15 (1 + l) (omega arith), lt-ltb l r)
+        (right-off (omega arith) larger (omega arith))
     by-sum (no large) (no smaller) (yes still) =
-        rw (lt-ltb 15 (1 + l + r) (omega arith), le-leb r l (omega arith), le-ltb l r (omega arith), lt-ltb 15 (1 + r)) (both-off (omega arith) still)
+        rw (lt-ltb 15 (1 + l + r) (omega arith), le-leb r l (omega arith), le-ltb l r (omega arith), lt-ltb 15 (1 + r))
+        (both-off (omega arith) still)
     by-sum (no large) (no smaller) (no enough) =
-        rw (lt-ltb 15 (1 + l + r) (omega arith), le-leb r l (omega arith), le-ltb l r (omega arith), le-ltb 15 (1 + r) (omega arith)) (left-off (omega arith) (omega arith) (omega arith))
+        rw (
+          lt-ltb 15 (1 + l + r) (omega arith),
+          le-leb r l (omega arith),
+          le-ltb l r (omega arith),
+          le-ltb 15 (1 + r) (omega arith),
+        ) (left-off (omega arith) (omega arith) (omega arith))
 
 -- what the cut of a star, with an operand of open size n, comes to
 pub data Only-choice (n : ℕ) : Bool → Type 0 where
@@ -61,7 +70,8 @@ open-at-most (union s t) = chosen-fits (choice (open-size s) (open-size t) (open
 open-at-most (star s) = only-fits (only-choice (open-size s))
 
 -- the choice of the wanted cut at a node with the children s and t
-pub chosen : {A : Type 0} (s t : Tree A) → Choice (open-size s) (open-size t) (cut-left (open-size s) (open-size t)) (cut-right (open-size s) (open-size t))
+pub chosen : {A : Type 0} (s t : Tree A)
+    → Choice (open-size s) (open-size t) (cut-left (open-size s) (open-size t)) (cut-right (open-size s) (open-size t))
 chosen s t = choice (open-size s) (open-size t) (open-at-most s) (open-at-most t)
 
 -- an open size is at least 1: the node itself

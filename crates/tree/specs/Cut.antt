@@ -4,7 +4,14 @@ use Prim.Native.Nat.{ℕ, _+_, _≤_}
 use mathlib.Core.Bool.{Bool, true, false, _&&_, _||_}
 use lib.Dec.{leb, ltb}
 use Rattle.language.specs.Tree.{Tree, leaf, catenation, union, star}
-use Rattle.language.specs.Nested.{Nested, below, leaf as nested-leaf, catenation as nested-catenation, union as nested-union, star as nested-star}
+use Rattle.language.specs.Nested.{
+  Nested,
+  below,
+  leaf as nested-leaf,
+  catenation as nested-catenation,
+  union as nested-union,
+  star as nested-star,
+}
 
 -- a cut: for each edge of the tree, whether it is cut
 abbrev pub Cut : {A : Type 0} → Tree A → Type 0
@@ -41,18 +48,21 @@ cuts (star s) c = one (c .0) + cuts s (c .1)
 abbrev pub pieces : {A : Type 0} (t : Tree A) → Cut t → ℕ
 pieces t c = 1 + cuts t c
 
--- every piece has at most 15 nodes: asked at every node of what its piece has at and below it, which at a piece's top node is the whole piece
+-- every piece has at most 15 nodes: asked at every node of what its piece has at and below it, which at a piece's top
+-- node is the whole piece
 abbrev pub Fits : {A : Type 0} (t : Tree A) → Cut t → Type 0
 Fits (leaf a) c = Unit {0}
 Fits (catenation s t) c = (part (catenation s t) c ≤ 15) × Fits s (c .1) × Fits t (c .3)
 Fits (union s t) c = (part (union s t) c ≤ 15) × Fits s (c .1) × Fits t (c .3)
 Fits (star s) c = (part (star s) c ≤ 15) × Fits s (c .1)
 
--- whether the left child, of open size l, is cut off: the sum passes 15, and it is the larger, or as large, or still passes 15 without the right one
+-- whether the left child, of open size l, is cut off: the sum passes 15, and it is the larger, or as large, or still
+-- passes 15 without the right one
 abbrev pub cut-left : ℕ → ℕ → Bool
 cut-left l r = ltb 15 (1 + l + r) && (leb r l || ltb 15 (1 + l))
 
--- whether the right child, of open size r, is cut off: the sum passes 15, and it is the larger, or still passes 15 without the left one
+-- whether the right child, of open size r, is cut off: the sum passes 15, and it is the larger, or still passes 15
+-- without the left one
 abbrev pub cut-right : ℕ → ℕ → Bool
 cut-right l r = ltb 15 (1 + l + r) && (ltb l r || ltb 15 (1 + r))
 
@@ -63,14 +73,21 @@ cut-only n = ltb 15 (1 + n)
 -- the open size: 1 plus the open sizes of the children that are not cut off
 abbrev pub open-size : {A : Type 0} → Tree A → ℕ
 open-size (leaf a) = 1
-open-size (catenation s t) = 1 + kept (cut-left (open-size s) (open-size t)) (open-size s) + kept (cut-right (open-size s) (open-size t)) (open-size t)
-open-size (union s t) = 1 + kept (cut-left (open-size s) (open-size t)) (open-size s) + kept (cut-right (open-size s) (open-size t)) (open-size t)
+open-size (catenation s t) = 1 + kept (cut-left (open-size s) (open-size t)) (open-size s)
+    + kept (cut-right (open-size s) (open-size t)) (open-size t)
+open-size (union s t) = 1 + kept (cut-left (open-size s) (open-size t)) (open-size s)
+    + kept (cut-right (open-size s) (open-size t)) (open-size t)
 open-size (star s) = 1 + kept (cut-only (open-size s)) (open-size s)
 
 -- the cut wanted, from the leaves up
 abbrev pub wanted : {A : Type 0} (t : Tree A) → Cut t
 wanted (leaf a) = tt
-wanted (catenation s t) = (cut-left (open-size s) (open-size t), wanted s, cut-right (open-size s) (open-size t), wanted t)
+wanted (catenation s t) = (
+  cut-left (open-size s) (open-size t),
+  wanted s,
+  cut-right (open-size s) (open-size t),
+  wanted t,
+)
 wanted (union s t) = (cut-left (open-size s) (open-size t), wanted s, cut-right (open-size s) (open-size t), wanted t)
 wanted (star s) = (cut-only (open-size s), wanted s)
 

@@ -1,4 +1,5 @@
--- Whether labels are those of one tree, by counting: how deep the stack is of the machine that reads a tree from its labels.
+-- Whether labels are those of one tree, by counting: how deep the stack is of the machine that reads a tree from its
+-- labels.
 -- Assumes nothing.
 use Prim.Native.Nat.{ℕ, _+_, _-_, _≤_, _<_}
 use mathlib.Core.Path.{_≡_, refl, ap, sym, _∙_}
@@ -12,7 +13,21 @@ use borrow.Author.Tests.{eqb-true, eqb-false}
 use lib.ListN.{length, getD, take, drop, take-append-drop}
 use lib.Seq.{take-suc, take-length}
 use Rattle.language.specs.Tree.{Tree}
-use Rattle.tree.specs.Postorder.{Asked, asked, a-leaf, a-catenation, a-union, a-star, nothing, pushed, onward, built, built-append, one-tree-exactly}
+use Rattle.tree.specs.Leaf.{Leaf}
+use Rattle.tree.specs.Postorder.{
+  Asked,
+  asked,
+  a-leaf,
+  a-catenation,
+  a-union,
+  a-star,
+  nothing,
+  pushed,
+  onward,
+  built,
+  built-append,
+  one-tree-exactly,
+}
 use Rattle.tree.specs.Measured.{Postorder}
 
 -- how deep the stack is after a label: 0 where the trees that it asks for are not there
@@ -24,12 +39,13 @@ depth-after a-star depth = depth
 depth-after nothing depth = 0
 
 -- how deep a stack is, 0 for none
-abbrev pub depth-of : Option (List (Tree ℕ)) → ℕ
+abbrev pub depth-of : Option (List (Tree Leaf)) → ℕ
 depth-of none = 0
 depth-of (some stack) = length stack
 
 -- the count follows the machine
-depth-pushed : (what : Asked) (stack : List (Tree ℕ)) → depth-of (pushed what stack) ≡ depth-after what (length stack)
+depth-pushed : (what : Asked) (stack : List (Tree Leaf)) → depth-of (pushed what stack)
+    ≡ depth-after what (length stack)
 depth-pushed (a-leaf a) stack = sym (add-one (length stack))
 depth-pushed a-catenation [] = refl
 depth-pushed a-catenation (t ∷ []) = refl
@@ -43,7 +59,7 @@ depth-pushed nothing stack = refl
 
 -- the machine has read the first i labels, and its stack is that deep
 pub record Reads (ls : List ℕ) (i depth : ℕ) : Type 0 where
-  pub stack : List (Tree ℕ)
+  pub stack : List (Tree Leaf)
   pub so-far : built (take i ls) [] ≡ some stack
   pub deep : length stack ≡ depth
 
@@ -52,27 +68,33 @@ pub reads-none : (ls : List ℕ) → Reads ls 0 0
 reads-none ls = record { stack = []; so-far = refl; deep = refl }
 
 -- the stack after one label more
-next-built : (ls : List ℕ) (i : ℕ) (stack : List (Tree ℕ)) → i < length ls → built (take i ls) [] ≡ some stack → built (take (i + 1) ls) [] ≡ pushed (asked (getD ls i 0)) stack
+next-built : (ls : List ℕ) (i : ℕ) (stack : List (Tree Leaf)) → i < length ls → built (take i ls) [] ≡ some stack
+    → built (take (i + 1) ls) [] ≡ pushed (asked (getD ls i 0)) stack
 next-built ls i stack h e =
     let one-more : take (i + 1) ls ≡ take i ls ++ (getD ls i 0 ∷ []) = rw add-one (take-suc ls i 0 h) in
-    ap (λ (l : List ℕ). built l []) one-more ∙ built-append (take i ls) (getD ls i 0 ∷ []) [] ∙ ap (λ (o : Option (List (Tree ℕ))). onward o (built (getD ls i 0 ∷ []))) e
+    ap (λ (l : List ℕ). built l []) one-more ∙ built-append (take i ls) (getD ls i 0 ∷ []) []
+    ∙ ap (λ (o : Option (List (Tree Leaf))). onward o (built (getD ls i 0 ∷ []))) e
     ∙ last (pushed (asked (getD ls i 0)) stack)
   where
-    last : (o : Option (List (Tree ℕ))) → onward o (built []) ≡ o
+    last : (o : Option (List (Tree Leaf))) → onward o (built []) ≡ o
     last none = refl
     last (some s) = refl
 
 -- one label more, where the count is not 0
-pub reads-more : (ls : List ℕ) (i depth : ℕ) → i < length ls → Reads ls i depth → 0 < depth-after (asked (getD ls i 0)) depth → Reads ls (i + 1) (depth-after (asked (getD ls i 0)) depth)
+pub reads-more : (ls : List ℕ) (i depth : ℕ) → i < length ls → Reads ls i depth
+    → 0 < depth-after (asked (getD ls i 0)) depth → Reads ls (i + 1) (depth-after (asked (getD ls i 0)) depth)
 reads-more ls i depth h r positive =
-    by-stack (pushed (asked (getD ls i 0)) (r .stack)) (next-built ls i (r .stack) h (r .so-far)) (depth-pushed (asked (getD ls i 0)) (r .stack) ∙ ap (depth-after (asked (getD ls i 0))) (r .deep))
+    by-stack (pushed (asked (getD ls i 0)) (r .stack)) (next-built ls i (r .stack) h (r .so-far))
+    (depth-pushed (asked (getD ls i 0)) (r .stack) ∙ ap (depth-after (asked (getD ls i 0))) (r .deep))
   where
-    by-stack : (o : Option (List (Tree ℕ))) → built (take (i + 1) ls) [] ≡ o → depth-of o ≡ depth-after (asked (getD ls i 0)) depth → Reads ls (i + 1) (depth-after (asked (getD ls i 0)) depth)
+    by-stack : (o : Option (List (Tree Leaf))) → built (take (i + 1) ls) [] ≡ o
+        → depth-of o ≡ depth-after (asked (getD ls i 0)) depth
+        → Reads ls (i + 1) (depth-after (asked (getD ls i 0)) depth)
     by-stack none e d = absurd (omega arith)
     by-stack (some stack) e d = record { stack = stack; so-far = e; deep = d }
 
 -- where the count is 0 the machine has no stack
-pushed-none : (what : Asked) (stack : List (Tree ℕ)) → depth-after what (length stack) ≡ 0 → pushed what stack ≡ none
+pushed-none : (what : Asked) (stack : List (Tree Leaf)) → depth-after what (length stack) ≡ 0 → pushed what stack ≡ none
 pushed-none (a-leaf a) stack e = absurd (omega arith)
 pushed-none a-catenation [] e = refl
 pushed-none a-catenation (t ∷ []) e = refl
@@ -85,17 +107,20 @@ pushed-none a-star (s ∷ stack) e = absurd (omega arith)
 pushed-none nothing stack e = refl
 
 -- a machine without a stack does not end with one tree
-never-both : (o : Option (List (Tree ℕ))) (stack : List (Tree ℕ)) → o ≡ none → o ≡ some stack → ⊥
+never-both : (o : Option (List (Tree Leaf))) (stack : List (Tree Leaf)) → o ≡ none → o ≡ some stack → ⊥
 never-both o stack p q = let z : _≡_ {A = ℕ} 0 1 = cc in omega arith
 
 -- then the labels are those of no tree
-pub reads-stuck : (ls : List ℕ) (i depth : ℕ) → i < length ls → Reads ls i depth → depth-after (asked (getD ls i 0)) depth ≡ 0 → Postorder ls → ⊥
+pub reads-stuck : (ls : List ℕ) (i depth : ℕ) → i < length ls → Reads ls i depth
+    → depth-after (asked (getD ls i 0)) depth ≡ 0 → Postorder ls → ⊥
 reads-stuck ls i depth h r stuck o =
     let no-stack : built (take (i + 1) ls) [] ≡ none =
-    next-built ls i (r .stack) h (r .so-far) ∙ pushed-none (asked (getD ls i 0)) (r .stack) (ap (depth-after (asked (getD ls i 0))) (r .deep) ∙ stuck) in
+    next-built ls i (r .stack) h (r .so-far)
+    ∙ pushed-none (asked (getD ls i 0)) (r .stack) (ap (depth-after (asked (getD ls i 0))) (r .deep) ∙ stuck) in
     let whole : built ls [] ≡ none =
-    ap (λ (l : List ℕ). built l []) (sym (take-append-drop (i + 1) ls)) ∙ built-append (take (i + 1) ls) (drop (i + 1) ls) []
-    ∙ ap (λ (a : Option (List (Tree ℕ))). onward a (built (drop (i + 1) ls))) no-stack in
+    ap (λ (l : List ℕ). built l []) (sym (take-append-drop (i + 1) ls))
+    ∙ built-append (take (i + 1) ls) (drop (i + 1) ls) []
+    ∙ ap (λ (a : Option (List (Tree Leaf))). onward a (built (drop (i + 1) ls))) no-stack in
     never-both (built ls []) (o .tree ∷ []) whole (one-tree-exactly ls (o .tree) .1 (o .same))
 
 -- what the machine ends with
@@ -106,7 +131,7 @@ ended ls depth r = rw take-length at (r .so-far)
 pub reads-tree : (ls : List ℕ) (depth : ℕ) → Reads ls (length ls) depth → depth ≡ 1 → Postorder ls
 reads-tree ls depth r e = by-stack (r .stack) (ended ls depth r) (r .deep ∙ e)
   where
-    by-stack : (stack : List (Tree ℕ)) → built ls [] ≡ some stack → length stack ≡ 1 → Postorder ls
+    by-stack : (stack : List (Tree Leaf)) → built ls [] ≡ some stack → length stack ≡ 1 → Postorder ls
     by-stack [] b l = absurd (omega arith)
     by-stack (t ∷ []) b l = record { tree = t; same = one-tree-exactly ls t .0 b }
     by-stack (t ∷ (s ∷ stack)) b l = absurd (omega arith)
@@ -123,7 +148,8 @@ pub record One-tree (ls : List ℕ) (b : Bool) : Type 0 where
   pub if-not : b ≡ false → Postorder ls → ⊥
 
 -- stuck on the way
-pub stuck-tree : (ls : List ℕ) (i depth : ℕ) → i < length ls → Reads ls i depth → depth-after (asked (getD ls i 0)) depth ≡ 0 → One-tree ls false
+pub stuck-tree : (ls : List ℕ) (i depth : ℕ) → i < length ls → Reads ls i depth
+    → depth-after (asked (getD ls i 0)) depth ≡ 0 → One-tree ls false
 stuck-tree ls i depth h r stuck =
     record { if-so = λ e. absurd (never e); if-not = λ e o. reads-stuck ls i depth h r stuck o }
   where
@@ -133,7 +159,11 @@ stuck-tree ls i depth h r stuck =
 -- read to the end
 pub read-tree : (ls : List ℕ) (depth : ℕ) → Reads ls (length ls) depth → One-tree ls (eqb depth 1)
 read-tree ls depth r =
-    record { if-so = λ e. reads-tree ls depth r (eqb-true depth 1 e); if-not = λ e o. reads-other ls depth r (eqb-false depth 1 e) o }
+    record {
+      if-so = λ e. reads-tree ls depth r (eqb-true depth 1 e);
+      if-not =
+          λ e o. reads-other ls depth r (eqb-false depth 1 e) o;
+    }
 
 -- a label adds one tree at most
 pub depth-grows : (what : Asked) (depth : ℕ) → depth-after what depth ≤ depth + 1

@@ -1,4 +1,5 @@
--- What a node's numbers are, gathered from its children's: one rule for all four kinds, with 0 for a child that is not there.
+-- What a node's numbers are, gathered from its children's: one rule for all four kinds, with 0 for a child that is not
+-- there.
 -- Assumes nothing.
 use Prim.Native.Nat.{ℕ, _+_, _≤_, _<_}
 use mathlib.Core.Path.{_≡_, refl, ap, sym}
@@ -7,6 +8,7 @@ use native.Mathlib.Omega.{arith}
 use native.Mathlib.Nat.{add-zero, le-refl}
 use lib.Dec.{ltb, leb·zero, leb·suc-zero}
 use Rattle.language.specs.Tree.{Tree, leaf, catenation, union, star, nodes}
+use Rattle.tree.specs.Leaf.{Leaf}
 use Rattle.tree.specs.Cut.{kept, one, cut-left, cut-right, cut-only, open-size}
 use Rattle.tree.specs.Seats.{cut-edges, of-left, of-right, left-cut, right-cut}
 
@@ -35,21 +37,22 @@ none-right n = rw (leb·suc-zero n) (and-false (ltb 15 (1 + n + 0)))
     and-false false = refl
 
 -- the nodes of a tree
-pub nodes-gathered : (u : Tree ℕ) → nodes u ≡ of-left nodes u + of-right nodes u + 1
+pub nodes-gathered : (u : Tree Leaf) → nodes u ≡ of-left nodes u + of-right nodes u + 1
 nodes-gathered (leaf a) = refl
 nodes-gathered (catenation s t) = refl
 nodes-gathered (union s t) = refl
 nodes-gathered (star s) = ap (λ (n : ℕ). n + 1) (sym (add-zero (nodes s)))
 
 -- its open size
-pub open-gathered : (u : Tree ℕ) → open-size u ≡ open-sum (of-left open-size u) (of-right open-size u)
+pub open-gathered : (u : Tree Leaf) → open-size u ≡ open-sum (of-left open-size u) (of-right open-size u)
 open-gathered (leaf a) = refl
 open-gathered (catenation s t) = refl
 open-gathered (union s t) = refl
 open-gathered (star s) = rw (only-left, none-right, add-zero)
 
 -- its cut edges
-pub cuts-gathered : (u : Tree ℕ) → cut-edges u ≡ cut-sum (of-left open-size u) (of-right open-size u) (of-left cut-edges u) (of-right cut-edges u)
+pub cuts-gathered : (u : Tree Leaf)
+    → cut-edges u ≡ cut-sum (of-left open-size u) (of-right open-size u) (of-left cut-edges u) (of-right cut-edges u)
 cuts-gathered (leaf a) = refl
 cuts-gathered (catenation s t) = refl
 cuts-gathered (union s t) = refl
@@ -66,8 +69,15 @@ kept-le true n = omega arith
 kept-le false n = le-refl n
 
 -- fewer edges are cut than there are nodes
-pub cut-edges-lt : (u : Tree ℕ) → cut-edges u < nodes u
+pub cut-edges-lt : (u : Tree Leaf) → cut-edges u < nodes u
 cut-edges-lt (leaf a) = omega arith
-cut-edges-lt (catenation s t) = omega (arith, cut-edges-lt s, cut-edges-lt t, one-le (left-cut (catenation s t)), one-le (right-cut (catenation s t)))
-cut-edges-lt (union s t) = omega (arith, cut-edges-lt s, cut-edges-lt t, one-le (left-cut (union s t)), one-le (right-cut (union s t)))
+cut-edges-lt (catenation s t) = omega (
+  arith,
+  cut-edges-lt s,
+  cut-edges-lt t,
+  one-le (left-cut (catenation s t)),
+  one-le (right-cut (catenation s t)),
+)
+cut-edges-lt (union s t) =
+    omega (arith, cut-edges-lt s, cut-edges-lt t, one-le (left-cut (union s t)), one-le (right-cut (union s t)))
 cut-edges-lt (star s) = omega (arith, cut-edges-lt s, one-le (cut-only (open-size s)))

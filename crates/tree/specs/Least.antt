@@ -1,5 +1,6 @@
 -- The wanted cut has pieces of at most 15 nodes, and no cut that does has fewer pieces: over all sets of cut edges.
--- Of two cuts of a tree the better one cuts fewer edges, or as many and leaves fewer nodes in the root's piece. One number
+-- Of two cuts of a tree the better one cuts fewer edges, or as many and leaves fewer nodes in the root's piece. One
+-- number
 -- tells both, the weight: 15 for each cut edge and 1 for each node of the root's piece, which has 1 to 15 nodes.
 -- Assumes nothing.
 use Prim.Native.Nat.{ℕ, _+_, _*_, _≤_, _<_}
@@ -10,7 +11,20 @@ use native.Mathlib.Omega.{arith}
 use native.Mathlib.Decide.{decLt}
 use Rattle.language.specs.Tree.{Tree, leaf, catenation, union, star}
 use Rattle.tree.specs.Cut.{Cut, kept, one, part, cuts, pieces, Fits, open-size, wanted}
-use Rattle.tree.specs.Choice.{Choice, neither, left-off, right-off, both-off, chosen, Only-choice, stays, goes-off, only-choice, open-at-most, open-positive}
+use Rattle.tree.specs.Choice.{
+  Choice,
+  neither,
+  left-off,
+  right-off,
+  both-off,
+  chosen,
+  Only-choice,
+  stays,
+  goes-off,
+  only-choice,
+  open-at-most,
+  open-positive,
+}
 
 -- the wanted cut leaves the open size in the root's piece
 pub part-wanted : {A : Type 0} (t : Tree A) → part t (wanted t) ≡ open-size t
@@ -38,40 +52,53 @@ part-at-most (union s t) c h = h .0
 part-at-most (star s) c h = h .0
 
 -- a child that weighs at least w adds at least w, cut off or not
-adds : {A : Type 0} (b : Bool) (s : Tree A) (d : Cut s) (w : ℕ) → Fits s d → w ≤ 15 * cuts s d + part s d → w ≤ 15 * (one b + cuts s d) + kept b (part s d)
+adds : {A : Type 0} (b : Bool) (s : Tree A) (d : Cut s) (w : ℕ) → Fits s d → w ≤ 15 * cuts s d + part s d
+    → w ≤ 15 * (one b + cuts s d) + kept b (part s d)
 adds true s d w h e = omega (arith, part-at-most s d h)
 adds false s d w h e = omega arith
 
--- where a child of open size l, at least the other's r, is cut off: its weight or the other's is less than that of any child that stays, by 15
-larger-off : (k m K P M Q l r : ℕ) → 15 < 1 + l + r → r ≤ l → 1 + P + Q ≤ 15 → 15 * k + l ≤ 15 * K + P → 15 * m + r ≤ 15 * M + Q → 15 * (1 + k + m) + r ≤ 15 * (K + M) + (P + Q)
+-- where a child of open size l, at least the other's r, is cut off: its weight or the other's is less than that of any
+-- child that stays, by 15
+larger-off : (k m K P M Q l r : ℕ) → 15 < 1 + l + r → r ≤ l → 1 + P + Q ≤ 15 → 15 * k + l ≤ 15 * K + P
+    → 15 * m + r ≤ 15 * M + Q → 15 * (1 + k + m) + r ≤ 15 * (K + M) + (P + Q)
 larger-off k m K P M Q l r large larger fits x y = elim (decLt P l) [ yes h ↦ omega arith | no h ↦ omega arith ]
 
--- at a node with two children the choice is lightest: K and P, M and Q are the cut edges and the nodes that the children add under another cut
-lightest-of-two : {l r : ℕ} {b c : Bool} (k m K P M Q : ℕ) → Choice l r b c → 1 + P + Q ≤ 15 → 15 * k + l ≤ 15 * K + P → 15 * m + r ≤ 15 * M + Q
+-- at a node with two children the choice is lightest: K and P, M and Q are the cut edges and the nodes that the
+-- children add under another cut
+lightest-of-two : {l r : ℕ} {b c : Bool} (k m K P M Q : ℕ) → Choice l r b c → 1 + P + Q ≤ 15 → 15 * k + l ≤ 15 * K + P
+    → 15 * m + r ≤ 15 * M + Q
     → 15 * (one b + k + (one c + m)) + (1 + kept b l + kept c r) ≤ 15 * (K + M) + (1 + P + Q)
 lightest-of-two k m K P M Q (neither small) fits x y = omega arith
-lightest-of-two {l} {r} k m K P M Q (left-off large larger small) fits x y = omega (arith, larger-off k m K P M Q l r large larger fits x y)
-lightest-of-two {l} {r} k m K P M Q (right-off large larger small) fits x y = omega (arith, larger-off m k M Q K P r l (omega arith) (omega arith) (omega arith) y x)
+lightest-of-two {l} {r} k m K P M Q (left-off large larger small) fits x y =
+    omega (arith, larger-off k m K P M Q l r large larger fits x y)
+lightest-of-two {l} {r} k m K P M Q (right-off large larger small) fits x y =
+    omega (arith, larger-off m k M Q K P r l (omega arith) (omega arith) (omega arith) y x)
 lightest-of-two k m K P M Q (both-off large still) fits x y = omega arith
 
 -- at a star the choice is lightest
-lightest-of-one : {n : ℕ} {b : Bool} (k K P : ℕ) → Only-choice n b → 1 + P ≤ 15 → 15 * k + n ≤ 15 * K + P → 15 * (one b + k) + (1 + kept b n) ≤ 15 * K + (1 + P)
+lightest-of-one : {n : ℕ} {b : Bool} (k K P : ℕ) → Only-choice n b → 1 + P ≤ 15 → 15 * k + n ≤ 15 * K + P
+    → 15 * (one b + k) + (1 + kept b n) ≤ 15 * K + (1 + P)
 lightest-of-one k K P (stays small) fits x = omega arith
 lightest-of-one k K P (goes-off large) fits x = omega arith
 
 -- the wanted cut is lightest, of all that fit: from the leaves up
-lightest : {A : Type 0} (t : Tree A) (c : Cut t) → Fits t c → 15 * cuts t (wanted t) + open-size t ≤ 15 * cuts t c + part t c
+lightest : {A : Type 0} (t : Tree A) (c : Cut t) → Fits t c → 15 * cuts t (wanted t) + open-size t
+    ≤ 15 * cuts t c + part t c
 lightest (leaf a) c h = omega arith
 lightest (catenation s t) c h =
-    lightest-of-two _ _ _ _ _ _ (chosen s t) (h .0) (adds (c .0) s _ _ (h .1) (lightest s (c .1) (h .1))) (adds (c .2) t _ _ (h .2) (lightest t (c .3) (h .2)))
+    lightest-of-two _ _ _ _ _ _ (chosen s t) (h .0) (adds (c .0) s _ _ (h .1) (lightest s (c .1) (h .1)))
+    (adds (c .2) t _ _ (h .2) (lightest t (c .3) (h .2)))
 lightest (union s t) c h =
-    lightest-of-two _ _ _ _ _ _ (chosen s t) (h .0) (adds (c .0) s _ _ (h .1) (lightest s (c .1) (h .1))) (adds (c .2) t _ _ (h .2) (lightest t (c .3) (h .2)))
-lightest (star s) c h = lightest-of-one _ _ _ (only-choice (open-size s)) (h .0) (adds (c .0) s _ _ (h .1) (lightest s (c .1) (h .1)))
+    lightest-of-two _ _ _ _ _ _ (chosen s t) (h .0) (adds (c .0) s _ _ (h .1) (lightest s (c .1) (h .1)))
+    (adds (c .2) t _ _ (h .2) (lightest t (c .3) (h .2)))
+lightest (star s) c h =
+    lightest-of-one _ _ _ (only-choice (open-size s)) (h .0) (adds (c .0) s _ _ (h .1) (lightest s (c .1) (h .1)))
 
 -- no cut with pieces of at most 15 nodes has fewer pieces than the wanted one: a lightest cut has the fewest cut edges
 pub least : {A : Type 0} (t : Tree A) (c : Cut t) → Fits t c → pieces t (wanted t) ≤ pieces t c
 least t c h = omega (arith, lightest t c h, open-positive t, part-at-most t c h)
 
 -- the wanted cut has more than 128 pieces exactly when every cut with pieces of at most 15 nodes has
-pub too-many-exactly : {A : Type 0} (t : Tree A) → (128 < pieces t (wanted t)) ↔ ((c : Cut t) → Fits t c → 128 < pieces t c)
+pub too-many-exactly : {A : Type 0} (t : Tree A) → (128 < pieces t (wanted t))
+    ↔ ((c : Cut t) → Fits t c → 128 < pieces t c)
 too-many-exactly t = (λ many c h. omega (arith, least t c h), λ many. many (wanted t) (wanted-fits t))

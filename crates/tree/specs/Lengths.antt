@@ -6,6 +6,7 @@ use mathlib.Core.List.{List, [], _∷_, _++_}
 use native.Mathlib.Omega.{arith}
 use lib.ListN.{length, length-append}
 use Rattle.language.specs.Tree.{Tree, leaf, catenation, union, star, nodes}
+use Rattle.tree.specs.Leaf.{Leaf}
 use Rattle.tree.specs.Cut.{Cut, wanted}
 use Rattle.tree.specs.Records.{records, encode, labels}
 
@@ -21,14 +22,15 @@ length-two : (xs ys : List ℕ) (a m n : ℕ) → length xs ≡ m → length ys 
 length-two xs ys a m n p q = simp length-append (omega arith)
 
 -- one label for each node
-pub length-labels : (t : Tree ℕ) → length (labels t) ≡ nodes t
+pub length-labels : (t : Tree Leaf) → length (labels t) ≡ nodes t
 length-labels (leaf a) = refl
 length-labels (catenation s t) = length-two (labels s) (labels t) _ _ _ (length-labels s) (length-labels t)
 length-labels (union s t) = length-two (labels s) (labels t) _ _ _ (length-labels s) (length-labels t)
 length-labels (star s) = let r = length-labels s in simp length-append (omega arith)
 
 -- one record, 8 bytes, for each node
-pub length-records : (t : Tree ℕ) (c : Cut t) (first piece new : ℕ) → length (records t c first piece new) ≡ 8 * nodes t
+pub length-records : (t : Tree Leaf) (c : Cut t) (first piece new : ℕ) → length (records t c first piece new)
+    ≡ 8 * nodes t
 length-records (leaf a) c first piece new = refl
 length-records (catenation s t) c first piece new =
     let p = length-records s (c .1) in let q = length-records t (c .3) in simp (length-append, p, q) (omega arith)
@@ -37,5 +39,5 @@ length-records (union s t) c first piece new =
 length-records (star s) c first piece new = let p = length-records s (c .1) in simp (length-append, p) (omega arith)
 
 -- the list of a tree has 8 bytes for each node
-pub length-encode : (t : Tree ℕ) → length (encode t) ≡ 8 * nodes t
+pub length-encode : (t : Tree Leaf) → length (encode t) ≡ 8 * nodes t
 length-encode t = length-records t (wanted t) 0 0 1

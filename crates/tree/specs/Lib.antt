@@ -1,4 +1,5 @@
 -- The cut of a tree into pieces, and the records that a tree is stored as.
+pub mod Leaf
 pub mod Cut
 pub mod Records
 pub mod Lengths

@@ -5,9 +5,29 @@ use mathlib.Core.Path.{_≡_, refl}
 use mathlib.Core.Bool.{Bool, true, false}
 use native.Mathlib.Omega.{arith}
 use Rattle.language.specs.Tree.{Tree, leaf, catenation, union, star, nodes}
-use Rattle.language.specs.Nested.{Nested, below, whole, own, leaf as nested-leaf, catenation as nested-catenation, union as nested-union, star as nested-star}
+use Rattle.language.specs.Nested.{
+  Nested,
+  below,
+  whole,
+  own,
+  leaf as nested-leaf,
+  catenation as nested-catenation,
+  union as nested-union,
+  star as nested-star,
+}
 use Rattle.tree.specs.Cut.{Cut, kept, one, part, cuts, Fits, open-size, wanted, edge, nest}
-use Rattle.tree.specs.Choice.{Choice, neither, left-off, right-off, both-off, chosen, Only-choice, stays, goes-off, only-choice}
+use Rattle.tree.specs.Choice.{
+  Choice,
+  neither,
+  left-off,
+  right-off,
+  both-off,
+  chosen,
+  Only-choice,
+  stays,
+  goes-off,
+  only-choice,
+}
 use Rattle.tree.specs.Least.{part-at-most, part-wanted}
 
 -- how many pieces there are below the top piece
@@ -47,7 +67,8 @@ abbrev pub Every-piece : {A : Type 0} → (Nested A → Type 0) → Nested A →
 Every-piece P x = P x × Every-below P x
 
 -- what follows from P for one piece follows for every piece
-pub every-below : {A : Type 0} {P Q : Nested A → Type 0} → ((x : Nested A) → P x → Q x) → (x : Nested A) → Every-below P x → Every-below Q x
+pub every-below : {A : Type 0} {P Q : Nested A → Type 0} → ((x : Nested A) → P x → Q x) → (x : Nested A)
+    → Every-below P x → Every-below Q x
 every-below f (nested-leaf a) h = tt
 every-below f (nested-catenation x y) h = (every-below f x (h .0), every-below f y (h .1))
 every-below f (nested-union x y) h = (every-below f x (h .0), every-below f y (h .1))
@@ -72,22 +93,28 @@ pieces-below-edge false x = omega arith
 -- a tree that is cut is the whole tree again with no edge cut
 pub whole-nest : {A : Type 0} (t : Tree A) (c : Cut t) → whole (nest t c) ≡ t
 whole-nest (leaf a) c = refl
-whole-nest (catenation s t) c = let left = whole-nest s (c .1) in let right = whole-nest t (c .3) in simp (whole-edge, left, right)
-whole-nest (union s t) c = let left = whole-nest s (c .1) in let right = whole-nest t (c .3) in simp (whole-edge, left, right)
+whole-nest (catenation s t) c = let left = whole-nest s (c .1) in let right =
+    whole-nest t (c .3) in simp (whole-edge, left, right)
+whole-nest (union s t) c = let left = whole-nest s (c .1) in let right =
+    whole-nest t (c .3) in simp (whole-edge, left, right)
 whole-nest (star s) c = let only = whole-nest s (c .1) in simp (whole-edge, only)
 
 -- the top piece has the nodes at and below the root that are in the root's piece
 pub top-nodes-nest : {A : Type 0} (t : Tree A) (c : Cut t) → top-nodes (nest t c) ≡ part t c
 top-nodes-nest (leaf a) c = refl
-top-nodes-nest (catenation s t) c = let left = top-nodes-nest s (c .1) in let right = top-nodes-nest t (c .3) in simp (top-nodes-edge, left, right)
-top-nodes-nest (union s t) c = let left = top-nodes-nest s (c .1) in let right = top-nodes-nest t (c .3) in simp (top-nodes-edge, left, right)
+top-nodes-nest (catenation s t) c = let left = top-nodes-nest s (c .1) in let right =
+    top-nodes-nest t (c .3) in simp (top-nodes-edge, left, right)
+top-nodes-nest (union s t) c = let left = top-nodes-nest s (c .1) in let right =
+    top-nodes-nest t (c .3) in simp (top-nodes-edge, left, right)
 top-nodes-nest (star s) c = let only = top-nodes-nest s (c .1) in simp (top-nodes-edge, only)
 
 -- there is one piece below each cut edge
 pub pieces-below-nest : {A : Type 0} (t : Tree A) (c : Cut t) → pieces-below (nest t c) ≡ cuts t c
 pieces-below-nest (leaf a) c = refl
-pieces-below-nest (catenation s t) c = let left = pieces-below-nest s (c .1) in let right = pieces-below-nest t (c .3) in simp (pieces-below-edge, left, right)
-pieces-below-nest (union s t) c = let left = pieces-below-nest s (c .1) in let right = pieces-below-nest t (c .3) in simp (pieces-below-edge, left, right)
+pieces-below-nest (catenation s t) c = let left = pieces-below-nest s (c .1) in let right =
+    pieces-below-nest t (c .3) in simp (pieces-below-edge, left, right)
+pieces-below-nest (union s t) c = let left = pieces-below-nest s (c .1) in let right =
+    pieces-below-nest t (c .3) in simp (pieces-below-edge, left, right)
 pieces-below-nest (star s) c = let only = pieces-below-nest s (c .1) in simp (pieces-below-edge, only)
 
 -- a piece's own tree has its nodes and a stand-in for each child piece
@@ -98,7 +125,8 @@ nodes-own (nested-union x y) = omega (arith, nodes-own x, nodes-own y)
 nodes-own (nested-star x) = omega (arith, nodes-own x)
 nodes-own (below x) = refl
 
--- a piece has at most one child piece more than nodes: a node has at most two children, and all nodes but the top one are children too
+-- a piece has at most one child piece more than nodes: a node has at most two children, and all nodes but the top one
+-- are children too
 pub child-pieces-at-most : {A : Type 0} (x : Nested A) → child-pieces x ≤ top-nodes x + 1
 child-pieces-at-most (nested-leaf a) = omega arith
 child-pieces-at-most (nested-catenation x y) = omega (arith, child-pieces-at-most x, child-pieces-at-most y)
@@ -115,7 +143,12 @@ pub record Small {A : Type 0} (x : Nested A) : Type 0 where
 
 -- a piece of 1 to 15 nodes is small
 small : {A : Type 0} (x : Nested A) → 1 ≤ top-nodes x → top-nodes x ≤ 15 → Small x
-small x g h = record { some-node = g; few-nodes = h; few-child-pieces = omega (arith, child-pieces-at-most x); few-own-nodes = omega (arith, child-pieces-at-most x, nodes-own x) }
+small x g h = record {
+  some-node = g;
+  few-nodes = h;
+  few-child-pieces = omega (arith, child-pieces-at-most x);
+  few-own-nodes = omega (arith, child-pieces-at-most x, nodes-own x);
+}
 
 -- the root is in the root's piece
 top-nodes-positive : {A : Type 0} (t : Tree A) (c : Cut t) → 1 ≤ top-nodes (nest t c)
@@ -129,15 +162,22 @@ small-top : {A : Type 0} (t : Tree A) (c : Cut t) → Fits t c → Small (nest t
 small-top t c h = small (nest t c) (top-nodes-positive t c) (rw (top-nodes-nest t c) (part-at-most t c h))
 
 -- so is the piece below an edge that is cut
-small-edge : {A : Type 0} (b : Bool) (s : Tree A) (d : Cut s) → Fits s d → Every-below Small (nest s d) → Every-below Small (edge b (nest s d))
+small-edge : {A : Type 0} (b : Bool) (s : Tree A) (d : Cut s) → Fits s d → Every-below Small (nest s d)
+    → Every-below Small (edge b (nest s d))
 small-edge true s d h e = (small-top s d h, e)
 small-edge false s d h e = e
 
 -- so is every piece below another
 small-below : {A : Type 0} (t : Tree A) (c : Cut t) → Fits t c → Every-below Small (nest t c)
 small-below (leaf a) c h = tt
-small-below (catenation s t) c h = (small-edge (c .0) s (c .1) (h .1) (small-below s (c .1) (h .1)), small-edge (c .2) t (c .3) (h .2) (small-below t (c .3) (h .2)))
-small-below (union s t) c h = (small-edge (c .0) s (c .1) (h .1) (small-below s (c .1) (h .1)), small-edge (c .2) t (c .3) (h .2) (small-below t (c .3) (h .2)))
+small-below (catenation s t) c h = (
+  small-edge (c .0) s (c .1) (h .1) (small-below s (c .1) (h .1)),
+  small-edge (c .2) t (c .3) (h .2) (small-below t (c .3) (h .2)),
+)
+small-below (union s t) c h = (
+  small-edge (c .0) s (c .1) (h .1) (small-below s (c .1) (h .1)),
+  small-edge (c .2) t (c .3) (h .2) (small-below t (c .3) (h .2)),
+)
 small-below (star s) c h = small-edge (c .0) s (c .1) (h .1) (small-below s (c .1) (h .1))
 
 -- in a cut that fits, every piece is small
@@ -145,7 +185,8 @@ pub small-pieces : {A : Type 0} (t : Tree A) (c : Cut t) → Fits t c → Every-
 small-pieces t c h = (small-top t c h, small-below t c h)
 
 -- every node is in the top piece, or one of at most 15 in a piece below it
-nodes-of-pieces : {A : Type 0} (x : Nested A) → Every-below Small x → nodes (whole x) ≤ top-nodes x + 15 * pieces-below x
+nodes-of-pieces : {A : Type 0} (x : Nested A) → Every-below Small x
+    → nodes (whole x) ≤ top-nodes x + 15 * pieces-below x
 nodes-of-pieces (nested-leaf a) h = omega arith
 nodes-of-pieces (nested-catenation x y) h = omega (arith, nodes-of-pieces x (h .0), nodes-of-pieces y (h .1))
 nodes-of-pieces (nested-union x y) h = omega (arith, nodes-of-pieces x (h .0), nodes-of-pieces y (h .1))
@@ -164,8 +205,10 @@ Large x = 8 ≤ top-nodes x
 large-top : {A : Type 0} (t : Tree A) → 8 ≤ open-size t → Large (nest t (wanted t))
 large-top t h = rw (top-nodes-nest t (wanted t), part-wanted t) h
 
--- a child that the choice cuts off has open size at least 8: with the other's it passes 14, and it is not the smaller one
-large-of-two : {A : Type 0} (s t : Tree A) {b c : Bool} → Choice (open-size s) (open-size t) b c → Every-below Large (nest s (wanted s)) → Every-below Large (nest t (wanted t))
+-- a child that the choice cuts off has open size at least 8: with the other's it passes 14, and it is not the smaller
+-- one
+large-of-two : {A : Type 0} (s t : Tree A) {b c : Bool} → Choice (open-size s) (open-size t) b c
+    → Every-below Large (nest s (wanted s)) → Every-below Large (nest t (wanted t))
     → Every-below Large (edge b (nest s (wanted s))) × Every-below Large (edge c (nest t (wanted t)))
 large-of-two s t (neither small) x y = (x, y)
 large-of-two s t (left-off large larger small) x y = ((large-top s (omega arith), x), y)
@@ -173,7 +216,8 @@ large-of-two s t (right-off large larger small) x y = (x, (large-top t (omega ar
 large-of-two s t (both-off large still) x y = ((large-top s (omega arith), x), (large-top t (omega arith), y))
 
 -- so has an operand that a star cuts off
-large-of-one : {A : Type 0} (s : Tree A) {b : Bool} → Only-choice (open-size s) b → Every-below Large (nest s (wanted s)) → Every-below Large (edge b (nest s (wanted s)))
+large-of-one : {A : Type 0} (s : Tree A) {b : Bool} → Only-choice (open-size s) b
+    → Every-below Large (nest s (wanted s)) → Every-below Large (edge b (nest s (wanted s)))
 large-of-one s (stays small) x = x
 large-of-one s (goes-off large) x = (large-top s (omega arith), x)
 

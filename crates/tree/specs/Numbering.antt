@@ -1,4 +1,5 @@
--- Pieces are numbered in the order in which a walk (node, left, right) first meets them, and a piece and those below it own a run of numbers with no gap.
+-- Pieces are numbered in the order in which a walk (node, left, right) first meets them, and a piece and those below it
+-- own a run of numbers with no gap.
 -- Assumes nothing.
 use Prim.Native.Nat.{ℕ, _+_, _*_, _/_, _%_, _≤_, _<_}
 use mathlib.Core.Path.{_≡_, refl, ap, _∙_}
@@ -8,6 +9,7 @@ use mathlib.Core.List.{List, [], _∷_, _++_, map, map-append, append-assoc, app
 use native.Mathlib.Omega.{arith}
 use native.Mathlib.Decide.{decLt}
 use Rattle.language.specs.Tree.{Tree, leaf, catenation, union, star}
+use Rattle.tree.specs.Leaf.{Leaf}
 use Rattle.tree.specs.Cut.{Cut, one, cuts, pieces, wanted}
 use Rattle.tree.specs.Records.{child-piece, records, Good}
 use Rattle.tree.specs.Rows.{Reader, each-record}
@@ -41,10 +43,12 @@ abbrev pub numbered : {A : Type 0} (t : Tree A) → Cut t → (piece new : ℕ) 
 numbered (leaf a) c piece new = alone piece
 numbered (catenation s t) c piece new =
     above-two piece (numbered s (c .1) (child-piece (c .0) piece new) (one (c .0) + new))
-    (numbered t (c .3) (child-piece (c .2) piece (one (c .0) + cuts s (c .1) + new)) (one (c .2) + (one (c .0) + cuts s (c .1) + new)))
+    (numbered t (c .3) (child-piece (c .2) piece (one (c .0) + cuts s (c .1) + new))
+    (one (c .2) + (one (c .0) + cuts s (c .1) + new)))
 numbered (union s t) c piece new =
     above-two piece (numbered s (c .1) (child-piece (c .0) piece new) (one (c .0) + new))
-    (numbered t (c .3) (child-piece (c .2) piece (one (c .0) + cuts s (c .1) + new)) (one (c .2) + (one (c .0) + cuts s (c .1) + new)))
+    (numbered t (c .3) (child-piece (c .2) piece (one (c .0) + cuts s (c .1) + new))
+    (one (c .2) + (one (c .0) + cuts s (c .1) + new)))
 numbered (star s) c piece new = above-one piece (numbered s (c .1) (child-piece (c .0) piece new) (one (c .0) + new))
 
 -- the piece of a record, from its bytes 6 and 7
@@ -56,28 +60,35 @@ abbrev pub in-two-bytes : ℕ → ℕ
 in-two-bytes n = n % 256 + 256 * (n / 256 % 256)
 
 -- the records hold the pieces of the nodes
-pub pieces-of-records : (t : Tree ℕ) (c : Cut t) (first piece new : ℕ) (rest : List ℕ)
-    → each-record piece-read (records t c first piece new ++ rest) ≡ map in-two-bytes (in-postorder (numbered t c piece new)) ++ each-record piece-read rest
+pub pieces-of-records : (t : Tree Leaf) (c : Cut t) (first piece new : ℕ) (rest : List ℕ)
+    → each-record piece-read (records t c first piece new ++ rest)
+    ≡ map in-two-bytes (in-postorder (numbered t c piece new)) ++ each-record piece-read rest
 pieces-of-records (leaf a) c first piece new rest = refl
 pieces-of-records (catenation s t) c first piece new rest =
-    let left = pieces-of-records s (c .1) in let right = pieces-of-records t (c .3) in simp (append-assoc, map-append, left, right)
+    let left = pieces-of-records s (c .1) in let right =
+    pieces-of-records t (c .3) in simp (append-assoc, map-append, left, right)
 pieces-of-records (union s t) c first piece new rest =
-    let left = pieces-of-records s (c .1) in let right = pieces-of-records t (c .3) in simp (append-assoc, map-append, left, right)
-pieces-of-records (star s) c first piece new rest = let only = pieces-of-records s (c .1) in simp (append-assoc, map-append, only)
+    let left = pieces-of-records s (c .1) in let right =
+    pieces-of-records t (c .3) in simp (append-assoc, map-append, left, right)
+pieces-of-records (star s) c first piece new rest = let only =
+    pieces-of-records s (c .1) in simp (append-assoc, map-append, only)
 
 -- a is the number of the root's piece, or one of the k numbers from `new` on
 abbrev pub Root-or-run : (a piece new k : ℕ) → Type 0
 Root-or-run a piece new k = (a ≡ piece) ⊎ ((new ≤ a) × (a < new + k))
 
--- the numbers of a child are its parent's, or lie in the run from `new` on: where the edge is cut, the child's own is the first of them
-from-child : (b : Bool) (a piece new k : ℕ) → Root-or-run a (child-piece b piece new) (one b + new) k → Root-or-run a piece new (one b + k)
+-- the numbers of a child are its parent's, or lie in the run from `new` on: where the edge is cut, the child's own is
+-- the first of them
+from-child : (b : Bool) (a piece new k : ℕ) → Root-or-run a (child-piece b piece new) (one b + new) k
+    → Root-or-run a piece new (one b + k)
 from-child true a piece new k (inl e) = inr (omega arith)
 from-child true a piece new k (inr h) = inr (omega arith)
 from-child false a piece new k (inl e) = inl e
 from-child false a piece new k (inr h) = inr (omega arith)
 
 -- and every number of the run is one of the child's
-to-child : (b : Bool) (a piece new k : ℕ) → new ≤ a → a < new + (one b + k) → Root-or-run a (child-piece b piece new) (one b + new) k
+to-child : (b : Bool) (a piece new k : ℕ) → new ≤ a → a < new + (one b + k)
+    → Root-or-run a (child-piece b piece new) (one b + new) k
 to-child true a piece new k low high = elim (decLt new a) [ yes h ↦ inr (omega arith) | no h ↦ inl (omega arith) ]
 to-child false a piece new k low high = inr (omega arith)
 
@@ -101,7 +112,8 @@ exactly-two a piece new b c k m {X} {Y} left right = (there, back)
     there : (a ≡ piece) ⊎ (X ⊎ Y) → Root-or-run a piece new (one b + k + (one c + m))
     there (inl e) = inl e
     there (inr (inl h)) = first-run a piece new (one b + k) (one c + m) (from-child b a piece new k (left .0 h))
-    there (inr (inr h)) = second-run a piece new (one b + k) (one c + m) (from-child c a piece (one b + k + new) m (right .0 h))
+    there (inr (inr h)) =
+        second-run a piece new (one b + k) (one c + m) (from-child c a piece (one b + k + new) m (right .0 h))
 
     back : Root-or-run a piece new (one b + k + (one c + m)) → (a ≡ piece) ⊎ (X ⊎ Y)
     back (inl e) = inl e
@@ -133,12 +145,17 @@ exactly-alone a piece new = (inl, back)
     back (inl e) = e
     back (inr h) = omega arith
 
--- in a subtree stand the number of its root's piece and the run of numbers from `new` on, one for each cut edge, with no gap and no other.
--- Where the edge above the subtree is cut, the root's number is new - 1, so they are one run: a piece and those below it own the numbers of the piece and the next ones
-pub numbers-exactly : {A : Type 0} (t : Tree A) (c : Cut t) (piece new a : ℕ) → Stands a (numbered t c piece new) ↔ Root-or-run a piece new (cuts t c)
+-- in a subtree stand the number of its root's piece and the run of numbers from `new` on, one for each cut edge, with
+-- no gap and no other.
+-- Where the edge above the subtree is cut, the root's number is new - 1, so they are one run: a piece and those below
+-- it own the numbers of the piece and the next ones
+pub numbers-exactly : {A : Type 0} (t : Tree A) (c : Cut t) (piece new a : ℕ) → Stands a (numbered t c piece new)
+    ↔ Root-or-run a piece new (cuts t c)
 numbers-exactly (leaf l) c piece new a = exactly-alone a piece new
-numbers-exactly (catenation s t) c piece new a = exactly-two a piece new (c .0) (c .2) _ _ (numbers-exactly s (c .1) _ _ a) (numbers-exactly t (c .3) _ _ a)
-numbers-exactly (union s t) c piece new a = exactly-two a piece new (c .0) (c .2) _ _ (numbers-exactly s (c .1) _ _ a) (numbers-exactly t (c .3) _ _ a)
+numbers-exactly (catenation s t) c piece new a =
+    exactly-two a piece new (c .0) (c .2) _ _ (numbers-exactly s (c .1) _ _ a) (numbers-exactly t (c .3) _ _ a)
+numbers-exactly (union s t) c piece new a = exactly-two a piece new (c .0) (c .2) _ _ (numbers-exactly s (c .1) _ _ a)
+    (numbers-exactly t (c .3) _ _ a)
 numbers-exactly (star s) c piece new a = exactly-one a piece new (c .0) _ (numbers-exactly s (c .1) _ _ a)
 
 -- a number below 65,536 is as two bytes hold it
@@ -146,7 +163,8 @@ held : (n : ℕ) → n < 65536 → in-two-bytes n ≡ n
 held n h = omega arith
 
 -- so is a list of such numbers
-held-in-postorder : (x : Numbers) → ((a : ℕ) → Stands a x → a < 65536) → map in-two-bytes (in-postorder x) ≡ in-postorder x
+held-in-postorder : (x : Numbers) → ((a : ℕ) → Stands a x → a < 65536) → map in-two-bytes (in-postorder x)
+    ≡ in-postorder x
 held-in-postorder (alone n) h = rw (held n (h n refl))
 held-in-postorder (above-one n x) h =
     let root = held n (h n (inl refl)) in
@@ -167,7 +185,10 @@ numbers-below t c a h = by-place (numbers-exactly t c 0 1 a .0 h)
     by-place (inr r) = r .1
 
 -- a good list holds in its records the piece of each node
-pub pieces-of-good : (bytes : List ℕ) (t : Tree ℕ) → Good bytes t → each-record piece-read bytes ≡ in-postorder (numbered t (wanted t) 0 1)
+pub pieces-of-good : (bytes : List ℕ) (t : Tree Leaf) → Good bytes t → each-record piece-read bytes
+    ≡ in-postorder (numbered t (wanted t) 0 1)
 pieces-of-good bytes t good =
-    let small : (a : ℕ) → Stands a (numbered t (wanted t) 0 1) → a < 65536 = λ a h. omega (arith, numbers-below t (wanted t) a h, good .few) in
-    ap (each-record piece-read) (good .of-tree) ∙ simp append-nil at (pieces-of-records t (wanted t) 0 0 1 []) ∙ held-in-postorder (numbered t (wanted t) 0 1) small
+    let small : (a : ℕ) → Stands a (numbered t (wanted t) 0 1) → a < 65536 =
+    λ a h. omega (arith, numbers-below t (wanted t) a h, good .few) in
+    ap (each-record piece-read) (good .of-tree) ∙ simp append-nil at (pieces-of-records t (wanted t) 0 0 1 [])
+    ∙ held-in-postorder (numbered t (wanted t) 0 1) small

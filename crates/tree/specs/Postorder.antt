@@ -1,4 +1,5 @@
--- A tree is read back from its labels by a machine with a stack of trees: which lists of labels are those of one tree, and of which.
+-- A tree is read back from its labels by a machine with a stack of trees: which lists of labels are those of one tree,
+-- and of which.
 -- Assumes nothing.
 use Prim.Native.Nat.{ℕ, _+_, _*_, _/_, _%_}
 use mathlib.Core.Path.{_≡_, refl, sym, ap}
@@ -11,9 +12,11 @@ use lib.Dec.{eqb}
 use lib.Seq.{append-snoc}
 use borrow.Author.Tests.{eqb-true}
 use Rattle.language.specs.Tree.{Tree, leaf, catenation, union, star}
+use Rattle.tree.specs.Leaf.{Leaf}
 use Rattle.tree.specs.Records.{label-of, labels}
 
--- what a label asks for: a leaf with a character, a node over the last two trees or over the last one, or nothing that a tree has
+-- what a label asks for: a leaf with a character, a node over the last two trees or over the last one, or nothing that
+-- a tree has
 pub data Asked : Type 0 where
   a-leaf : ℕ → Asked
   a-catenation : Asked
@@ -28,7 +31,7 @@ asked label =
     (cond (eqb label 2) a-catenation (cond (eqb label 3) a-union (cond (eqb label 4) a-star nothing)))
 
 -- the stack, last tree first, after one label; none where the trees that it asks for are not there
-abbrev pub pushed : Asked → List (Tree ℕ) → Option (List (Tree ℕ))
+abbrev pub pushed : Asked → List (Tree Leaf) → Option (List (Tree Leaf))
 pushed (a-leaf a) stack = some (leaf a ∷ stack)
 pushed a-catenation [] = none
 pushed a-catenation (t ∷ []) = none
@@ -41,17 +44,18 @@ pushed a-star (s ∷ stack) = some (star s ∷ stack)
 pushed nothing stack = none
 
 -- go on with a stack, if there is one
-abbrev pub onward : Option (List (Tree ℕ)) → (List (Tree ℕ) → Option (List (Tree ℕ))) → Option (List (Tree ℕ))
+abbrev pub onward : Option (List (Tree Leaf)) → (List (Tree Leaf) → Option (List (Tree Leaf)))
+    → Option (List (Tree Leaf))
 onward none next = none
 onward (some stack) next = next stack
 
 -- the stack after a list of labels
-abbrev pub built : List ℕ → List (Tree ℕ) → Option (List (Tree ℕ))
+abbrev pub built : List ℕ → List (Tree Leaf) → Option (List (Tree Leaf))
 built [] stack = some stack
 built (label ∷ rest) stack = onward (pushed (asked label) stack) (built rest)
 
 -- the labels of the trees of a stack, first tree first
-abbrev pub labels-of-stack : List (Tree ℕ) → List ℕ
+abbrev pub labels-of-stack : List (Tree Leaf) → List ℕ
 labels-of-stack [] = []
 labels-of-stack (t ∷ stack) = labels-of-stack stack ++ labels t
 
@@ -63,7 +67,8 @@ asked-leaf a =
     rw (kind, character)
 
 -- the labels of a tree put that tree on the stack
-pub built-labels : (t : Tree ℕ) (rest : List ℕ) (stack : List (Tree ℕ)) → built (labels t ++ rest) stack ≡ built rest (t ∷ stack)
+pub built-labels : (t : Tree Leaf) (rest : List ℕ) (stack : List (Tree Leaf)) → built (labels t ++ rest) stack
+    ≡ built rest (t ∷ stack)
 built-labels (leaf a) rest stack = ap (λ (x : Asked). onward (pushed x stack) (built rest)) (asked-leaf a)
 built-labels (catenation s t) rest stack =
     let left = built-labels s in let right = built-labels t in simp (append-assoc, left, right)
@@ -72,7 +77,7 @@ built-labels (union s t) rest stack =
 built-labels (star s) rest stack = let only = built-labels s in simp (append-assoc, only)
 
 -- two trees with the same labels are the same
-pub labels-injective : (s t : Tree ℕ) → labels s ≡ labels t → s ≡ t
+pub labels-injective : (s t : Tree Leaf) → labels s ≡ labels t → s ≡ t
 labels-injective s t e =
     let from-s : built (labels s) [] ≡ some (s ∷ []) = rw append-nil at (built-labels s [] []) in
     let from-t : built (labels t) [] ≡ some (t ∷ []) = rw append-nil at (built-labels t [] []) in
@@ -89,7 +94,9 @@ Says label nothing = Unit {0}
 -- by the four tests
 tested : (label : ℕ) (is-leaf is-catenation is-union is-star : Bool)
     → eqb (label % 256) 1 ≡ is-leaf → eqb label 2 ≡ is-catenation → eqb label 3 ≡ is-union → eqb label 4 ≡ is-star
-    → Says label (cond is-leaf (a-leaf (label / 256)) (cond is-catenation a-catenation (cond is-union a-union (cond is-star a-star nothing))))
+    → Says label
+    (cond is-leaf (a-leaf (label / 256))
+    (cond is-catenation a-catenation (cond is-union a-union (cond is-star a-star nothing))))
 tested label true b c d e f g h = omega (arith, eqb-true (label % 256) 1 e)
 tested label false true c d e f g h = eqb-true _ _ f
 tested label false false true d e f g h = eqb-true _ _ g
@@ -101,12 +108,13 @@ pub asked-says : (label : ℕ) → Says label (asked label)
 asked-says label = tested label _ _ _ _ refl refl refl refl
 
 -- the trees of a stack, if there is one, have these labels
-abbrev pub Holds-labels : Option (List (Tree ℕ)) → List ℕ → Type 0
+abbrev pub Holds-labels : Option (List (Tree Leaf)) → List ℕ → Type 0
 Holds-labels none ls = Unit {0}
 Holds-labels (some stack) ls = labels-of-stack stack ≡ ls
 
 -- one label more: the new tree has the labels of those under it, and this one
-pushed-holds : (what : Asked) (label : ℕ) (stack : List (Tree ℕ)) → Says label what → Holds-labels (pushed what stack) (labels-of-stack stack ++ (label ∷ []))
+pushed-holds : (what : Asked) (label : ℕ) (stack : List (Tree Leaf)) → Says label what
+    → Holds-labels (pushed what stack) (labels-of-stack stack ++ (label ∷ []))
 pushed-holds (a-leaf a) label stack says = rw says
 pushed-holds a-catenation label [] says = tt
 pushed-holds a-catenation label (t ∷ []) says = tt
@@ -119,34 +127,41 @@ pushed-holds a-star label (s ∷ stack) says = simp (says, append-assoc)
 pushed-holds nothing label stack says = tt
 
 -- the stack has the labels that were read
-pub built-holds : (ls : List ℕ) (stack : List (Tree ℕ)) → Holds-labels (built ls stack) (labels-of-stack stack ++ ls)
+pub built-holds : (ls : List ℕ) (stack : List (Tree Leaf)) → Holds-labels (built ls stack) (labels-of-stack stack ++ ls)
 built-holds [] stack = rw append-nil
-built-holds (label ∷ rest) stack = later (pushed (asked label) stack) (pushed-holds (asked label) label stack (asked-says label)) (built-holds rest)
+built-holds (label ∷ rest) stack =
+    later (pushed (asked label) stack) (pushed-holds (asked label) label stack (asked-says label)) (built-holds rest)
   where
-    later : (o : Option (List (Tree ℕ))) → Holds-labels o (labels-of-stack stack ++ (label ∷ []))
-        → ((after : List (Tree ℕ)) → Holds-labels (built rest after) (labels-of-stack after ++ rest)) → Holds-labels (onward o (built rest)) (labels-of-stack stack ++ label ∷ rest)
+    later : (o : Option (List (Tree Leaf))) → Holds-labels o (labels-of-stack stack ++ (label ∷ []))
+        → ((after : List (Tree Leaf)) → Holds-labels (built rest after) (labels-of-stack after ++ rest))
+        → Holds-labels (onward o (built rest)) (labels-of-stack stack ++ label ∷ rest)
     later none h go-on = tt
     later (some after) h go-on = rw (h, append-snoc) at (go-on after)
 
 -- the labels of a stack's trees put them on the stack
-pub built-stack : (stack : List (Tree ℕ)) (rest : List ℕ) → built (labels-of-stack stack ++ rest) [] ≡ built rest stack
+pub built-stack : (stack : List (Tree Leaf)) (rest : List ℕ) → built (labels-of-stack stack ++ rest) []
+    ≡ built rest stack
 built-stack [] rest = refl
 built-stack (t ∷ stack) rest = let before = built-stack stack in simp (append-assoc, before, built-labels)
 
 -- the machine ends with a stack exactly when it read the labels of the stack's trees
-pub postorder-exactly : (ls : List ℕ) (stack : List (Tree ℕ)) → (built ls [] ≡ some stack) ↔ (ls ≡ labels-of-stack stack)
-postorder-exactly ls stack = (λ e. sym (rw e at (built-holds ls [])), λ e. rw (e, ← append-nil (labels-of-stack stack)) (built-stack stack []))
+pub postorder-exactly : (ls : List ℕ) (stack : List (Tree Leaf)) → (built ls [] ≡ some stack)
+    ↔ (ls ≡ labels-of-stack stack)
+postorder-exactly ls stack =
+    (λ e. sym (rw e at (built-holds ls [])), λ e. rw (e, ← append-nil (labels-of-stack stack)) (built-stack stack []))
 
 -- the machine ends with one tree exactly when it read that tree's labels
-pub one-tree-exactly : (ls : List ℕ) (t : Tree ℕ) → (built ls [] ≡ some (t ∷ [])) ↔ (ls ≡ labels t)
+pub one-tree-exactly : (ls : List ℕ) (t : Tree Leaf) → (built ls [] ≡ some (t ∷ [])) ↔ (ls ≡ labels t)
 one-tree-exactly ls t = postorder-exactly ls (t ∷ [])
 
 -- the labels may be read in two parts
-pub built-append : (xs ys : List ℕ) (stack : List (Tree ℕ)) → built (xs ++ ys) stack ≡ onward (built xs stack) (built ys)
+pub built-append : (xs ys : List ℕ) (stack : List (Tree Leaf))
+    → built (xs ++ ys) stack ≡ onward (built xs stack) (built ys)
 built-append [] ys stack = refl
 built-append (label ∷ xs) ys stack = later (pushed (asked label) stack) (built-append xs ys)
   where
-    later : (o : Option (List (Tree ℕ))) → ((after : List (Tree ℕ)) → built (xs ++ ys) after ≡ onward (built xs after) (built ys))
+    later : (o : Option (List (Tree Leaf)))
+        → ((after : List (Tree Leaf)) → built (xs ++ ys) after ≡ onward (built xs after) (built ys))
         → onward o (built (xs ++ ys)) ≡ onward (onward o (built xs)) (built ys)
     later none go-on = refl
     later (some after) go-on = go-on after

@@ -5,6 +5,7 @@ use mathlib.Core.Path.{_≡_}
 use mathlib.Core.Bool.{Bool, true, false}
 use mathlib.Core.List.{List, [], _∷_, _++_}
 use Rattle.language.specs.Tree.{Tree, leaf, catenation, union, star, nodes}
+use Rattle.tree.specs.Leaf.{Leaf}
 use Rattle.tree.specs.Cut.{Cut, cuts, pieces, one, wanted}
 
 -- a number in two bytes, the low one first
@@ -22,30 +23,32 @@ child-piece false piece new = piece
 
 -- the records of t, cut by c. Its first record has the number `first`, its root is in the piece `piece`, and the pieces
 -- that a walk (node, left, right) first meets below its root are numbered from `new`
-abbrev pub records : (t : Tree ℕ) → Cut t → (first piece new : ℕ) → List ℕ
+abbrev pub records : (t : Tree Leaf) → Cut t → (first piece new : ℕ) → List ℕ
 records (leaf a) c first piece new = record-of 1 a 65535 65535 piece
 records (catenation s t) c first piece new =
     records s (c .1) first (child-piece (c .0) piece new) (one (c .0) + new)
-    ++ records t (c .3) (first + nodes s) (child-piece (c .2) piece (one (c .0) + cuts s (c .1) + new)) (one (c .2) + (one (c .0) + cuts s (c .1) + new))
+    ++ records t (c .3) (first + nodes s) (child-piece (c .2) piece (one (c .0) + cuts s (c .1) + new))
+    (one (c .2) + (one (c .0) + cuts s (c .1) + new))
     ++ record-of 2 0 (first + nodes s - 1) (first + nodes s + nodes t - 1) piece
 records (union s t) c first piece new =
     records s (c .1) first (child-piece (c .0) piece new) (one (c .0) + new)
-    ++ records t (c .3) (first + nodes s) (child-piece (c .2) piece (one (c .0) + cuts s (c .1) + new)) (one (c .2) + (one (c .0) + cuts s (c .1) + new))
+    ++ records t (c .3) (first + nodes s) (child-piece (c .2) piece (one (c .0) + cuts s (c .1) + new))
+    (one (c .2) + (one (c .0) + cuts s (c .1) + new))
     ++ record-of 3 0 (first + nodes s - 1) (first + nodes s + nodes t - 1) piece
 records (star s) c first piece new =
     records s (c .1) first (child-piece (c .0) piece new) (one (c .0) + new)
     ++ record-of 4 0 (first + nodes s - 1) 65535 piece
 
 -- the list of a tree: its records, with the pieces of the wanted cut; the root's piece is 0
-abbrev pub encode : Tree ℕ → List ℕ
+abbrev pub encode : Tree Leaf → List ℕ
 encode t = records t (wanted t) 0 0 1
 
 -- how many pieces the wanted cut of t has
-abbrev pub piece-count : Tree ℕ → ℕ
+abbrev pub piece-count : Tree Leaf → ℕ
 piece-count t = pieces t (wanted t)
 
 -- the list is good, and t is its tree: it is the list of t, and there are at most 128 pieces
-pub record Good (bytes : List ℕ) (t : Tree ℕ) : Type 0 where
+pub record Good (bytes : List ℕ) (t : Tree Leaf) : Type 0 where
   pub of-tree : bytes ≡ encode t
   pub few : piece-count t ≤ 128
 
@@ -54,7 +57,7 @@ abbrev pub label-of : ℕ → ℕ → ℕ
 label-of kind character = kind + 256 * character
 
 -- the labels of a tree's records, in their order: what remains of a list when child and piece numbers are left out
-abbrev pub labels : Tree ℕ → List ℕ
+abbrev pub labels : Tree Leaf → List ℕ
 labels (leaf a) = label-of 1 a ∷ []
 labels (catenation s t) = labels s ++ labels t ++ (label-of 2 0 ∷ [])
 labels (union s t) = labels s ++ labels t ++ (label-of 3 0 ∷ [])

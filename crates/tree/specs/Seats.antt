@@ -1,5 +1,6 @@
 -- The seat of a record: the subtree whose root it holds, its piece, and the number of the first new piece below it.
--- A tree's seats stand in the order of its records. A slot is a record's number plus 1, and slot 0 stands for a child that is not there:
+-- A tree's seats stand in the order of its records. A slot is a record's number plus 1, and slot 0 stands for a child
+-- that is not there:
 -- so a star is a pair without a right child, a character a pair without any, and one rule serves all four kinds.
 -- Assumes nothing.
 use Prim.Native.Nat.{ℕ, zero, suc, _+_, _*_, _-_, _%_, _≤_, _<_}
@@ -14,74 +15,75 @@ use borrow.Author.Tests.{ne-eqb}
 use lib.ListN.{length, getD, length-append, List·getD-append}
 use lib.Seq.{getD-append-add, getD-at, getD-append-seam}
 use Rattle.language.specs.Tree.{Tree, leaf, catenation, union, star, nodes}
+use Rattle.tree.specs.Leaf.{Leaf}
 use Rattle.tree.specs.Cut.{cuts, one, wanted, cut-left, cut-right, open-size}
 use Rattle.tree.specs.Records.{child-piece, label-of, labels}
 
 -- the edges that the wanted cut cuts
-abbrev pub cut-edges : Tree ℕ → ℕ
+abbrev pub cut-edges : Tree Leaf → ℕ
 cut-edges t = cuts t (wanted t)
 
 -- the label of a tree's root
-abbrev pub root-label : Tree ℕ → ℕ
+abbrev pub root-label : Tree Leaf → ℕ
 root-label (leaf a) = label-of 1 a
 root-label (catenation s t) = label-of 2 0
 root-label (union s t) = label-of 3 0
 root-label (star s) = label-of 4 0
 
 -- a number of the left or only child, 0 where there is none
-abbrev pub of-left : (Tree ℕ → ℕ) → Tree ℕ → ℕ
+abbrev pub of-left : (Tree Leaf → ℕ) → Tree Leaf → ℕ
 of-left f (leaf a) = 0
 of-left f (catenation s t) = f s
 of-left f (union s t) = f s
 of-left f (star s) = f s
 
 -- a number of the right child, 0 where there is none
-abbrev pub of-right : (Tree ℕ → ℕ) → Tree ℕ → ℕ
+abbrev pub of-right : (Tree Leaf → ℕ) → Tree Leaf → ℕ
 of-right f (leaf a) = 0
 of-right f (catenation s t) = f t
 of-right f (union s t) = f t
 of-right f (star s) = 0
 
 -- whether the edge to the left or only child is cut
-abbrev pub left-cut : Tree ℕ → Bool
+abbrev pub left-cut : Tree Leaf → Bool
 left-cut u = cut-left (of-left open-size u) (of-right open-size u)
 
 -- whether the edge to the right child is cut
-abbrev pub right-cut : Tree ℕ → Bool
+abbrev pub right-cut : Tree Leaf → Bool
 right-cut u = cut-right (of-left open-size u) (of-right open-size u)
 
 -- the piece of u's left or only child, when u's own piece is p and its new pieces begin at n
-abbrev pub left-piece : Tree ℕ → (p n : ℕ) → ℕ
+abbrev pub left-piece : Tree Leaf → (p n : ℕ) → ℕ
 left-piece u p n = child-piece (left-cut u) p n
 
 -- the first new piece number below u's left or only child
-abbrev pub left-new : Tree ℕ → ℕ → ℕ
+abbrev pub left-new : Tree Leaf → ℕ → ℕ
 left-new u n = one (left-cut u) + n
 
 -- the first new piece number that the left child leaves
-abbrev pub past-left : Tree ℕ → ℕ → ℕ
+abbrev pub past-left : Tree Leaf → ℕ → ℕ
 past-left u n = one (left-cut u) + of-left cut-edges u + n
 
 -- the piece of u's right child
-abbrev pub right-piece : Tree ℕ → (p n : ℕ) → ℕ
+abbrev pub right-piece : Tree Leaf → (p n : ℕ) → ℕ
 right-piece u p n = child-piece (right-cut u) p (past-left u n)
 
 -- the first new piece number below u's right child
-abbrev pub right-new : Tree ℕ → ℕ → ℕ
+abbrev pub right-new : Tree Leaf → ℕ → ℕ
 right-new u n = one (right-cut u) + past-left u n
 
 -- a record's seat
 pub record Seat : Type 0 where
-  pub tree : Tree ℕ
+  pub tree : Tree Leaf
   pub piece : ℕ
   pub new : ℕ
 
 -- the seat of t, when its own piece is p and its new pieces begin at n
-abbrev pub seat : Tree ℕ → (p n : ℕ) → Seat
+abbrev pub seat : Tree Leaf → (p n : ℕ) → Seat
 seat t p n = record { tree = t; piece = p; new = n }
 
 -- the seats of t's records
-abbrev pub seats : Tree ℕ → (p n : ℕ) → List Seat
+abbrev pub seats : Tree Leaf → (p n : ℕ) → List Seat
 seats (leaf a) p n = seat (leaf a) p n ∷ []
 seats (catenation s t) p n =
     let u = catenation s t in
@@ -104,10 +106,12 @@ abbrev pub seat-at : List Seat → ℕ → Seat
 seat-at xs i = getD xs i no-seat
 
 -- one seat for each node
-pub length-seats : (t : Tree ℕ) (p n : ℕ) → length (seats t p n) ≡ nodes t
+pub length-seats : (t : Tree Leaf) (p n : ℕ) → length (seats t p n) ≡ nodes t
 length-seats (leaf a) p n = refl
-length-seats (catenation s t) p n = let e = length-seats s in let f = length-seats t in simp (length-append, e, f) (omega arith)
-length-seats (union s t) p n = let e = length-seats s in let f = length-seats t in simp (length-append, e, f) (omega arith)
+length-seats (catenation s t) p n = let e = length-seats s in let f =
+    length-seats t in simp (length-append, e, f) (omega arith)
+length-seats (union s t) p n = let e = length-seats s in let f =
+    length-seats t in simp (length-append, e, f) (omega arith)
 length-seats (star s) p n = let e = length-seats s in simp (length-append, e) (omega arith)
 
 -- x is the seat of record i: all that stands under x ends there
@@ -120,10 +124,17 @@ pub record Stands (xs : List Seat) (i : ℕ) (x : Seat) : Type 0 where
 -- it stands so with more seats behind
 stands-before : {xs : List Seat} {i : ℕ} {x : Seat} (ys : List Seat) → Stands xs i x → Stands (xs ++ ys) i x
 stands-before ys s =
-    record { before = s .before; after = s .after ++ ys; whole = ap (λ (l : List Seat). l ++ ys) (s .whole) ∙ simp append-assoc; ends = s .ends }
+    record {
+      before = s .before;
+      after = s .after ++ ys;
+      whole = ap (λ (l : List Seat). l ++ ys) (s .whole)
+          ∙ simp append-assoc;
+      ends = s .ends;
+    }
 
 -- and with more seats in front, which move its number
-stands-behind : (xs : List Seat) {ys : List Seat} {j : ℕ} {x : Seat} (i : ℕ) → i ≡ length xs + j → Stands ys j x → Stands (xs ++ ys) i x
+stands-behind : (xs : List Seat) {ys : List Seat} {j : ℕ} {x : Seat} (i : ℕ) → i ≡ length xs + j → Stands ys j x
+    → Stands (xs ++ ys) i x
 stands-behind xs i e s =
     record {
       before = xs ++ s .before;
@@ -145,7 +156,8 @@ seated-append xs ys p q i h = by-place (decLt i (length xs))
     by-place (yes l) = rw (List·getD-append xs ys no-seat i l) (stands-before ys (p i l))
     by-place (no l) =
         let j : length xs + (i - length xs) ≡ i = omega arith in
-        let e : seat-at (xs ++ ys) i ≡ seat-at ys (i - length xs) = rw j at (getD-append-add xs ys (i - length xs) no-seat) in
+        let e : seat-at (xs ++ ys) i ≡ seat-at ys (i - length xs) =
+        rw j at (getD-append-add xs ys (i - length xs) no-seat) in
         rw e (stands-behind xs i (sym j) (q (i - length xs) (omega (arith, length-append xs ys))))
 
 -- one more seat, whose children are those before it
@@ -171,7 +183,7 @@ unfolding Seated
 none-seated i h = absurd (not-suc-le-zero h)
 
 -- in a tree's list every seat stands so: it was put behind all that is under it
-pub seats-seated : (t : Tree ℕ) (p n : ℕ) → Seated (seats t p n)
+pub seats-seated : (t : Tree Leaf) (p n : ℕ) → Seated (seats t p n)
 seats-seated (leaf a) p n = seated-last [] _ none-seated refl
 seats-seated (catenation s t) p n = seated-last _ _ (seated-append _ _ (seats-seated s _ _) (seats-seated t _ _)) refl
 seats-seated (union s t) p n = seated-last _ _ (seated-append _ _ (seats-seated s _ _) (seats-seated t _ _)) refl
@@ -196,7 +208,8 @@ record Labelled (xs : List Seat) (ls : List ℕ) : Type 0 where
   so : ls ≡ map label xs
 
 -- two lists, one after the other
-labelled-append : {xs ys : List Seat} {ls ms : List ℕ} → Labelled xs ls → Labelled ys ms → Labelled (xs ++ ys) (ls ++ ms)
+labelled-append : {xs ys : List Seat} {ls ms : List ℕ} → Labelled xs ls → Labelled ys ms
+    → Labelled (xs ++ ys) (ls ++ ms)
 labelled-append e f = record { so = rw (map-append, e .so, f .so) }
 
 -- one seat
@@ -204,55 +217,67 @@ labelled-root : (x : Seat) → Labelled (x ∷ []) (label x ∷ [])
 labelled-root x = record { so = refl }
 
 -- a tree's list, node by node
-labelled : (t : Tree ℕ) (p n : ℕ) → Labelled (seats t p n) (labels t)
+labelled : (t : Tree Leaf) (p n : ℕ) → Labelled (seats t p n) (labels t)
 labelled (leaf a) p n = labelled-root (seat (leaf a) p n)
-labelled (catenation s t) p n = labelled-append (labelled-append (labelled s _ _) (labelled t _ _)) (labelled-root (seat (catenation s t) p n))
-labelled (union s t) p n = labelled-append (labelled-append (labelled s _ _) (labelled t _ _)) (labelled-root (seat (union s t) p n))
+labelled (catenation s t) p n = labelled-append (labelled-append (labelled s _ _) (labelled t _ _))
+    (labelled-root (seat (catenation s t) p n))
+labelled (union s t) p n = labelled-append (labelled-append (labelled s _ _) (labelled t _ _))
+    (labelled-root (seat (union s t) p n))
 labelled (star s) p n = labelled-append (labelled s _ _) (labelled-root (seat (star s) p n))
 
 -- the labels of a tree are those of its seats' roots
-pub labels-seats : (t : Tree ℕ) (p n : ℕ) → labels t ≡ map label (seats t p n)
+pub labels-seats : (t : Tree Leaf) (p n : ℕ) → labels t ≡ map label (seats t p n)
 labels-seats t p n = labelled t p n .so
 
 -- the seats below the root's
-abbrev pub below : Tree ℕ → (p n : ℕ) → List Seat
+abbrev pub below : Tree Leaf → (p n : ℕ) → List Seat
 below (leaf a) p n = []
-below (catenation s t) p n = let u = catenation s t in seats s (left-piece u p n) (left-new u n) ++ seats t (right-piece u p n) (right-new u n)
-below (union s t) p n = let u = union s t in seats s (left-piece u p n) (left-new u n) ++ seats t (right-piece u p n) (right-new u n)
+below (catenation s t) p n = let u = catenation s t in seats s (left-piece u p n) (left-new u n)
+    ++ seats t (right-piece u p n) (right-new u n)
+below (union s t) p n = let u = union s t in seats s (left-piece u p n) (left-new u n)
+    ++ seats t (right-piece u p n) (right-new u n)
 below (star s) p n = let u = star s in seats s (left-piece u p n) (left-new u n)
 
 -- a seat is the last of those under it
 root-last : (x : Seat) → under x ≡ below (x .tree) (x .piece) (x .new) ++ (x ∷ [])
 root-last x = by-kind (x .tree) (x .piece) (x .new)
   where
-    by-kind : (t : Tree ℕ) (p n : ℕ) → seats t p n ≡ below t p n ++ (seat t p n ∷ [])
+    by-kind : (t : Tree Leaf) (p n : ℕ) → seats t p n ≡ below t p n ++ (seat t p n ∷ [])
     by-kind (leaf a) p n = refl
     by-kind (catenation s t) p n = refl
     by-kind (union s t) p n = refl
     by-kind (star s) p n = refl
 
 -- the slot of a seat holds its number
-held-root : (f : Seat → ℕ) (before after : List Seat) (x : Seat) (j : ℕ) → length before + nodes (x .tree) ≡ j → held f (before ++ under x ++ after) j ≡ f x
+held-root : (f : Seat → ℕ) (before after : List Seat) (x : Seat) (j : ℕ) → length before + nodes (x .tree) ≡ j
+    → held f (before ++ under x ++ after) j ≡ f x
 held-root f before after x j e =
     let rest : List Seat = below (x .tree) (x .piece) (x .new) in
     let split : before ++ under x ++ after ≡ (before ++ rest) ++ x ∷ after = rw (root-last x) (simp append-assoc) in
     let all : length (under x) ≡ length rest + 1 = ap length (root-last x) ∙ length-append rest (x ∷ []) in
-    let long : suc (length (before ++ rest)) ≡ j = simp length-append (omega (arith, length-seats (x .tree) (x .piece) (x .new))) in
-    rw (split, ← long) (held-seat f (before ++ rest ++ x ∷ after) (length (before ++ rest)) (simp length-append (omega arith)) ∙ ap f (getD-append-seam (before ++ rest) x after no-seat))
+    let long : suc (length (before ++ rest)) ≡ j =
+    simp length-append (omega (arith, length-seats (x .tree) (x .piece) (x .new))) in
+    rw (split, ← long)
+    (held-seat f (before ++ rest ++ x ∷ after) (length (before ++ rest)) (simp length-append (omega arith))
+    ∙ ap f (getD-append-seam (before ++ rest) x after no-seat))
 
 -- the last slot is the root's
-pub held-whole : (f : Seat → ℕ) (t : Tree ℕ) (p n : ℕ) → held f (seats t p n) (nodes t) ≡ f (seat t p n)
+pub held-whole : (f : Seat → ℕ) (t : Tree Leaf) (p n : ℕ) → held f (seats t p n) (nodes t) ≡ f (seat t p n)
 held-whole f t p n =
     let one-part : seats t p n ≡ [] ++ seats t p n ++ [] = sym (append-nil (seats t p n)) in
     ap (λ (l : List Seat). held f l (nodes t)) one-part ∙ held-root f [] [] (seat t p n) (nodes t) (zero-add (nodes t))
 
 -- a number of the seat of u's left or only child, 0 where there is none
 abbrev pub of-left-seat : (Seat → ℕ) → Seat → ℕ
-of-left-seat f x = of-left (λ (s : Tree ℕ). f (seat s (left-piece (x .tree) (x .piece) (x .new)) (left-new (x .tree) (x .new)))) (x .tree)
+of-left-seat f x =
+    of-left (λ (s : Tree Leaf). f (seat s (left-piece (x .tree) (x .piece) (x .new)) (left-new (x .tree) (x .new))))
+    (x .tree)
 
 -- a number of the seat of u's right child, 0 where there is none
 abbrev pub of-right-seat : (Seat → ℕ) → Seat → ℕ
-of-right-seat f x = of-right (λ (t : Tree ℕ). f (seat t (right-piece (x .tree) (x .piece) (x .new)) (right-new (x .tree) (x .new)))) (x .tree)
+of-right-seat f x =
+    of-right (λ (t : Tree Leaf). f (seat t (right-piece (x .tree) (x .piece) (x .new)) (right-new (x .tree) (x .new))))
+    (x .tree)
 
 -- the slot of the right child of record i, whose label is given
 abbrev pub right-slot : (label i : ℕ) → ℕ
@@ -269,15 +294,18 @@ pub record Around (xs : List Seat) (i : ℕ) (x : Seat) : Type 0 where
   pub right : (f : Seat → ℕ) → held f xs (right-slot (label x) i) ≡ of-right-seat f x
 
 -- a pair's children end at its own record and where the right child begins
-pair-around : (xs before after : List Seat) (i : ℕ) (l r x : Seat) → xs ≡ before ++ (under l ++ under r ++ (x ∷ [])) ++ after
+pair-around : (xs before after : List Seat) (i : ℕ) (l r x : Seat) → xs ≡ before ++ (under l ++ under r ++ (x ∷ []))
+    ++ after
     → length before + (nodes (l .tree) + nodes (r .tree) + 1) ≡ i + 1
     → ((f : Seat → ℕ) → held f xs (i - nodes (r .tree)) ≡ f l) × ((f : Seat → ℕ) → held f xs i ≡ f r)
 pair-around xs before after i l r x whole ends =
     let left-first : xs ≡ before ++ under l ++ (under r ++ (x ∷ []) ++ after) = whole ∙ simp append-assoc in
     let right-first : xs ≡ before ++ under l ++ under r ++ ((x ∷ []) ++ after) = whole ∙ simp append-assoc in (
-      (λ f. ap (λ (l : List Seat). held f l (i - nodes (r .tree))) left-first ∙ held-root f before (under r ++ (x ∷ []) ++ after) l (i - nodes (r .tree)) (omega arith)),
+      (λ f. ap (λ (l : List Seat). held f l (i - nodes (r .tree))) left-first
+          ∙ held-root f before (under r ++ (x ∷ []) ++ after) l (i - nodes (r .tree)) (omega arith)),
       (λ f. ap (λ (l : List Seat). held f l i) right-first
-          ∙ held-root f (before ++ under l) ((x ∷ []) ++ after) r i (simp length-append (omega (arith, length-seats (l .tree) (l .piece) (l .new))))),
+          ∙ held-root f (before ++ under l) ((x ∷ []) ++ after) r i
+          (simp length-append (omega (arith, length-seats (l .tree) (l .piece) (l .new))))),
     )
 
 -- the only child ends at the star's own record
@@ -288,7 +316,7 @@ star-around xs before after i l x whole ends f =
     ap (λ (l : List Seat). held f l i) only-first ∙ held-root f before ((x ∷ []) ++ after) l i (omega arith)
 
 -- the children stand where their slots say
-around-root : (xs : List Seat) (i : ℕ) (u : Tree ℕ) (p n : ℕ) → Stands xs i (seat u p n) → Around xs i (seat u p n)
+around-root : (xs : List Seat) (i : ℕ) (u : Tree Leaf) (p n : ℕ) → Stands xs i (seat u p n) → Around xs i (seat u p n)
 around-root xs i (leaf a) p n s =
     let character : (1 + 256 * a) % 256 ≡ 1 = omega arith in
     let no-catenation : eqb (1 + 256 * a) 2 ≡ false = ne-eqb (1 + 256 * a) 2 (omega arith) in
@@ -296,17 +324,20 @@ around-root xs i (leaf a) p n s =
     record { inside = omega arith; left = λ f. rw character; right = λ f. rw (no-catenation, no-union) }
 around-root xs i (catenation s t) p n w =
     let u = catenation s t in
-    let children = pair-around xs (w .before) (w .after) i (seat s (left-piece u p n) (left-new u n)) (seat t (right-piece u p n) (right-new u n)) (seat u p n) (w .whole) (w .ends) in
+    let children = pair-around xs (w .before) (w .after) i (seat s (left-piece u p n) (left-new u n))
+    (seat t (right-piece u p n) (right-new u n)) (seat u p n) (w .whole) (w .ends) in
     record { inside = omega (arith, w .ends); left = children .0; right = children .1 }
 around-root xs i (union s t) p n w =
     let u = union s t in
-    let children = pair-around xs (w .before) (w .after) i (seat s (left-piece u p n) (left-new u n)) (seat t (right-piece u p n) (right-new u n)) (seat u p n) (w .whole) (w .ends) in
+    let children = pair-around xs (w .before) (w .after) i (seat s (left-piece u p n) (left-new u n))
+    (seat t (right-piece u p n) (right-new u n)) (seat u p n) (w .whole) (w .ends) in
     record { inside = omega (arith, w .ends); left = children .0; right = children .1 }
 around-root xs i (star s) p n w =
     let u = star s in
     record {
       inside = omega (arith, w .ends);
-      left = λ f. rw sub-zero (star-around xs (w .before) (w .after) i (seat s (left-piece u p n) (left-new u n)) (seat u p n) (w .whole) (w .ends) f);
+      left = λ f. rw sub-zero (star-around xs (w .before) (w .after) i (seat s (left-piece u p n) (left-new u n))
+          (seat u p n) (w .whole) (w .ends) f);
       right = λ f. refl;
     }
 

@@ -45,7 +45,12 @@ none-met low = record { known = λ a l h. absurd (omega arith); unknown = λ a h
 
 -- one more is met
 one-met : (met : List ℕ) (low k : ℕ) → Met met low k → Met ((low + k) ∷ met) low (k + 1)
-one-met met low k m = record { known = λ a l h. by-last a l h (decLt a (low + k)); unknown = λ a h. rw (ne-eqb a (low + k) (λ e. omega arith), m .unknown a (omega arith)) }
+one-met met low k m =
+    record {
+      known = λ a l h. by-last a l h (decLt a (low + k));
+      unknown =
+          λ a h. rw (ne-eqb a (low + k) (λ e. omega arith), m .unknown a (omega arith));
+    }
   where
     by-last : (a : ℕ) → low ≤ a → a < low + (k + 1) → Dec (a < low + k) → member a ((low + k) ∷ met) ≡ true
     by-last a l h (yes before) = rw (m .known a l before) (or-true (eqb a (low + k)))
@@ -58,15 +63,18 @@ counted-grows (again l h counted) = counted-grows counted
 counted-grows (next e counted) = omega (arith, counted-grows counted)
 
 -- in a counted list the numbers that stand first are the next ones, upwards
-firsts-counted : {l : List ℕ} {low k n : ℕ} (met : List ℕ) → Met met low k → Counted low k l n → firsts met l ≡ upwards (low + k) (n - k)
+firsts-counted : {l : List ℕ} {low k n : ℕ} (met : List ℕ) → Met met low k → Counted low k l n
+    → firsts met l ≡ upwards (low + k) (n - k)
 firsts-counted {k = k} met m done = let nothing-left : k - k ≡ 0 = omega arith in rw nothing-left
 firsts-counted met m (again {a = a} l h counted) = rw (m .known a l h) (firsts-counted met m counted)
 firsts-counted {low = low} {k = k} {n = n} met m (next {rest = rest} e counted) =
     let one-left : n - k ≡ suc (n - (k + 1)) = omega (arith, counted-grows counted) in
     let further : low + k + 1 ≡ low + (k + 1) = omega arith in
-    rw (e, m .unknown (low + k) (omega arith), one-left, further) (ap (λ (more : List ℕ). (low + k) ∷ more) (firsts-counted ((low + k) ∷ met) (one-met met low k m) counted))
+    rw (e, m .unknown (low + k) (omega arith), one-left, further)
+    (ap (λ (more : List ℕ). (low + k) ∷ more) (firsts-counted ((low + k) ∷ met) (one-met met low k m) counted))
 
--- the root of a subtree is met when k numbers from low on were: its piece was met before, or is the next one. Then `after` were met, and `new` comes next
+-- the root of a subtree is met when k numbers from low on were: its piece was met before, or is the next one. Then
+-- `after` were met, and `new` comes next
 data Root-met (low k piece new after : ℕ) : Type 0 where
   before : low ≤ piece → piece < low + k → new ≡ low + k → after ≡ k → Root-met low k piece new after
   now : piece ≡ low + k → new ≡ low + after → after ≡ k + 1 → Root-met low k piece new after
@@ -83,52 +91,70 @@ goes-on (before l h e f) = record { from-low = l; is-met = omega arith; comes-ne
 goes-on (now h e f) = record { from-low = omega arith; is-met = omega arith; comes-next = e }
 
 -- a child's root is in its parent's piece, or in the next one
-child-met : (b : Bool) (low k piece new : ℕ) → Goes-on low k piece new → Root-met low k (child-piece b piece new) (one b + new) (one b + k)
+child-met : (b : Bool) (low k piece new : ℕ) → Goes-on low k piece new
+    → Root-met low k (child-piece b piece new) (one b + new) (one b + k)
 child-met true low k piece new g = now (g .comes-next) (omega arith) (omega arith)
 child-met false low k piece new g = before (g .from-low) (omega arith) (omega arith) (omega arith)
 
 -- then the rest of the list is counted on
-root-counted : {low k piece new after n : ℕ} {l : List ℕ} → Root-met low k piece new after → Counted low after l n → Counted low k (piece ∷ l) n
+root-counted : {low k piece new after n : ℕ} {l : List ℕ} → Root-met low k piece new after → Counted low after l n
+    → Counted low k (piece ∷ l) n
 root-counted (before from h e f) rest = again from h (rw f at rest)
 root-counted (now h e f) rest = next h (rw f at rest)
 
--- with cut more pieces below its root, a subtree numbered as x says is counted in its walk, and so is the list behind it from there on
+-- with cut more pieces below its root, a subtree numbered as x says is counted in its walk, and so is the list behind
+-- it from there on
 abbrev Counts : (ℕ → ℕ → Numbers) → ℕ → Type 0
 Counts x cut =
-    (low k piece new after last : ℕ) (rest : List ℕ) (n : ℕ) → Root-met low k piece new after → last ≡ after + cut → Counted low last rest n
+    (low k piece new after last : ℕ) (rest : List ℕ) (n : ℕ) → Root-met low k piece new after → last ≡ after + cut
+    → Counted low last rest n
     → Counted low k (in-walk (x piece new) ++ rest) n
 
 -- a leaf: its root alone
 counts-alone : Counts (λ piece new. alone piece) 0
-counts-alone low k piece new after last rest n root e later = let none-below : last ≡ after = omega arith in root-counted root (rw none-below at later)
+counts-alone low k piece new after last rest n root e later = let none-below : last ≡ after =
+    omega arith in root-counted root (rw none-below at later)
 
 -- a star: its root, then its operand
-counts-one : (b : Bool) (x : ℕ → ℕ → Numbers) (i : ℕ) → Counts x i → Counts (λ piece new. above-one piece (x (child-piece b piece new) (one b + new))) (one b + i)
+counts-one : (b : Bool) (x : ℕ → ℕ → Numbers) (i : ℕ) → Counts x i
+    → Counts (λ piece new. above-one piece (x (child-piece b piece new) (one b + new))) (one b + i)
 counts-one b x i only low k piece new after last rest n root e later =
-    root-counted root (only low after _ _ (one b + after) last rest n (child-met b low after piece new (goes-on root)) (omega arith) later)
+    root-counted root (only low after _ _ (one b + after) last rest n (child-met b low after piece new (goes-on root))
+    (omega arith) later)
 
 -- a node with two children: its root, then the left one, then the right one
 counts-two : (b c : Bool) (x y : ℕ → ℕ → Numbers) (i j : ℕ) → Counts x i → Counts y j
-    → Counts (λ piece new. above-two piece (x (child-piece b piece new) (one b + new)) (y (child-piece c piece (one b + i + new)) (one c + (one b + i + new)))) (one b + i + (one c + j))
+    → Counts (λ piece new. above-two piece (x (child-piece b piece new) (one b + new))
+    (y (child-piece c piece (one b + i + new)) (one c + (one b + i + new)))) (one b + i + (one c + j))
 counts-two b c x y i j left right low k piece new after last rest n root e later =
     let g = goes-on root in
-    let further : Goes-on low (one b + i + after) piece (one b + i + new) = record { from-low = g .from-low; is-met = omega arith; comes-next = omega arith } in
-    root-counted root (rw append-assoc (left low after _ _ (one b + after) (one b + i + after) _ n (child-met b low after piece new g) (omega arith)
-    (right low (one b + i + after) _ _ (one c + (one b + i + after)) last rest n (child-met c low (one b + i + after) piece (one b + i + new) further) (omega arith) later)))
+    let further : Goes-on low (one b + i + after) piece (one b + i + new) =
+    record { from-low = g .from-low; is-met = omega arith; comes-next = omega arith } in
+    root-counted root
+    (rw append-assoc (left low after _ _ (one b + after) (one b + i + after) _ n (child-met b low after piece new g)
+    (omega arith)
+    (right low (one b + i + after) _ _ (one c + (one b + i + after)) last rest n
+    (child-met c low (one b + i + after) piece (one b + i + new) further) (omega arith) later)))
 
 -- every subtree is counted in its walk
 counted : {A : Type 0} (t : Tree A) (c : Cut t) → Counts (numbered t c) (cuts t c)
 counted (leaf a) c = counts-alone
-counted (catenation s t) c = counts-two (c .0) (c .2) (numbered s (c .1)) (numbered t (c .3)) _ _ (counted s (c .1)) (counted t (c .3))
-counted (union s t) c = counts-two (c .0) (c .2) (numbered s (c .1)) (numbered t (c .3)) _ _ (counted s (c .1)) (counted t (c .3))
+counted (catenation s t) c = counts-two (c .0) (c .2) (numbered s (c .1)) (numbered t (c .3)) _ _ (counted s (c .1))
+    (counted t (c .3))
+counted (union s t) c = counts-two (c .0) (c .2) (numbered s (c .1)) (numbered t (c .3)) _ _ (counted s (c .1))
+    (counted t (c .3))
 counted (star s) c = counts-one (c .0) (numbered s (c .1)) _ (counted s (c .1))
 
--- a walk first meets the pieces in the order of their numbers. Where a subtree's root is in the piece `first` and the edge above it is cut,
--- the walk through it meets the numbers first, first + 1, .. of its pieces in this order, with no gap; for the whole tree `first` is 0
-pub walk-meets-in-order : {A : Type 0} (t : Tree A) (c : Cut t) (first : ℕ) → firsts [] (in-walk (numbered t c first (1 + first))) ≡ upwards first (pieces t c)
+-- a walk first meets the pieces in the order of their numbers. Where a subtree's root is in the piece `first` and the
+-- edge above it is cut,
+-- the walk through it meets the numbers first, first + 1, .. of its pieces in this order, with no gap; for the whole
+-- tree `first` is 0
+pub walk-meets-in-order : {A : Type 0} (t : Tree A) (c : Cut t) (first : ℕ)
+    → firsts [] (in-walk (numbered t c first (1 + first))) ≡ upwards first (pieces t c)
 walk-meets-in-order t c first =
     let all : Counted first 0 (in-walk (numbered t c first (1 + first)) ++ []) (pieces t c) =
-    counted t c first 0 first (1 + first) 1 (pieces t c) [] (pieces t c) (now (omega arith) (omega arith) (omega arith)) refl done in
+    counted t c first 0 first (1 + first) 1 (pieces t c) [] (pieces t c) (now (omega arith) (omega arith) (omega arith))
+    refl done in
     let from-first : first + 0 ≡ first = omega arith in
     let all-of-them : pieces t c - 0 ≡ pieces t c = omega arith in
     rw (from-first, all-of-them) at (firsts-counted [] (none-met first) (rw append-nil at all))

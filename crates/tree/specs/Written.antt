@@ -13,20 +13,42 @@ use lib.Seq.{drop-append-add, getD-append-add}
 use native.Mathlib.Decide.{decLt}
 use borrow.Author.Tests.{ne-eqb}
 use Rattle.language.specs.Tree.{Tree, leaf, catenation, union, star, nodes}
+use Rattle.tree.specs.Leaf.{Leaf}
 use Rattle.tree.specs.Cut.{one, wanted, open-size}
 use Rattle.tree.specs.Records.{child-piece, record-of, two-bytes, records, encode, piece-count}
-use Rattle.tree.specs.Seats.{Seat, seat, seats, seat-at, no-seat, label, root-label, of-right, left-slot, right-slot, left-piece, left-new, right-piece, right-new, past-left, left-cut, right-cut, of-left, cut-edges, length-seats}
+use Rattle.tree.specs.Seats.{
+  Seat,
+  seat,
+  seats,
+  seat-at,
+  no-seat,
+  label,
+  root-label,
+  of-right,
+  left-slot,
+  right-slot,
+  left-piece,
+  left-new,
+  right-piece,
+  right-new,
+  past-left,
+  left-cut,
+  right-cut,
+  of-left,
+  cut-edges,
+  length-seats,
+}
 use Rattle.tree.specs.Gathered.{only-left, cuts-gathered}
 
 -- the kind of a tree's root
-abbrev pub root-kind : Tree ℕ → ℕ
+abbrev pub root-kind : Tree Leaf → ℕ
 root-kind (leaf a) = 1
 root-kind (catenation s t) = 2
 root-kind (union s t) = 3
 root-kind (star s) = 4
 
 -- the character of a tree's root, 0 for the other kinds
-abbrev pub root-character : Tree ℕ → ℕ
+abbrev pub root-character : Tree Leaf → ℕ
 root-character (leaf a) = a
 root-character (catenation s t) = 0
 root-character (union s t) = 0
@@ -52,14 +74,16 @@ written-append : (i : ℕ) (xs ys : List Seat) → written i (xs ++ ys) ≡ writ
 written-append i [] ys = rw add-zero
 written-append i (x ∷ xs) ys =
     let e : suc i + length xs ≡ i + suc (length xs) = omega arith in
-    ap (λ (l : List ℕ). record-at i x ++ l) (written-append (suc i) xs ys ∙ ap (λ (k : ℕ). written (suc i) xs ++ written k ys) e)
+    ap (λ (l : List ℕ). record-at i x ++ l) (written-append (suc i) xs ys
+    ∙ ap (λ (k : ℕ). written (suc i) xs ++ written k ys) e)
 
 -- these bytes are the records of the seats
 record Writes (xs : List Seat) (first : ℕ) (bytes : List ℕ) : Type 0 where
   so : bytes ≡ written first xs
 
 -- two lists of records, one after the other
-writes-append : {xs ys : List Seat} {first : ℕ} (next : ℕ) {bs cs : List ℕ} → next ≡ first + length xs → Writes xs first bs → Writes ys next cs → Writes (xs ++ ys) first (bs ++ cs)
+writes-append : {xs ys : List Seat} {first : ℕ} (next : ℕ) {bs cs : List ℕ} → next ≡ first + length xs
+    → Writes xs first bs → Writes ys next cs → Writes (xs ++ ys) first (bs ++ cs)
 writes-append {xs} {ys} {first} next e v w =
     record { so = rw (v .so, w .so, e) (sym (written-append first xs ys)) }
 
@@ -69,11 +93,17 @@ number-of slot n e = rw (ne-eqb slot 0 (omega arith)) (omega arith)
 
 -- the record of a pair whose children have m and k nodes
 pair-record : (kind p first m k : ℕ) → 1 ≤ m
-    → record-of kind 0 (first + m - 1) (first + m + k - 1) p ≡ record-of kind 0 (child-number (first + m + k - k)) (child-number (first + m + k)) p
-pair-record kind p first m k h = rw (number-of (first + m + k - k) (first + m - 1) (omega arith), number-of (first + m + k) (first + m + k - 1) (omega arith))
+    → record-of kind 0 (first + m - 1) (first + m + k - 1) p ≡ record-of kind 0 (child-number (first + m + k - k))
+    (child-number (first + m + k)) p
+pair-record kind p first m k h =
+    rw (
+      number-of (first + m + k - k) (first + m - 1) (omega arith),
+      number-of (first + m + k) (first + m + k - 1) (omega arith),
+    )
 
 -- the record of a star whose child has m nodes
-star-record : (p first m : ℕ) → 1 ≤ m → record-of 4 0 (first + m - 1) 65535 p ≡ record-of 4 0 (child-number (first + m - 0)) 65535 p
+star-record : (p first m : ℕ) → 1 ≤ m → record-of 4 0 (first + m - 1) 65535 p
+    ≡ record-of 4 0 (child-number (first + m - 0)) 65535 p
 star-record p first m h = rw (number-of (first + m - 0) (first + m - 1) (omega arith))
 
 -- a leaf's children are none
@@ -83,7 +113,7 @@ leaf-record a p first =
     rw (character, ne-eqb (1 + 256 * a) 2 (omega arith), ne-eqb (1 + 256 * a) 3 (omega arith))
 
 -- the records of a tree are those of its seats
-writes : (t : Tree ℕ) (first p n : ℕ) → Writes (seats t p n) first (records t (wanted t) first p n)
+writes : (t : Tree Leaf) (first p n : ℕ) → Writes (seats t p n) first (records t (wanted t) first p n)
 writes (leaf a) first p n = record { so = leaf-record a p first }
 writes (catenation s t) first p n =
     let e = length-seats s in
@@ -99,12 +129,14 @@ writes (union s t) first p n =
     (record { so = pair-record 3 p first (nodes s) (nodes t) (nodes-positive s) })
 writes (star s) first p n =
     let e = length-seats s in
-    subst (λ (b : Bool). Writes (seats (star s) p n) first (records s (wanted s) first (child-piece b p n) (one b + n) ++ record-of 4 0 (first + nodes s - 1) 65535 p))
+    subst (λ (b : Bool). Writes (seats (star s) p n) first (records s (wanted s) first (child-piece b p n) (one b + n)
+    ++ record-of 4 0 (first + nodes s - 1) 65535 p))
     (only-left (open-size s))
-    (writes-append (first + nodes s) (simp e) (writes s first _ _) (record { so = star-record p first (nodes s) (nodes-positive s) }))
+    (writes-append (first + nodes s) (simp e) (writes s first _ _)
+    (record { so = star-record p first (nodes s) (nodes-positive s) }))
 
 -- the list of a tree, from its seats
-pub encode-written : (t : Tree ℕ) → encode t ≡ written 0 (seats t 0 1)
+pub encode-written : (t : Tree Leaf) → encode t ≡ written 0 (seats t 0 1)
 encode-written t = writes t 0 0 1 .so
 
 -- the records of some seats: 8 bytes each
@@ -113,7 +145,8 @@ length-written i [] = refl
 length-written i (x ∷ xs) = omega (arith, length-written (suc i) xs)
 
 -- the records from number j on begin with that of number j
-pub drop-written : (i j : ℕ) (xs : List Seat) → j < length xs → drop (8 * j) (written i xs) ≡ record-at (i + j) (seat-at xs j) ++ drop (8 * j + 8) (written i xs)
+pub drop-written : (i j : ℕ) (xs : List Seat) → j < length xs → drop (8 * j) (written i xs)
+    ≡ record-at (i + j) (seat-at xs j) ++ drop (8 * j + 8) (written i xs)
 drop-written i j [] h = absurd (not-suc-le-zero h)
 drop-written i zero (x ∷ xs) h = rw add-zero
 drop-written i (suc j) (x ∷ xs) h =
@@ -124,10 +157,12 @@ drop-written i (suc j) (x ∷ xs) h =
     let number : suc i + j ≡ i + suc j = omega arith in
     ap (λ (k : ℕ). drop k (record-at i x ++ rest)) here ∙ past (8 * j) ∙ drop-written (suc i) j xs (le-of-suc-le-suc h)
     ∙ ap (λ (k : ℕ). record-at k (seat-at xs j) ++ drop (8 * j + 8) rest) number
-    ∙ ap (λ (l : List ℕ). record-at (i + suc j) (seat-at xs j) ++ l) (sym (ap (λ (k : ℕ). drop k (record-at i x ++ rest)) next ∙ past (8 * j + 8)))
+    ∙ ap (λ (l : List ℕ). record-at (i + suc j) (seat-at xs j) ++ l)
+    (sym (ap (λ (k : ℕ). drop k (record-at i x ++ rest)) next ∙ past (8 * j + 8)))
 
 -- the first two bytes of a record are its label
-pub label-bytes : (u : Tree ℕ) → root-label u < 65536 → two-bytes (root-label u) ≡ root-kind u ∷ root-character u ∷ []
+pub label-bytes : (u : Tree Leaf) → root-label u < 65536 → two-bytes (root-label u)
+    ≡ root-kind u ∷ root-character u ∷ []
 label-bytes (leaf a) h =
     let kind : (1 + 256 * a) % 256 ≡ 1 = omega arith in
     let character : (1 + 256 * a) / 256 ≡ a = omega arith in
@@ -137,7 +172,8 @@ label-bytes (catenation s t) h = refl
 label-bytes (union s t) h = refl
 label-bytes (star s) h = refl
 
--- a seat's numbers stay below those that its tree was given: its piece is older than its new pieces, and these end in time
+-- a seat's numbers stay below those that its tree was given: its piece is older than its new pieces, and these end in
+-- time
 pub record Small (limit : ℕ) (x : Seat) : Type 0 where
   pub older : x .piece < x .new
   pub bounded : x .new + cut-edges (x .tree) ≤ limit
@@ -155,7 +191,8 @@ small-append limit xs ys p q i h = by-place (decLt i (length xs))
     by-place (yes l) = rw (List·getD-append xs ys no-seat i l) (p i l)
     by-place (no l) =
         let j : length xs + (i - length xs) ≡ i = omega arith in
-        let e : seat-at (xs ++ ys) i ≡ seat-at ys (i - length xs) = rw j at (getD-append-add xs ys (i - length xs) no-seat) in
+        let e : seat-at (xs ++ ys) i ≡ seat-at ys (i - length xs) =
+        rw j at (getD-append-add xs ys (i - length xs) no-seat) in
         rw e (q (i - length xs) (omega (arith, length-append xs ys)))
 
 -- in a list of one
@@ -170,34 +207,48 @@ child-older true p m n h k = omega arith
 child-older false p m n h k = omega arith
 
 -- so do the numbers of a pair's children
-small-left : (limit : ℕ) (u s : Tree ℕ) (p n after : ℕ) → cut-edges u ≡ one (left-cut u) + cut-edges s + after → Small limit (seat u p n)
+small-left : (limit : ℕ) (u s : Tree Leaf) (p n after : ℕ) → cut-edges u ≡ one (left-cut u) + cut-edges s + after
+    → Small limit (seat u p n)
     → Small limit (seat s (left-piece u p n) (left-new u n))
-small-left limit u s p n after e w = record { older = child-older (left-cut u) p n n (w .older) (le-refl n); bounded = omega (arith, w .bounded) }
+small-left limit u s p n after e w = record {
+  older = child-older (left-cut u) p n n (w .older) (le-refl n);
+  bounded =
+      omega (arith, w .bounded);
+}
 
 -- and those of the right one
-small-right : (limit : ℕ) (u t : Tree ℕ) (p n : ℕ) → cut-edges u ≡ one (left-cut u) + of-left cut-edges u + (one (right-cut u) + cut-edges t) → Small limit (seat u p n)
+small-right : (limit : ℕ) (u t : Tree Leaf) (p n : ℕ)
+    → cut-edges u ≡ one (left-cut u) + of-left cut-edges u + (one (right-cut u) + cut-edges t)
+    → Small limit (seat u p n)
     → Small limit (seat t (right-piece u p n) (right-new u n))
-small-right limit u t p n e w = record { older = child-older (right-cut u) p (past-left u n) n (w .older) (omega arith); bounded = omega (arith, w .bounded) }
+small-right limit u t p n e w = record {
+  older = child-older (right-cut u) p (past-left u n) n (w .older) (omega arith);
+  bounded = omega (arith, w .bounded);
+}
 
 -- the numbers of a tree's seats stay below what bounds the root's
-seats-small : (limit : ℕ) (t : Tree ℕ) (p n : ℕ) → Small limit (seat t p n) → Each-small limit (seats t p n)
+seats-small : (limit : ℕ) (t : Tree Leaf) (p n : ℕ) → Small limit (seat t p n) → Each-small limit (seats t p n)
 seats-small limit (leaf a) p n w = small-one limit (seat (leaf a) p n) w
 seats-small limit (catenation s t) p n w =
     let u = catenation s t in
     small-append limit _ _
-    (small-append limit _ _ (seats-small limit s _ _ (small-left limit u s p n _ refl w)) (seats-small limit t _ _ (small-right limit u t p n refl w)))
+    (small-append limit _ _ (seats-small limit s _ _ (small-left limit u s p n _ refl w))
+    (seats-small limit t _ _ (small-right limit u t p n refl w)))
     (small-one limit (seat u p n) w)
 seats-small limit (union s t) p n w =
     let u = union s t in
     small-append limit _ _
-    (small-append limit _ _ (seats-small limit s _ _ (small-left limit u s p n _ refl w)) (seats-small limit t _ _ (small-right limit u t p n refl w)))
+    (small-append limit _ _ (seats-small limit s _ _ (small-left limit u s p n _ refl w))
+    (seats-small limit t _ _ (small-right limit u t p n refl w)))
     (small-one limit (seat u p n) w)
 seats-small limit (star s) p n w =
     let u = star s in
-    small-append limit _ _ (seats-small limit s _ _ (small-left limit u s p n _ (cuts-gathered u) w)) (small-one limit (seat u p n) w)
+    small-append limit _ _ (seats-small limit s _ _ (small-left limit u s p n _ (cuts-gathered u) w))
+    (small-one limit (seat u p n) w)
 
 -- the numbers of a whole tree's seats end at its piece count
-pub seat-small : (t : Tree ℕ) (i : ℕ) → i < nodes t → Small (piece-count t) (seat-at (seats t 0 1) i)
+pub seat-small : (t : Tree Leaf) (i : ℕ) → i < nodes t → Small (piece-count t) (seat-at (seats t 0 1) i)
 unfolding Each-small
 seat-small t i h =
-    seats-small (piece-count t) t 0 1 (record { older = omega arith; bounded = le-refl (piece-count t) }) i (rw (length-seats t 0 1) h)
+    seats-small (piece-count t) t 0 1 (record { older = omega arith; bounded = le-refl (piece-count t) }) i
+    (rw (length-seats t 0 1) h)

@@ -22,7 +22,8 @@ fn high(n: u16) -> u8
 // Writes record i, and nothing else.
 pub fn write_record(out: &mut [u8], i: usize, label: u16, left: u16, right: u16, piece: u16)
     requires { ⌜ 8 * i + 8 ≤ length (now out) ⌝ }
-    ensures { λ _. ⌜ now (out .exit) ≡ take (8 * i) (now (out .entry)) ++ four-numbers label left right piece ++ drop (8 * i + 8) (now (out .entry)) ⌝ }
+    ensures { λ _. ⌜ now (out .exit) ≡ take (8 * i) (now (out .entry)) ++ four-numbers label left right piece
+        ++ drop (8 * i + 8) (now (out .entry)) ⌝ }
 {
     let at = 8 * i;
     out[at] = low(label);

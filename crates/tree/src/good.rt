@@ -25,7 +25,8 @@ fn label_from(kind: u8, character: u8) -> u16
 // Takes the labels off a list.
 fn take_labels(list: &[u8], labels: &mut [u16])
     requires { ⌜ 8 * length (now labels) ≤ length (now list) ⌝ }
-    ensures { λ _. ⌜ now (labels .exit) ≡ labels-of-bytes (take (8 * length (now (labels .entry))) (now (list .entry))) ⌝ }
+    ensures { λ _. ⌜ now (labels .exit) ≡ labels-of-bytes (take (8 * length (now (labels .entry))) (now (list .entry)))
+        ⌝ }
 {
     let mut i = 0;
     while i < labels.len() {

@@ -1,4 +1,5 @@
-// From the root down: the piece of every record, and the number of the first new piece below it, each in the record's slot.
+// From the root down: the piece of every record, and the number of the first new piece below it, each in the record's
+// slot.
 use crate::cut::left_cut;
 use crate::cut::one_if;
 use crate::cut::piece_below;

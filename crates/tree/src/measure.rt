@@ -12,7 +12,8 @@ pub fn measure(labels: &[u16], sizes: &mut [u16], opens: &mut [u16], cuts: &mut 
     requires { ⌜ Postorder (now labels) ⌝ }
     requires { ⌜ length (now labels) ≤ 2047 ⌝ }
     requires { ⌜ Room (now sizes) (now opens) (now cuts) ⌝ }
-    ensures { λ _. ⌜ Measured (now (labels .entry)) (now (sizes .exit)) (now (opens .exit)) (now (cuts .exit)) (length (now (labels .entry))) ⌝ }
+    ensures { λ _. ⌜ Measured (now (labels .entry)) (now (sizes .exit)) (now (opens .exit)) (now (cuts .exit))
+        (length (now (labels .entry))) ⌝ }
 {
     sizes[0] = 0;
     opens[0] = 0;

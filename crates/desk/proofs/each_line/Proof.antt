@@ -1,4 +1,5 @@
--- `desk::each_line` is safe and ends: a line ends within the input and not before it starts, and the measure is how many bytes are left. Assumes nothing.
+-- `desk::each_line` is safe and ends: a line ends within the input and not before it starts, and the measure is how
+-- many bytes are left. Assumes nothing.
 use Prim.Native.Nat.{_-_}
 use borrow.Author.Needs.{needs}
 use lib.ListN.{length}

@@ -1,4 +1,5 @@
--- `desk::line_end` meets its contract: the end lies between the start and the end of the input. The measure is how many bytes are left. Assumes nothing.
+-- `desk::line_end` meets its contract: the end lies between the start and the end of the input. The measure is how many
+-- bytes are left. Assumes nothing.
 use Prim.Native.Nat.{_-_, _≤_}
 use borrow.Author.Needs.{needs}
 use lib.ListN.{length}

@@ -10,42 +10,50 @@ use Rattle.finder.proofs.is_match.Lts as lts
 use Rattle.finder.proofs.good.matches_good.Reads as matches-good-reads
 use Rattle.tree.proofs.good.decide.Reads as decide-reads
 
--- src/lib.rt:40:9
 decide-requires : tie.Need-decide-requires
 decide-requires c κs = search needs
 
 enum-told : tie.Need-enum-told
 enum-told c = search needs
 
--- src/lib.rt:42:9
 enum-told-2 : tie.Need-enum-told-2
 enum-told-2 c = search needs
 
--- src/lib.rt:42:9
 returns : tie.Need-returns
 returns c = told-not-good _ (c .before .match .keys2) (c .before .before .decide .ensures)
 
--- src/lib.rt:45:9
 returns-2 : tie.Need-returns-2
 returns-2 c =
     let known = told-good _ (c .before .before .match .keys1) (c .before .before .before .decide .ensures) in
     record { t = known .some; good = known .good; long = c .if1 .taken }
 
--- src/lib.rt:47:8
 matches-good-requires : tie.Need-matches-good-requires
 matches-good-requires c κs = told-good _ (c .before .before .match .keys1) (c .before .before .before .decide .ensures)
 
--- src/lib.rt:37:1
 returns-3 : tie.Need-returns-3
 returns-3 c =
-    let known = told-good _ (c .before .before .before .before .match .keys1) (c .before .before .before .before .before .decide .ensures) in
-    record { t = known .some; good = known .good; short = c .before .before .if1 .left; holds = c .before .matches-good .ensures (known .some) (known .good) .0 (c .if2 .taken) }
+    let known = told-good _ (c .before .before .before .before .match .keys1)
+    (c .before .before .before .before .before .decide .ensures) in
+    record {
+      t = known .some;
+      good = known .good;
+      short = c .before .before .if1 .left;
+      holds =
+          c .before .matches-good .ensures (known .some) (known .good) .0 (c .if2 .taken);
+    }
 
--- src/lib.rt:37:1
 returns-4 : tie.Need-returns-4
 returns-4 c =
-    let known = told-good _ (c .before .before .before .before .match .keys1) (c .before .before .before .before .before .decide .ensures) in
-    record { t = known .some; good = known .good; short = c .before .before .if1 .left; holds = λ matches. false≢true (sym (c .if2 .left) ∙ c .before .matches-good .ensures (known .some) (known .good) .1 matches) }
+    let known = told-good _ (c .before .before .before .before .match .keys1)
+    (c .before .before .before .before .before .decide .ensures) in
+    record {
+      t = known .some;
+      good = known .good;
+      short = c .before .before .if1 .left;
+      holds =
+          λ matches. false≢true (sym (c .if2 .left) ∙ c .before .matches-good .ensures (known .some) (known .good) .1
+          matches);
+    }
 
 pub is-match-spec : {M : Type 1} → statement M
 is-match-spec =

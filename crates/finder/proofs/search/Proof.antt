@@ -10,54 +10,54 @@ use Rattle.finder.proofs.search.Lts as lts
 use Rattle.finder.proofs.good.search_good.Reads as search-good-reads
 use Rattle.tree.proofs.good.decide.Reads as decide-reads
 
--- src/lib.rt:58:9
 decide-requires : tie.Need-decide-requires
 decide-requires c κs = search needs
 
 enum-told : tie.Need-enum-told
 enum-told c = search needs
 
--- src/lib.rt:60:9
 enum-told-2 : tie.Need-enum-told-2
 enum-told-2 c = search needs
 
--- src/lib.rt:60:9
 returns : tie.Need-returns
 returns c = told-not-good _ (c .before .match .keys2) (c .before .before .decide .ensures)
 
--- src/lib.rt:63:9
 returns-2 : tie.Need-returns-2
 returns-2 c =
     let known = told-good _ (c .before .before .match .keys1) (c .before .before .before .decide .ensures) in
     record { t = known .some; good = known .good; long = c .if1 .taken }
 
--- src/lib.rt:65:9
 search-good-requires : tie.Need-search-good-requires
 search-good-requires c κs = told-good _ (c .before .before .match .keys1) (c .before .before .before .decide .ensures)
 
--- src/lib.rt:67:20
 enum-known-part : tie.Need-enum-known-part
 enum-known-part c = search needs
 
--- src/lib.rt:68:26
 enum-told-3 : tie.Need-enum-told-3
 enum-told-3 c = search needs
 
--- src/lib.rt:55:1
 returns-3 : tie.Need-returns-3
 returns-3 c =
-    let known = told-good _ (c .before .before .before .before .before .before .match .keys1) (c .before .before .before .before .before .before .before .decide .ensures) in
-    record { t = known .some; good = known .good; short = c .before .before .before .before .if1 .left; holds = rw (c .before .part .given .1) at (c .before .before .before .search-good .ensures (known .some) (known .good)) }
+    let known = told-good _ (c .before .before .before .before .before .before .match .keys1)
+    (c .before .before .before .before .before .before .before .decide .ensures) in
+    record {
+      t = known .some;
+      good = known .good;
+      short = c .before .before .before .before .if1 .left;
+      holds =
+          rw (c .before .part .given .1) at (c .before .before .before .search-good .ensures (known .some) (known .good));
+    }
 
--- src/lib.rt:55:1
 returns-4 : tie.Need-returns-4
 returns-4 c =
-    let known = told-good _ (c .before .before .before .before .before .match .keys1) (c .before .before .before .before .before .before .decide .ensures) in
+    let known = told-good _ (c .before .before .before .before .before .match .keys1)
+    (c .before .before .before .before .before .before .decide .ensures) in
     record {
       t = known .some;
       good = known .good;
       short = c .before .before .before .if1 .left;
-      holds = told-nothing (Matches (known .some)) _ (c .before .before .search-good .result) (c .before .match2 .keys2) (c .before .before .search-good .ensures (known .some) (known .good));
+      holds = told-nothing (Matches (known .some)) _ (c .before .before .search-good .result) (c .before .match2 .keys2)
+          (c .before .before .search-good .ensures (known .some) (known .good));
     }
 
 pub search-spec : {M : Type 1} → statement M

@@ -1,4 +1,5 @@
--- `foamlattice::foam_match` meets its contract: the answer is that of `finder::is_match`, and each case is packed into its number.
+-- `foamlattice::foam_match` meets its contract: the answer is that of `finder::is_match`, and each case is packed into
+-- its number.
 -- Assumes nothing.
 use mathlib.Core.Path.{sym, _∙_}
 use Rattle.foamlattice.proofs.Told.{told-match}
@@ -10,65 +11,72 @@ use Rattle.foamlattice.proofs.foam_match.Lts as lts
 use Rattle.finder.proofs.is_match.Reads as is-match-reads
 use Rattle.foamlattice.proofs.pack.pack.Reads as pack-reads
 
--- src/lib.rt:38:9
 is-match-requires : tie.Need-is-match-requires
 is-match-requires c κs = search needs
 
--- src/lib.rt:40:25
 enum-told : tie.Need-enum-told
 enum-told c = search needs
 
--- src/lib.rt:40:25
 pack-requires : tie.Need-pack-requires
 pack-requires c κs = search needs
 
--- src/lib.rt:41:24
 enum-told-2 : tie.Need-enum-told-2
 enum-told-2 c = search needs
 
--- src/lib.rt:41:24
 pack-requires-2 : tie.Need-pack-requires-2
 pack-requires-2 c κs = search needs
 
--- src/lib.rt:42:29
 enum-told-3 : tie.Need-enum-told-3
 enum-told-3 c = search needs
 
--- src/lib.rt:42:29
 pack-requires-3 : tie.Need-pack-requires-3
 pack-requires-3 c κs = search needs
 
--- src/lib.rt:43:29
 enum-told-4 : tie.Need-enum-told-4
 enum-told-4 c = search needs
 
--- src/lib.rt:43:29
 pack-requires-4 : tie.Need-pack-requires-4
 pack-requires-4 c κs = search needs
 
--- src/lib.rt:34:1
 returns : tie.Need-returns
 returns c =
     let answered = c .before .before .before .is-match in
-    record { answer = answered .result; right = answered .ensures; as-number = c .pack .ensures ∙ sym (told-match (answered .result) 0 (c .before .before .match .keys1)) }
+    record {
+      answer = answered .result;
+      right = answered .ensures;
+      as-number = c .pack .ensures
+          ∙ sym (told-match (answered .result) 0 (c .before .before .match .keys1));
+    }
 
--- src/lib.rt:34:1
 returns-2 : tie.Need-returns-2
 returns-2 c =
     let answered = c .before .before .before .is-match in
-    record { answer = answered .result; right = answered .ensures; as-number = c .pack2 .ensures ∙ sym (told-match (answered .result) 1 (c .before .before .match .keys2)) }
+    record {
+      answer = answered .result;
+      right = answered .ensures;
+      as-number = c .pack2 .ensures
+          ∙ sym (told-match (answered .result) 1 (c .before .before .match .keys2));
+    }
 
--- src/lib.rt:34:1
 returns-3 : tie.Need-returns-3
 returns-3 c =
     let answered = c .before .before .before .is-match in
-    record { answer = answered .result; right = answered .ensures; as-number = c .pack3 .ensures ∙ sym (told-match (answered .result) 2 (c .before .before .match .keys3)) }
+    record {
+      answer = answered .result;
+      right = answered .ensures;
+      as-number = c .pack3 .ensures
+          ∙ sym (told-match (answered .result) 2 (c .before .before .match .keys3));
+    }
 
--- src/lib.rt:34:1
 returns-4 : tie.Need-returns-4
 returns-4 c =
     let answered = c .before .before .before .is-match in
-    record { answer = answered .result; right = answered .ensures; as-number = c .pack4 .ensures ∙ sym (told-match (answered .result) 3 (c .before .before .match .keys4)) }
+    record {
+      answer = answered .result;
+      right = answered .ensures;
+      as-number = c .pack4 .ensures
+          ∙ sym (told-match (answered .result) 3 (c .before .before .match .keys4));
+    }
 
 pub foam-match-spec : {M : Type 1} → statement M
 foam-match-spec =

@@ -1,4 +1,5 @@
--- `foamlattice::foam_pick` meets its contract: the answer is that of `picker::pick`, an output has at most 1,048,575 bytes, and each case is packed into its number.
+-- `foamlattice::foam_pick` meets its contract: the answer is that of `picker::pick`, an output has at most 1,048,575
+-- bytes, and each case is packed into its number.
 -- Assumes nothing.
 use native.Mathlib.Omega.{arith}
 use mathlib.Core.Path.{ap, sym, _∙_}
@@ -13,48 +14,49 @@ use Rattle.foamlattice.proofs.foam_pick.Lts as lts
 use Rattle.foamlattice.proofs.pack.pack.Reads as pack-reads
 use Rattle.picker.proofs.pick.Reads as pick-reads
 
--- src/lib.rt:96:9
 pick-requires : tie.Need-pick-requires
 pick-requires c κs = search needs
 
--- src/lib.rt:98:27
 enum-known-answer : tie.Need-enum-known-answer
 enum-known-answer c = search needs
 
--- src/lib.rt:98:39
 pack-requires : tie.Need-pack-requires
 pack-requires c κs =
     let answered = c .before .before .before .before .before .pick in
     let known = rw (c .before .answer .given .1) at (pick-length-small _ _ _ (answered .result) (answered .ensures)) in
     (omega (arith, known), omega arith)
 
--- src/lib.rt:99:27
 enum-told : tie.Need-enum-told
 enum-told c = search needs
 
--- src/lib.rt:99:27
 pack-requires-2 : tie.Need-pack-requires-2
 pack-requires-2 c κs = search needs
 
--- src/lib.rt:92:1
 same-length : tie.Need-same-length
 same-length c = search needs
 
--- src/lib.rt:92:1
 returns : tie.Need-returns
 returns c =
     let answered = c .before .before .before .before .before .before .pick in
-    record { answer = answered .result; right = answered .ensures; as-number = c .pack .ensures ∙ sym (ap pick-packed (c .before .before .answer .given .1)) }
+    record {
+      answer = answered .result;
+      right = answered .ensures;
+      as-number = c .pack .ensures
+          ∙ sym (ap pick-packed (c .before .before .answer .given .1));
+    }
 
--- src/lib.rt:92:1
 same-length-2 : tie.Need-same-length-2
 same-length-2 c = search needs
 
--- src/lib.rt:92:1
 returns-2 : tie.Need-returns-2
 returns-2 c =
     let answered = c .before .before .before .before .before .pick in
-    record { answer = answered .result; right = answered .ensures; as-number = c .pack2 .ensures ∙ sym (told-pick (answered .result) 1 (c .before .before .match .keys2)) }
+    record {
+      answer = answered .result;
+      right = answered .ensures;
+      as-number = c .pack2 .ensures
+          ∙ sym (told-pick (answered .result) 1 (c .before .before .match .keys2));
+    }
 
 pub foam-pick-spec : {M : Type 1} → statement M
 foam-pick-spec =

@@ -1,4 +1,5 @@
--- `foamlattice::foam_read` meets its contract: the numbers are those of `reader::read`, and each fits its part of the word.
+-- `foamlattice::foam_read` meets its contract: the numbers are those of `reader::read`, and each fits its part of the
+-- word.
 -- Assumes nothing.
 use native.Mathlib.Omega.{arith}
 use mathlib.Core.Path.{ap, sym, _∙_}
@@ -14,49 +15,48 @@ use Rattle.foamlattice.proofs.foam_read.Lts as lts
 use Rattle.foamlattice.proofs.pack.pack.Reads as pack-reads
 use Rattle.reader.proofs.read.Reads as read-reads
 
--- src/lib.rt:26:9
 read-requires : tie.Need-read-requires
 read-requires c κs = search needs
 
--- src/lib.rt:28:24
 enum-known-answer : tie.Need-enum-known-answer
 enum-known-answer c = search needs
 
--- src/lib.rt:28:45
 pack-requires : tie.Need-pack-requires
 pack-requires c κs =
-    let known = read-ranges _ _ _ (sym (ap numbers (c .before .answer .given .1)) ∙ c .before .before .before .before .before .read .ensures .0) in
+    let known = read-ranges _ _ _ (sym (ap numbers (c .before .answer .given .1))
+    ∙ c .before .before .before .before .before .read .ensures .0) in
     (omega (arith, known .records-small), omega (arith, known .pieces-small))
 
--- src/lib.rt:29:27
 enum-known-answer-2 : tie.Need-enum-known-answer-2
 enum-known-answer-2 c = search needs
 
--- src/lib.rt:29:46
 pack-requires-2 : tie.Need-pack-requires-2
 pack-requires-2 c κs =
-    let known = read-ranges _ _ _ (sym (ap numbers (c .before .answer2 .given .1)) ∙ c .before .before .before .before .before .read .ensures .0) in
+    let known = read-ranges _ _ _ (sym (ap numbers (c .before .answer2 .given .1))
+    ∙ c .before .before .before .before .before .read .ensures .0) in
     (omega (arith, known .place-small), omega arith)
 
--- src/lib.rt:21:1
 same-length : tie.Need-same-length
 same-length c = search needs
 
--- src/lib.rt:21:1
 returns : tie.Need-returns
 returns c =
-    let same = sym (ap numbers (c .before .before .answer .given .1)) ∙ c .before .before .before .before .before .before .read .ensures .0 in
-    (c .pack .ensures ∙ read-number _ _ ∙ ap read-packed same, c .before .before .before .before .before .before .read .ensures .1)
+    let same = sym (ap numbers (c .before .before .answer .given .1))
+    ∙ c .before .before .before .before .before .before .read .ensures .0 in (
+      c .pack .ensures ∙ read-number _ _ ∙ ap read-packed same,
+      c .before .before .before .before .before .before .read .ensures .1,
+    )
 
--- src/lib.rt:21:1
 same-length-2 : tie.Need-same-length-2
 same-length-2 c = search needs
 
--- src/lib.rt:21:1
 returns-2 : tie.Need-returns-2
 returns-2 c =
-    let same = sym (ap numbers (c .before .before .answer2 .given .1)) ∙ c .before .before .before .before .before .before .read .ensures .0 in
-    (c .pack2 .ensures ∙ refused-number _ _ ∙ ap read-packed same, c .before .before .before .before .before .before .read .ensures .1)
+    let same = sym (ap numbers (c .before .before .answer2 .given .1))
+    ∙ c .before .before .before .before .before .before .read .ensures .0 in (
+      c .pack2 .ensures ∙ refused-number _ _ ∙ ap read-packed same,
+      c .before .before .before .before .before .before .read .ensures .1,
+    )
 
 pub foam-read-spec : {M : Type 1} → statement M
 foam-read-spec =

@@ -1,4 +1,5 @@
--- `foamlattice::foam_search` meets its contract: the answer is that of `finder::search`, a part found lies within 65,536 bytes, and each case is packed into its number.
+-- `foamlattice::foam_search` meets its contract: the answer is that of `finder::search`, a part found lies within
+-- 65,536 bytes, and each case is packed into its number.
 -- Assumes nothing.
 use native.Mathlib.Omega.{arith}
 use mathlib.Core.Path.{ap, sym, _∙_}
@@ -13,68 +14,75 @@ use Rattle.foamlattice.proofs.foam_search.Lts as lts
 use Rattle.finder.proofs.search.Reads as search-reads
 use Rattle.foamlattice.proofs.pack.pack.Reads as pack-reads
 
--- src/lib.rt:52:9
 search-requires : tie.Need-search-requires
 search-requires c κs = search needs
 
--- src/lib.rt:54:27
 enum-known-answer : tie.Need-enum-known-answer
 enum-known-answer c = search needs
 
--- src/lib.rt:54:43
 pack-requires : tie.Need-pack-requires
 pack-requires c κs =
     let answered = c .before .before .before .search in
     let known = rw (c .before .answer .given .1) at (search-ranges _ _ (answered .result) (answered .ensures)) in
     (omega (arith, known .start-small), omega (arith, known .end-small))
 
--- src/lib.rt:55:30
 enum-told : tie.Need-enum-told
 enum-told c = search needs
 
--- src/lib.rt:55:30
 pack-requires-2 : tie.Need-pack-requires-2
 pack-requires-2 c κs = search needs
 
--- src/lib.rt:56:30
 enum-told-2 : tie.Need-enum-told-2
 enum-told-2 c = search needs
 
--- src/lib.rt:56:30
 pack-requires-3 : tie.Need-pack-requires-3
 pack-requires-3 c κs = search needs
 
--- src/lib.rt:57:30
 enum-told-3 : tie.Need-enum-told-3
 enum-told-3 c = search needs
 
--- src/lib.rt:57:30
 pack-requires-4 : tie.Need-pack-requires-4
 pack-requires-4 c κs = search needs
 
--- src/lib.rt:48:1
 returns : tie.Need-returns
 returns c =
     let answered = c .before .before .before .before .search in
-    record { answer = answered .result; right = answered .ensures; as-number = c .pack .ensures ∙ sym (ap search-packed (c .before .before .answer .given .1)) }
+    record {
+      answer = answered .result;
+      right = answered .ensures;
+      as-number = c .pack .ensures
+          ∙ sym (ap search-packed (c .before .before .answer .given .1));
+    }
 
--- src/lib.rt:48:1
 returns-2 : tie.Need-returns-2
 returns-2 c =
     let answered = c .before .before .before .search in
-    record { answer = answered .result; right = answered .ensures; as-number = c .pack2 .ensures ∙ sym (told-search (answered .result) 1 (c .before .before .match .keys2)) }
+    record {
+      answer = answered .result;
+      right = answered .ensures;
+      as-number = c .pack2 .ensures
+          ∙ sym (told-search (answered .result) 1 (c .before .before .match .keys2));
+    }
 
--- src/lib.rt:48:1
 returns-3 : tie.Need-returns-3
 returns-3 c =
     let answered = c .before .before .before .search in
-    record { answer = answered .result; right = answered .ensures; as-number = c .pack3 .ensures ∙ sym (told-search (answered .result) 2 (c .before .before .match .keys3)) }
+    record {
+      answer = answered .result;
+      right = answered .ensures;
+      as-number = c .pack3 .ensures
+          ∙ sym (told-search (answered .result) 2 (c .before .before .match .keys3));
+    }
 
--- src/lib.rt:48:1
 returns-4 : tie.Need-returns-4
 returns-4 c =
     let answered = c .before .before .before .search in
-    record { answer = answered .result; right = answered .ensures; as-number = c .pack4 .ensures ∙ sym (told-search (answered .result) 3 (c .before .before .match .keys4)) }
+    record {
+      answer = answered .result;
+      right = answered .ensures;
+      as-number = c .pack4 .ensures
+          ∙ sym (told-search (answered .result) 3 (c .before .before .match .keys4));
+    }
 
 pub foam-search-spec : {M : Type 1} → statement M
 foam-search-spec =

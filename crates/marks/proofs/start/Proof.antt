@@ -1,4 +1,5 @@
--- `marks::start` meets its contract: a list that is not good is refused, and for a good one the promise is that of `start_good`.
+-- `marks::start` meets its contract: a list that is not good is refused, and for a good one the promise is that of
+-- `start_good`.
 -- Assumes nothing.
 use mathlib.Core.Path.{refl}
 use Rattle.marks.proofs.Told.{told-good, told-not-good}
@@ -10,30 +11,27 @@ use Rattle.marks.proofs.start.Lts as lts
 use Rattle.marks.proofs.start_good.Reads as start-good-reads
 use Rattle.tree.proofs.good.decide.Reads as decide-reads
 
--- src/lib.rt:78:9
 decide-requires : tie.Need-decide-requires
 decide-requires c κs = search needs
 
 enum-told : tie.Need-enum-told
 enum-told c = search needs
 
--- src/lib.rt:80:9
 enum-told-2 : tie.Need-enum-told-2
 enum-told-2 c = search needs
 
--- src/lib.rt:80:9
 returns : tie.Need-returns
-returns c = record { because = told-not-good _ (c .before .match .keys2) (c .before .before .decide .ensures); unchanged = refl }
+returns c = record {
+  because = told-not-good _ (c .before .match .keys2) (c .before .before .decide .ensures);
+  unchanged = refl;
+}
 
--- src/lib.rt:82:5
 start-good-requires : tie.Need-start-good-requires
 start-good-requires c κs = told-good _ (c .before .before .match .keys1) (c .before .before .before .decide .ensures)
 
--- src/lib.rt:75:1
 same-length : tie.Need-same-length
 same-length c = search needs
 
--- src/lib.rt:75:1
 returns-2 : tie.Need-returns-2
 returns-2 c = search needs
 

@@ -1,4 +1,5 @@
--- `marks::start_good` meets its contract: the tables are those of the list's tree, and the marks are those of its start. Assumes nothing.
+-- `marks::start_good` meets its contract: the tables are those of the list's tree, and the marks are those of its
+-- start. Assumes nothing.
 use mathlib.Core.Path.{refl}
 use native.Mathlib.Omega.{arith}
 use borrow.Author.Needs.{needs}
@@ -9,75 +10,74 @@ use Rattle.marks.proofs.start_good.Lts as lts
 use Rattle.marks.proofs.inner.begin.Reads as begin-reads
 use Rattle.marks.proofs.inner.prepare.Reads as prepare-reads
 
--- src/lib.rt:45:31
 slice-aggregate-prepare : tie.Need-slice-aggregate-prepare
 slice-aggregate-prepare c = search needs
 
--- src/lib.rt:45:43
 slice-aggregate-prepare-2 : tie.Need-slice-aggregate-prepare-2
 slice-aggregate-prepare-2 c = search needs
 
--- src/lib.rt:45:56
 slice-aggregate-prepare-3 : tie.Need-slice-aggregate-prepare-3
 slice-aggregate-prepare-3 c = search needs
 
--- src/lib.rt:45:67
 slice-aggregate-prepare-4 : tie.Need-slice-aggregate-prepare-4
 slice-aggregate-prepare-4 c = search needs
 
--- src/lib.rt:45:80
 slice-aggregate-prepare-5 : tie.Need-slice-aggregate-prepare-5
 slice-aggregate-prepare-5 c = search needs
 
--- src/lib.rt:45:9
 prepare-requires : tie.Need-prepare-requires
 prepare-requires c κs = search needs
 
--- src/lib.rt:47:9
 returns : tie.Need-returns
 returns c =
     let known = c .before .before .before .before .before .before .before .before .before .before .before .before .before .before .pre in
     let prepared = c .before .before .before .before .before .before .prepare .ensures .1 (known .some) (known .good) in
     record { because = (known .some, known .good, omega (arith, prepared .counted, c .if1 .taken)); unchanged = refl }
 
--- src/lib.rt:49:27
 slice-aggregate-begin : tie.Need-slice-aggregate-begin
 slice-aggregate-begin c = search needs
 
--- src/lib.rt:49:35
 slice-aggregate-begin-2 : tie.Need-slice-aggregate-begin-2
 slice-aggregate-begin-2 c = search needs
 
--- src/lib.rt:49:44
 slice-aggregate-begin-3 : tie.Need-slice-aggregate-begin-3
 slice-aggregate-begin-3 c = search needs
 
--- src/lib.rt:49:51
 slice-aggregate-begin-4 : tie.Need-slice-aggregate-begin-4
 slice-aggregate-begin-4 c = search needs
 
--- src/lib.rt:49:60
 slice-aggregate-begin-5 : tie.Need-slice-aggregate-begin-5
 slice-aggregate-begin-5 c = search needs
 
--- src/lib.rt:49:9
 begin-requires : tie.Need-begin-requires
 begin-requires c κs =
     let known = c .before .before .before .before .before .before .before .before .before .before .before .before .before .before .before .before .before .before .before .before .pre in
-    let made = c .before .before .before .before .before .before .before .before .before .before .before .before .prepare .ensures in
-    (record { roomy = made .0; of-tree = (known .some, made .1 (known .some) (known .good)) }, c .before .before .before .before .before .before .if1 .left)
+    let made = c .before .before .before .before .before .before .before .before .before .before .before .before .prepare .ensures in (
+      record { roomy = made .0; of-tree = (known .some, made .1 (known .some) (known .good)) },
+      c .before .before .before .before .before .before .if1 .left,
+    )
 
--- src/lib.rt:36:1
 same-length : tie.Need-same-length
 same-length c = search needs
 
--- src/lib.rt:36:1
 returns-2 : tie.Need-returns-2
 returns-2 c =
     let known = c .before .before .before .before .before .before .before .before .before .before .before .before .before .before .before .before .before .before .before .before .before .before .before .pre in
-    let prepared = c .before .before .before .before .before .before .before .before .before .before .before .before .before .before .before .prepare .ensures .1 (known .some) (known .good) in
+    let prepared =
+    c .before .before .before .before .before .before .before .before .before .before .before .before .before .before .before .prepare .ensures .1 (known .some) (known .good) in
     let begun = c .before .before .begin .ensures (known .some) prepared in
-    record { t = known .some; good = known .good; enough = omega (arith, prepared .counted, c .before .before .before .before .before .before .before .before .before .if1 .left); hold = begun .hold; answer = begun .answer }
+    record {
+      t = known .some;
+      good = known .good;
+      enough =
+          omega (
+            arith,
+            prepared .counted,
+            c .before .before .before .before .before .before .before .before .before .if1 .left,
+          );
+      hold = begun .hold;
+      answer = begun .answer;
+    }
 
 pub start-good-spec : {M : Type 1} → statement M
 start-good-spec =

@@ -1,4 +1,5 @@
--- `marks::step` meets its contract: a list that is not good is refused, and for a good one the promise is that of `step_good`.
+-- `marks::step` meets its contract: a list that is not good is refused, and for a good one the promise is that of
+-- `step_good`.
 -- Assumes nothing.
 use mathlib.Core.Path.{refl}
 use Rattle.marks.proofs.Told.{told-good, told-not-good}
@@ -10,30 +11,27 @@ use Rattle.marks.proofs.step.Lts as lts
 use Rattle.marks.proofs.step_good.Reads as step-good-reads
 use Rattle.tree.proofs.good.decide.Reads as decide-reads
 
--- src/lib.rt:89:9
 decide-requires : tie.Need-decide-requires
 decide-requires c κs = search needs
 
 enum-told : tie.Need-enum-told
 enum-told c = search needs
 
--- src/lib.rt:91:9
 enum-told-2 : tie.Need-enum-told-2
 enum-told-2 c = search needs
 
--- src/lib.rt:91:9
 returns : tie.Need-returns
-returns c = record { because = told-not-good _ (c .before .match .keys2) (c .before .before .decide .ensures); unchanged = refl }
+returns c = record {
+  because = told-not-good _ (c .before .match .keys2) (c .before .before .decide .ensures);
+  unchanged = refl;
+}
 
--- src/lib.rt:93:5
 step-good-requires : tie.Need-step-good-requires
 step-good-requires c κs = told-good _ (c .before .before .match .keys1) (c .before .before .before .decide .ensures)
 
--- src/lib.rt:86:1
 same-length : tie.Need-same-length
 same-length c = search needs
 
--- src/lib.rt:86:1
 returns-2 : tie.Need-returns-2
 returns-2 c = search needs
 

@@ -1,4 +1,5 @@
--- `pick::read_input` meets its contract: it has read no more than there is space for. The measure is what is left of the space. Assumes nothing.
+-- `pick::read_input` meets its contract: it has read no more than there is space for. The measure is what is left of
+-- the space. Assumes nothing.
 use Prim.Native.Nat.{_≤_, _-_}
 use mathlib.Core.Path.{_≡_}
 use borrow.Author.Needs.{needs}

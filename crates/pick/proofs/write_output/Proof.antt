@@ -14,7 +14,12 @@ within : (c : tie.After-picked) → c .picked .given .0 .0 ≤ length (c .before
 within c =
     let made = c .before .before .before .before in
     let start = made .before .before .before .before in
-    omega (arith, written-within (start .args .input .now) (start .args .output .now) (made .pick .last .1 .0) (made .pick .result) _ (made .pick .ensures) (c .picked .given .1), made .pick .kept .1 .0)
+    omega (
+      arith,
+      written-within (start .args .input .now) (start .args .output .now) (made .pick .last .1 .0)
+          (made .pick .result) _ (made .pick .ensures) (c .picked .given .1),
+      made .pick .kept .1 .0,
+    )
 
 pick-requires : tie.Need-pick-requires
 pick-requires c κs = search needs

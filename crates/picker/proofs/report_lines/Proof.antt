@@ -1,4 +1,5 @@
--- `picker::report_lines` meets its contract: what reading the first line answers is the expression's outcome, and what is printed for it is reported.
+-- `picker::report_lines` meets its contract: what reading the first line answers is the expression's outcome, and what
+-- is printed for it is reported.
 -- Assumes nothing.
 use mathlib.Core.Path.{sym, ap, _∙_}
 use native.Mathlib.Omega.{arith}
@@ -24,12 +25,17 @@ abbrev read-by : tie.After-answer2 → tie.After-read
 read-by c = c .before .before .before
 
 -- the refusal is the outcome of the first line
-refusal : (c : tie.After-answer) → Told (take (line (refused-by c) .line-end .result) (start (refused-by c) .args .input .now)) (c .answer .given .0 .0) (c .answer .given .0 .1 .0)
+refusal : (c : tie.After-answer)
+    → Told (take (line (refused-by c) .line-end .result) (start (refused-by c) .args .input .now))
+    (c .answer .given .0 .0) (c .answer .given .0 .1 .0)
 refusal c = told _ 15360 _ _ (omega arith) (sym (ap numbers (c .answer .given .1)) ∙ refused-by c .read .ensures .0)
 
 -- the records of the first line stand in the list
-records : (c : tie.After-answer2) → Kept (take (line (read-by c) .line-end .result) (start (read-by c) .args .input .now)) (replicate 15360 0) (read-by c .read .last .1 .0) (c .answer2 .given .0 .0) (c .answer2 .given .0 .1 .0)
-records c = kept _ (replicate 15360 0) _ _ _ (sym (ap numbers (c .answer2 .given .1)) ∙ read-by c .read .ensures .0) (read-by c .read .ensures .1)
+records : (c : tie.After-answer2)
+    → Kept (take (line (read-by c) .line-end .result) (start (read-by c) .args .input .now)) (replicate 15360 0)
+    (read-by c .read .last .1 .0) (c .answer2 .given .0 .0) (c .answer2 .given .0 .1 .0)
+records c = kept _ (replicate 15360 0) _ _ _ (sym (ap numbers (c .answer2 .given .1)) ∙ read-by c .read .ensures .0)
+    (read-by c .read .ensures .1)
 
 line-end-requires : tie.Need-line-end-requires
 line-end-requires c κs = search needs
@@ -47,7 +53,12 @@ enum-known-answer : tie.Need-enum-known-answer
 enum-known-answer c = search needs
 
 refusal-line-requires : tie.Need-refusal-line-requires
-refusal-line-requires c κs = omega (arith, refusal-line-length _ _ (refusal (c .before .before) .small-number) (refusal (c .before .before) .small-place))
+refusal-line-requires c κs =
+    omega (
+      arith,
+      refusal-line-length _ _ (refusal (c .before .before) .small-number)
+          (refusal (c .before .before) .small-place),
+    )
 
 enum-known-answer-2 : tie.Need-enum-known-answer-2
 enum-known-answer-2 c = search needs
@@ -62,14 +73,19 @@ array-share-prefix-list : tie.Need-array-share-prefix-list
 array-share-prefix-list c = omega (arith, records (c .before .before) .fits, read-by (c .before .before) .read .kept)
 
 slice-aggregate-list-texts : tie.Need-slice-aggregate-list-texts
-slice-aggregate-list-texts c = sym (length-take-le _ _ (omega (arith, records (c .before .before .before) .fits, read-by (c .before .before .before) .read .kept)))
+slice-aggregate-list-texts c =
+    sym (length-take-le _ _
+    (omega (arith, records (c .before .before .before) .fits, read-by (c .before .before .before) .read .kept)))
 
 list-texts-requires : tie.Need-list-texts-requires
 list-texts-requires c κs =
     let answer = c .before .before .before .before in
     let list = records answer in
-    let begun = start (read-by answer) in
-    (record { some = list .read; good = list .good }, rw (c .before .before .next-line .ensures) (texts-space _ _ (line (read-by answer) .line-end .ensures) (begun .pre .0) (begun .pre .1) list))
+    let begun = start (read-by answer) in (
+      record { some = list .read; good = list .good },
+      rw (c .before .before .next-line .ensures)
+          (texts-space _ _ (line (read-by answer) .line-end .ensures) (begun .pre .0) (begun .pre .1) list),
+    )
 
 same-length : tie.Need-same-length
 same-length c = search needs
@@ -77,7 +93,8 @@ same-length c = search needs
 returns : tie.Need-returns
 returns c =
     let answer = c .before .before .before .before .before in
-    reports-refusal _ _ (line (refused-by answer) .line-end .ensures) (refusal answer) (c .before .before .refusal-line .ensures)
+    reports-refusal _ _ (line (refused-by answer) .line-end .ensures) (refusal answer)
+    (c .before .before .refusal-line .ensures)
 
 same-length-2 : tie.Need-same-length-2
 same-length-2 c = search needs
@@ -86,7 +103,9 @@ returns-2 : tie.Need-returns-2
 returns-2 c =
     let answer = c .before .before .before .before .before .before .before in
     let list = records answer in
-    reports-texts _ _ (line (read-by answer) .line-end .ensures) (read-outcome list) (rw (c .before .before .before .before .before .next-line .ensures) at (c .before .before .list-texts .ensures (list .read) (list .good)))
+    reports-texts _ _ (line (read-by answer) .line-end .ensures) (read-outcome list)
+    (rw (c .before .before .before .before .before .next-line .ensures) at
+    (c .before .before .list-texts .ensures (list .read) (list .good)))
 
 pub report-lines-spec : {M : Type 1} → statement M
 report-lines-spec =

@@ -8,7 +8,17 @@ use Rattle.reader.proofs.+catenation-catenation+operand-operand+union-u
 use Rattle.reader.proofs.+catenation-catenation+operand-operand+union-union.Lts-union-union as union-lts
 use Rattle.reader.proofs.+catenation-catenation+operand-operand+union-union.{statement}
 use Rattle.reader.proofs.+catenation-catenation+operand-operand+union-union.Tie.{close}
-use Rattle.reader.proofs.+catenation-catenation+operand-operand+union-union.Proof.Base.{μ-operand, μ-catenation, μ-union, operand-at, catenation-at, union-at, operand-claims, catenation-claims, union-claims}
+use Rattle.reader.proofs.+catenation-catenation+operand-operand+union-union.Proof.Base.{
+  μ-operand,
+  μ-catenation,
+  μ-union,
+  operand-at,
+  catenation-at,
+  union-at,
+  operand-claims,
+  catenation-claims,
+  union-claims,
+}
 use Rattle.reader.proofs.+catenation-catenation+operand-operand+union-union.Proof.Operand as the-operand
 use Rattle.reader.proofs.+catenation-catenation+operand-operand+union-union.Proof.Catenation as the-catenation
 use Rattle.reader.proofs.+catenation-catenation+operand-operand+union-union.Proof.Union as the-union
@@ -23,7 +33,8 @@ pub +catenation·catenation+operand·operand+union·union-spec : {M : Type 1} �
     μ-catenation
     μ-operand
     μ-union
-    (λ t. catenation-lts.spec (catenation-claims t) (catenation-at t) catenation.Post the-catenation.Inv-loop the-catenation.μ-loop
+    (λ t. catenation-lts.spec (catenation-claims t) (catenation-at t) catenation.Post the-catenation.Inv-loop
+    the-catenation.μ-loop
     (the-catenation.operand-requires t)
     (the-catenation.enum-known-first t)
     (the-catenation.enum-told t)

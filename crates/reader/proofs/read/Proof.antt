@@ -1,4 +1,5 @@
--- `reader::read` meets its contract: the scratch holds the labels of the expression's tree, and they are stored; or the refusal is handed on.
+-- `reader::read` meets its contract: the scratch holds the labels of the expression's tree, and they are stored; or the
+-- refusal is handed on.
 -- Assumes nothing.
 use Prim.Native.Nat.{_≤_}
 use mathlib.Core.Path.{_≡_, sym}
@@ -11,7 +12,9 @@ use Rattle.reader.proofs.read.Statement.{statement}
 use Rattle.reader.proofs.read.Tie as tie
 
 -- the expression has a tree, whose labels stand in the scratch
-tree-read : (c : tie.After-known-told2) → Accepted (c .before .before .before .before .before .before .before .before .args .expr .now) (c .before .before .before .before .expression .last .1 .0) (c .before .whole2 .given .0 .1 .0)
+tree-read : (c : tie.After-known-told2)
+    → Accepted (c .before .before .before .before .before .before .before .before .args .expr .now)
+    (c .before .before .before .before .expression .last .1 .0) (c .before .whole2 .given .0 .1 .0)
 tree-read c = rw (c .before .whole2 .given .1) at (c .before .before .before .before .expression .ensures)
 
 slice-aggregate-expression : tie.Need-slice-aggregate-expression
@@ -29,8 +32,10 @@ enum-known-whole-2 c = search needs
 array-share-prefix-labels : tie.Need-array-share-prefix-labels
 array-share-prefix-labels c =
     let r = tree-read c in
-    let long : length (c .before .before .before .before .expression .last .1 .0) ≡ 2047 = c .before .before .before .before .expression .kept .1 .0 in
-    let few : c .before .whole2 .given .0 .1 .0 ≤ length (c .before .before .before .before .expression .last .1 .0) = omega arith in
+    let long : length (c .before .before .before .before .expression .last .1 .0) ≡ 2047 =
+    c .before .before .before .before .expression .kept .1 .0 in
+    let few : c .before .whole2 .given .0 .1 .0 ≤ length (c .before .before .before .before .expression .last .1 .0) =
+    omega arith in
     few
 
 slice-aggregate-store : tie.Need-slice-aggregate-store
@@ -51,8 +56,11 @@ same-length c = search needs
 
 returns-2 : tie.Need-returns-2
 returns-2 c =
-    let r = tree-read (c .before .before .before .before .before) in
-    (rw (r .scans) (c .before .before .store .ensures .answer (r .read) (r .written)), rw (r .scans) (c .before .before .store .ensures .buffer (r .read) (r .written)))
+    let r = tree-read (c .before .before .before .before .before) in (
+      rw (r .scans) (c .before .before .store .ensures .answer (r .read) (r .written)),
+      rw (r .scans) (c .before .before .store .ensures .buffer (r .read) (r .written)),
+    )
 
 pub read-spec : {M : Type 1} → statement M
-read-spec = tie.close (tie.spec slice-aggregate-expression expression-requires enum-known-whole enum-known-whole-2 array-share-prefix-labels slice-aggregate-store store-requires returns same-length returns-2)
+read-spec = tie.close (tie.spec slice-aggregate-expression expression-requires enum-known-whole enum-known-whole-2
+    array-share-prefix-labels slice-aggregate-store store-requires returns same-length returns-2)

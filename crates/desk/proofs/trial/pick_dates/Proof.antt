@@ -1,4 +1,5 @@
--- `desk::trial::pick_dates` is safe and ends: no more dates are picked than were tried, and the measure is how many are left. Assumes nothing.
+-- `desk::trial::pick_dates` is safe and ends: no more dates are picked than were tried, and the measure is how many are
+-- left. Assumes nothing.
 use Prim.Native.Nat.{_-_, _≤_}
 use mathlib.Core.Path.{_≡_}
 use borrow.Author.Needs.{needs}
@@ -7,7 +8,8 @@ use Rattle.desk.proofs.trial.pick_dates.Statement.{statement}
 use Rattle.desk.proofs.trial.pick_dates.Tie as tie
 
 abbrev Inv-loop : tie.InvT-loop
-Inv-loop list places₀ picked₀ date₀ k₀ places picked date k = ((picked ≤ k) × (length places ≡ 366)) × (length places ≡ length places₀)
+Inv-loop list places₀ picked₀ date₀ k₀ places picked date k = ((picked ≤ k) × (length places ≡ 366))
+    × (length places ≡ length places₀)
 
 abbrev μ-loop : tie.MeasureT-loop
 μ-loop list places₀ picked₀ date₀ k₀ places picked date k = 366 - k

@@ -1,4 +1,5 @@
--- `edges::marking::walk` is safe and ends: no call changes how many words are lent, and the measure is how many bytes are left. Assumes nothing.
+-- `edges::marking::walk` is safe and ends: no call changes how many words are lent, and the measure is how many bytes
+-- are left. Assumes nothing.
 use mathlib.Core.Path.{_≡_}
 use Prim.Native.Nat.{_-_}
 use borrow.Author.Needs.{needs}

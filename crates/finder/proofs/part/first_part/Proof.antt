@@ -1,4 +1,5 @@
--- `finder::part::first_part` meets its contract: no part starts before the place at hand. The measure is what is left of the text.
+-- `finder::part::first_part` meets its contract: no part starts before the place at hand. The measure is what is left
+-- of the text.
 -- Assumes nothing.
 use Prim.Native.Nat.{ℕ, _≤_, _-_, _+_}
 use mathlib.Core.Path.{_≡_, refl}
@@ -9,6 +10,7 @@ use borrow.Author.Needs.{needs}
 use lib.ListN.{length}
 use Rattle.language.specs.Tree.{Tree}
 use Rattle.language.specs.Language.{Matches}
+use Rattle.tree.specs.Leaf.{Leaf}
 use mathlib.Core.List.{[]}
 use Rattle.tables.specs.Tables.{Prepared, Ready, Answered}
 use Rattle.marks.specs.Inner.{answered-first}
@@ -30,7 +32,10 @@ nowhere (At e) other = absurd (omega arith)
 nowhere Nowhere other = refl
 
 abbrev Inv-loop : tie.InvT-loop
-Inv-loop reach labels runs stands tops count text first empty start₀ start = (start ≤ length text + 1) × Ready reach labels runs stands tops count × ((t : Tree ℕ) → Prepared t reach labels runs stands tops count → None-before (Matches t) text start) × (length first ≡ 128) × ((t : Tree ℕ) → Prepared t reach labels runs stands tops count → Answered t [] first empty)
+Inv-loop reach labels runs stands tops count text first empty start₀ start = (start ≤ length text + 1)
+    × Ready reach labels runs stands tops count × ((t : Tree Leaf) → Prepared t reach labels runs stands tops count
+    → None-before (Matches t) text start) × (length first ≡ 128)
+    × ((t : Tree Leaf) → Prepared t reach labels runs stands tops count → Answered t [] first empty)
 
 abbrev μ-loop : tie.MeasureT-loop
 μ-loop reach labels runs stands tops count text first empty start₀ start = length text + 1 - start
@@ -41,53 +46,54 @@ slice-aggregate-begin c = search needs
 begin-requires : tie.Need-begin-requires Inv-loop μ-loop
 begin-requires c κs = search needs
 
--- src/search.rt:59:5
 loop-holds : tie.Need-loop-holds Inv-loop μ-loop
-loop-holds c = (search needs, search needs, search needs, search needs, λ t prepared. answered-first (c .before .begin .ensures t prepared))
+loop-holds c = (
+  search needs,
+  search needs,
+  search needs,
+  search needs,
+  λ t prepared. answered-first (c .before .begin .ensures t prepared),
+)
 
 slice-aggregate-furthest-end : tie.Need-slice-aggregate-furthest-end Inv-loop μ-loop
 slice-aggregate-furthest-end c = search needs
 
--- src/search.rt:60:13
 furthest-end-requires : tie.Need-furthest-end-requires Inv-loop μ-loop
 furthest-end-requires c κs =
     let at = c .before .before .loop .inv in
     (at .1, ((omega (arith, c .before .loop-test .taken), at .3), at .4))
 
--- src/search.rt:61:24
 enum-known-found : tie.Need-enum-known-found Inv-loop μ-loop
 enum-known-found c = search needs
 
--- src/search.rt:62:13
 returns : tie.Need-returns Inv-loop μ-loop
 returns c = λ t prepared.
-    settled-found (Matches t) _ _ _ (c .before .before .before .before .before .before .loop .inv .2 t prepared) (rw (c .before .found .given .1) at (c .before .before .before .furthest-end .ensures t prepared))
+    settled-found (Matches t) _ _ _ (c .before .before .before .before .before .before .loop .inv .2 t prepared)
+    (rw (c .before .found .given .1) at (c .before .before .before .furthest-end .ensures t prepared))
 
 enum-told : tie.Need-enum-told Inv-loop μ-loop
 enum-told c = search needs
 
--- src/search.rt:64:9
 add-start : tie.Need-add-start Inv-loop μ-loop
 add-start c = omega (arith, c .before .before .before .before)
 
--- src/search.rt:59:5
 loop-less : tie.Need-loop-less Inv-loop μ-loop
 loop-less c = search needs
 
--- src/search.rt:59:5
 loop-again : tie.Need-loop-again Inv-loop μ-loop
 loop-again c = (
   search needs,
   search needs,
   λ t prepared.
-      settled-next (Matches t) _ _ (c .before .before .before .before .before .loop .inv .2 t prepared) (rw (nowhere _ (c .before .match .keys2)) at (c .before .before .furthest-end .ensures t prepared)),
+      settled-next (Matches t) _ _ (c .before .before .before .before .before .loop .inv .2 t prepared)
+      (rw (nowhere _ (c .before .match .keys2)) at (c .before .before .furthest-end .ensures t prepared)),
   c .before .before .before .before .before .loop .inv .3,
   c .before .before .before .before .before .loop .inv .4,
 )
 
--- src/search.rt:54:1
 returns-2 : tie.Need-returns-2 Inv-loop μ-loop
-returns-2 c = λ t prepared i j found. c .before .loop .inv .2 t prepared i j (omega (arith, found .ordered, found .inside)) found
+returns-2 c =
+    λ t prepared i j found. c .before .loop .inv .2 t prepared i j (omega (arith, found .ordered, found .inside)) found
 
 pub first-part-spec : {M : Type 1} → statement M
 first-part-spec =

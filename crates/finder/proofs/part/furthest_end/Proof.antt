@@ -1,4 +1,5 @@
--- `finder::part::furthest_end` meets its contract: at each end the words hold the marks after the part, and `best` is the latest end so
+-- `finder::part::furthest_end` meets its contract: at each end the words hold the marks after the part, and `best` is
+-- the latest end so
 -- far. The measure is what is left of the text. Assumes nothing.
 use Prim.Native.Nat.{ℕ, _≤_, _-_}
 use mathlib.Core.Path.{_≡_}
@@ -6,6 +7,7 @@ use native.Mathlib.Omega.{arith}
 use borrow.Author.Needs.{needs}
 use lib.ListN.{length}
 use Rattle.language.specs.Tree.{Tree}
+use Rattle.tree.specs.Leaf.{Leaf}
 use Rattle.tables.specs.Tables.{Prepared, Ready}
 use Rattle.marks.specs.Texts.{nothing-left}
 use Rattle.marks.specs.Inner.{running, holding-marks, answered-copy, answered-next}
@@ -21,24 +23,22 @@ use Rattle.marks.proofs.inner.nothing_left.Reads as nothing-left-reads
 use Rattle.finder.proofs.part.with_end.Reads as with-end-reads
 
 abbrev Inv-loop : tie.InvT-loop
-Inv-loop reach labels runs stands tops count first empty text start words₀ best₀ end₀ words best end = (start ≤ end) × (end ≤ length text) × (length words ≡ 128) × Ready reach labels runs stands tops count × ((t : Tree ℕ) → Prepared t reach labels runs stands tops count → Standing t text start end words (end-of best))
+Inv-loop reach labels runs stands tops count first empty text start words₀ best₀ end₀ words best end = (start ≤ end)
+    × (end ≤ length text) × (length words ≡ 128) × Ready reach labels runs stands tops count
+    × ((t : Tree Leaf) → Prepared t reach labels runs stands tops count → Standing t text start end words (end-of best))
 
 abbrev μ-loop : tie.MeasureT-loop
 μ-loop reach labels runs stands tops count first empty text start words₀ best₀ end₀ words best end = length text - end
 
--- src/search.rt:39:69
 slice-aggregate-copy : tie.Need-slice-aggregate-copy Inv-loop μ-loop
 slice-aggregate-copy c = search needs
 
--- src/search.rt:39:9
 copy-requires : tie.Need-copy-requires Inv-loop μ-loop
 copy-requires c κs = search needs
 
--- src/search.rt:40:9
 with-end-requires : tie.Need-with-end-requires Inv-loop μ-loop
 with-end-requires c κs = search needs
 
--- src/search.rt:42:5
 loop-holds : tie.Need-loop-holds Inv-loop μ-loop
 loop-holds c = (
   search needs,
@@ -48,51 +48,45 @@ loop-holds c = (
   λ t prepared.
       let begun = c .before .before .before .before .before .before .before .before .before .before .before in
       rw (c .with-end .ensures) (standing-first t _ _ _ _ (omega arith)
-      (answered-copy (begun .args .first .now) _ prepared (omega (arith, prepared .counted, prepared .few, begun .pre .1 .0 .1)) (c .before .before .copy .ensures) (begun .pre .1 .1 t prepared))),
+      (answered-copy (begun .args .first .now) _ prepared
+      (omega (arith, prepared .counted, prepared .few, begun .pre .1 .0 .1)) (c .before .before .copy .ensures)
+      (begun .pre .1 .1 t prepared))),
 )
 
--- src/search.rt:43:31
 slice-aggregate-nothing-left : tie.Need-slice-aggregate-nothing-left Inv-loop μ-loop
 slice-aggregate-nothing-left c = search needs
 
--- src/search.rt:43:12
 nothing-left-requires : tie.Need-nothing-left-requires Inv-loop μ-loop
 nothing-left-requires c κs = search needs
 
--- src/search.rt:44:13
 returns : tie.Need-returns Inv-loop μ-loop
 returns c = λ t prepared.
     let at = c .before .before .before .before .loop .inv in
     let standing = at .4 t prepared in
-    settled-early t _ standing (at .0) (at .1) (nothing-left (standing .holding) (rw (prepared .counted) at (c .before .nothing-left .ensures .holds (c .if1 .taken))))
+    settled-early t _ standing (at .0) (at .1)
+    (nothing-left (standing .holding)
+    (rw (prepared .counted) at (c .before .nothing-left .ensures .holds (c .if1 .taken))))
 
--- src/search.rt:46:75
 slice-aggregate-advance : tie.Need-slice-aggregate-advance Inv-loop μ-loop
 slice-aggregate-advance c = search needs
 
--- src/search.rt:46:87
 shared-slice-read-advance : tie.Need-shared-slice-read-advance Inv-loop μ-loop
 shared-slice-read-advance c = search needs
 
--- src/search.rt:46:13
 advance-requires : tie.Need-advance-requires Inv-loop μ-loop
 advance-requires c κs =
     let at = c .before .before .before .before .before .before .loop .inv in
     running (at .3) (at .2) (λ t prepared. at .4 t prepared .holding .clean)
 
--- src/search.rt:47:9
 add-end : tie.Need-add-end Inv-loop μ-loop
 add-end c = omega (arith, c .before .before .before .before .before .before)
 
--- src/search.rt:48:9
 with-end-requires-2 : tie.Need-with-end-requires-2 Inv-loop μ-loop
 with-end-requires-2 c κs = search needs
 
--- src/search.rt:42:5
 loop-less : tie.Need-loop-less Inv-loop μ-loop
 loop-less c = search needs
 
--- src/search.rt:42:5
 loop-again : tie.Need-loop-again Inv-loop μ-loop
 loop-again c = (
   search needs,
@@ -102,10 +96,12 @@ loop-again c = (
   λ t prepared.
       let at = c .before .before .before .before .before .before .before .before .before .loop .inv in
       let standing = at .4 t prepared in
-      rw (c .with-end2 .ensures) (standing-next t _ _ _ _ _ _ (at .0) (omega arith) (standing .so-far) (answered-next (standing .holding) (c .before .before .advance .ensures t prepared (holding-marks (standing .holding))))),
+      rw (c .with-end2 .ensures)
+      (standing-next t _ _ _ _ _ _ (at .0) (omega arith) (standing .so-far)
+      (answered-next (standing .holding)
+      (c .before .before .advance .ensures t prepared (holding-marks (standing .holding))))),
 )
 
--- src/search.rt:33:1
 returns-2 : tie.Need-returns-2 Inv-loop μ-loop
 returns-2 c = λ t prepared. settled-at-end t _ (c .before .loop .inv .4 t prepared) (c .loop-test .left)
 

@@ -5,11 +5,9 @@ use Rattle.finder.proofs.part.with_end.Tie as tie
 use Rattle.finder.proofs.part.with_end.Reads as reads
 use Rattle.finder.proofs.part.with_end.Lts as lts
 
--- src/search.rt:27:1
 returns : tie.Need-returns
 returns c = rw (c .if1 .taken)
 
--- src/search.rt:27:1
 returns-2 : tie.Need-returns-2
 returns-2 c = search needs
 

@@ -1,4 +1,5 @@
--- `finder::text::text_matches` meets its contract: before byte i the words hold the marks after the first i bytes, and `yes` says whether
+-- `finder::text::text_matches` meets its contract: before byte i the words hold the marks after the first i bytes, and
+-- `yes` says whether
 -- these are in the language. The measure is what is left of the text. Assumes nothing.
 use Prim.Native.Nat.{ℕ, _≤_, _-_, _+_}
 use mathlib.Core.Path.{_≡_, sym, subst}
@@ -13,6 +14,7 @@ use Rattle.finder.specs.Taken.{take-next}
 use Rattle.marks.specs.Texts.{nothing-left}
 use Rattle.language.specs.Language.{Matches}
 use Rattle.language.specs.Tree.{Tree}
+use Rattle.tree.specs.Leaf.{Leaf}
 use Rattle.tables.specs.Tables.{Prepared, Ready, Answered}
 use Rattle.marks.specs.Inner.{running, holding-marks, answered-first, answered-next}
 use Rattle.finder.proofs.text.text_matches.Statement.{statement}
@@ -23,79 +25,76 @@ use Rattle.marks.proofs.inner.advance.Reads as advance-reads
 use Rattle.marks.proofs.inner.begin.Reads as begin-reads
 
 -- no text that begins so is in the language, and this one does
-never-matches : (t : Tree ℕ) (text : List ℕ) (i : ℕ) → ((v : List ℕ) → Matches t (take i text ++ v) → ⊥) → (false ≡ true) ↔ Matches t text
-never-matches t text i none = (λ e. absurd (false≢true e), λ m. absurd (none (drop i text) (subst (Matches t) (sym (take-append-drop i text)) m)))
+never-matches : (t : Tree Leaf) (text : List ℕ) (i : ℕ) → ((v : List ℕ) → Matches t (take i text ++ v) → ⊥)
+    → (false ≡ true) ↔ Matches t text
+never-matches t text i none =
+    (λ e. absurd (false≢true e), λ m. absurd (none (drop i text) (subst (Matches t) (sym (take-append-drop i text)) m)))
 
 abbrev Inv-loop : tie.InvT-loop
-Inv-loop reach labels runs stands tops count text words₀ yes₀ i₀ words yes' i = (i ≤ length text) × (length words ≡ 128) × Ready reach labels runs stands tops count × ((t : Tree ℕ) → Prepared t reach labels runs stands tops count → Answered t (take i text) words yes')
+Inv-loop reach labels runs stands tops count text words₀ yes₀ i₀ words yes' i = (i ≤ length text) × (length words ≡ 128)
+    × Ready reach labels runs stands tops count × ((t : Tree Leaf) → Prepared t reach labels runs stands tops count
+    → Answered t (take i text) words yes')
 
 abbrev μ-loop : tie.MeasureT-loop
 μ-loop reach labels runs stands tops count text words₀ yes₀ i₀ words yes' i = length text - i
 
--- src/text.rt:18:73
 slice-aggregate-begin : tie.Need-slice-aggregate-begin Inv-loop μ-loop
 slice-aggregate-begin c = search needs
 
--- src/text.rt:18:9
 begin-requires : tie.Need-begin-requires Inv-loop μ-loop
 begin-requires c κs = search needs
 
--- src/text.rt:20:5
 loop-holds : tie.Need-loop-holds Inv-loop μ-loop
-loop-holds c = (search needs, search needs, search needs, λ t prepared. answered-first (c .before .begin .ensures t prepared))
+loop-holds c =
+    (search needs, search needs, search needs, λ t prepared. answered-first (c .before .begin .ensures t prepared))
 
--- src/text.rt:24:25
 slice-aggregate-nothing-left : tie.Need-slice-aggregate-nothing-left Inv-loop μ-loop
 slice-aggregate-nothing-left c = search needs
 
--- src/text.rt:24:12
 nothing-left-requires : tie.Need-nothing-left-requires Inv-loop μ-loop
 nothing-left-requires c κs = search needs
 
--- src/text.rt:25:13
 returns : tie.Need-returns Inv-loop μ-loop
 returns c = λ t prepared.
     let at = c .before .before .before .before .loop .inv in
-    never-matches t (c .before .before .before .before .before .before .before .before .before .before .before .before .before .before .args .text .now) (c .before .before .before .before .loop .i) (nothing-left (at .3 t prepared .holding) (rw (prepared .counted) at (c .before .nothing-left .ensures .holds (c .if1 .taken))))
+    never-matches t
+    (c .before .before .before .before .before .before .before .before .before .before .before .before .before .before .args .text .now) (c .before .before .before .before .loop .i) (nothing-left (at .3 t prepared .holding) (rw (prepared .counted) at (c .before .nothing-left .ensures .holds (c .if1 .taken))))
 
--- src/text.rt:21:71
 slice-aggregate-advance : tie.Need-slice-aggregate-advance Inv-loop μ-loop
 slice-aggregate-advance c = search needs
 
--- src/text.rt:21:83
 shared-slice-read-advance : tie.Need-shared-slice-read-advance Inv-loop μ-loop
 shared-slice-read-advance c = search needs
 
--- src/text.rt:21:9
 advance-requires : tie.Need-advance-requires Inv-loop μ-loop
 advance-requires c κs =
     let at = c .before .before .before .before .before .before .loop .inv in
     running (at .2) (at .1) (λ t prepared. at .3 t prepared .holding .clean)
 
--- src/text.rt:22:9
 add-i : tie.Need-add-i Inv-loop μ-loop
 add-i c = omega (arith, c .before .before .before .before .before .before .before)
 
--- src/text.rt:20:5
 loop-less : tie.Need-loop-less Inv-loop μ-loop
 loop-less c = search needs
 
--- src/text.rt:20:5
 loop-again : tie.Need-loop-again Inv-loop μ-loop
 loop-again c = (
   search needs,
   search needs,
   search needs,
   λ t prepared.
-      rw (← take-next (c .before .before .before .before .before .before .before .before .before .before .before .before .before .before .before .before .before .before .args .text .now) (c .before .before .before .before .before .before .before .before .loop .i) (omega arith))
-      (let holding = c .before .before .before .before .before .before .before .before .loop .inv .3 t prepared .holding in
+      rw (← take-next
+      (c .before .before .before .before .before .before .before .before .before .before .before .before .before .before .before .before .before .before .args .text .now) (c .before .before .before .before .before .before .before .before .loop .i) (omega arith))
+      (let holding = c .before .before .before .before .before .before .before .before .loop .inv .3 t
+      prepared .holding in
       answered-next holding (c .before .advance .ensures t prepared (holding-marks holding))),
 )
 
--- src/text.rt:13:1
 returns-2 : tie.Need-returns-2 Inv-loop μ-loop
 returns-2 c = λ t prepared.
-    rw (← take-all (c .before .loop .i) (c .before .before .before .before .before .before .before .before .before .before .before .args .text .now) (omega arith))
+    rw (← take-all (c .before .loop .i)
+    (c .before .before .before .before .before .before .before .before .before .before .before .args .text .now)
+    (omega arith))
     (c .before .loop .inv .3 t prepared .answer)
 
 pub text-matches-spec : {M : Type 1} → statement M

@@ -19,35 +19,27 @@ flag-small : (t : Bool) → boolByte t ≤ 1
 flag-small true = omega arith
 flag-small false = omega arith
 
--- src/pack.rt:12:27
 cast-result : tie.Need-cast-result
 cast-result c = search needs
 
--- src/pack.rt:12:21
 mul-result : tie.Need-mul-result
 mul-result c = record { fits = omega (arith, flag-small (c .args .flag)) }
 
--- src/pack.rt:12:5
 add-result : tie.Need-add-result
 add-result c = record { fits = omega (arith, flag-small (c .args .flag), c .fits .number) }
 
--- src/pack.rt:12:41
 mul-result-2 : tie.Need-mul-result-2
 mul-result-2 c = search needs
 
--- src/pack.rt:12:5
 add-result-2 : tie.Need-add-result-2
 add-result-2 c = record { fits = omega (arith, flag-small (c .args .flag), c .fits .number, c .pre .0) }
 
--- src/pack.rt:12:60
 mul-result-3 : tie.Need-mul-result-3
 mul-result-3 c = search needs
 
--- src/pack.rt:12:5
 add-result-3 : tie.Need-add-result-3
 add-result-3 c = record { fits = omega (arith, flag-small (c .args .flag), c .fits .number, c .pre .0, c .pre .1) }
 
--- src/pack.rt:7:1
 returns : tie.Need-returns
 returns c = rw (sym (as-number (c .args .flag))) refl
 

@@ -23,13 +23,22 @@ shared-slice-read-none-past : tie.Need-shared-slice-read-none-past Inv-loop μ-l
 shared-slice-read-none-past c = omega arith
 
 none-past-requires : tie.Need-none-past-requires Inv-loop μ-loop
-none-past-requires c κs = c .before .before .before .before .before .before .pre .low-tops 0 (c .before .before .before .before .before .before .pre .some)
+none-past-requires c κs = c .before .before .before .before .before .before .pre .low-tops 0
+    (c .before .before .before .before .before .before .pre .some)
 
 loop-holds : tie.Need-loop-holds Inv-loop μ-loop
-loop-holds c = (omega arith, c .before .before .before .before .before .before .before .before .pre .some, λ k l m. absurd (omega arith))
+loop-holds c = (
+  omega arith,
+  c .before .before .before .before .before .before .before .before .pre .some,
+  λ k l m. absurd (omega arith),
+)
 
 child-agrees-requires : tie.Need-child-agrees-requires Inv-loop μ-loop
-child-agrees-requires c κs = (c .before .before .before .before .before .before .before .before .before .before .pre, c .before .loop .inv .0, c .loop-test .taken)
+child-agrees-requires c κs = (
+  c .before .before .before .before .before .before .before .before .before .before .pre,
+  c .before .loop .inv .0,
+  c .loop-test .taken,
+)
 
 add-child : tie.Need-add-child Inv-loop μ-loop
 add-child c = omega arith
@@ -38,12 +47,17 @@ loop-less : tie.Need-loop-less Inv-loop μ-loop
 loop-less c = omega arith
 
 loop-again : tie.Need-loop-again Inv-loop μ-loop
-loop-again c = (omega arith, omega arith, children-more (c .before .before .before .loop .inv .2) (c .before .child-agrees .ensures .holds (c .if2 .taken)))
+loop-again c = (
+  omega arith,
+  omega arith,
+  children-more (c .before .before .before .loop .inv .2) (c .before .child-agrees .ensures .holds (c .if2 .taken)),
+)
 
 returns : tie.Need-returns Inv-loop μ-loop
 returns c =
     told-all (told-no (λ h. c .before .child-agrees .ensures .fails (c .if2 .left)
-    (h .children (c .before .before .before .loop .child) (c .before .before .before .loop .inv .0) (c .before .before .loop-test .taken))))
+    (h .children (c .before .before .before .loop .child) (c .before .before .before .loop .inv .0)
+    (c .before .before .loop-test .taken))))
 
 returns-2 : tie.Need-returns-2 Inv-loop μ-loop
 returns-2 c =
@@ -53,7 +67,8 @@ returns-2 c =
     })
 
 returns-3 : tie.Need-returns-3 Inv-loop μ-loop
-returns-3 c = told-all {words = c .before .before .before .before .before .before .before .before .args .words .now} (told-no (λ h. c .before .none-past .ensures .fails (c .if1 .left) (h .top-small)))
+returns-3 c = told-all {words = c .before .before .before .before .before .before .before .before .args .words .now}
+    (told-no (λ h. c .before .none-past .ensures .fails (c .if1 .left) (h .top-small)))
 
 pub agreeing-spec : {M : Type 1} → statement M
 agreeing-spec =

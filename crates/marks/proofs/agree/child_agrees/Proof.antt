@@ -12,13 +12,18 @@ shared-slice-read-stand : tie.Need-shared-slice-read-stand
 shared-slice-read-stand c = search needs
 
 cast-stand : tie.Need-cast-stand
-cast-stand c = omega (arith, c .shared-slice-known5 .given (c .before .before .before .before .before .before .args .child))
+cast-stand c =
+    omega (arith, c .shared-slice-known5 .given (c .before .before .before .before .before .before .args .child))
 
 shared-slice-read-top : tie.Need-shared-slice-read-top
 shared-slice-read-top c = search needs
 
 cast-top : tie.Need-cast-top
-cast-top c = omega (arith, c .shared-slice-known6 .given (c .before .before .before .before .before .before .before .args .child))
+cast-top c =
+    omega (
+      arith,
+      c .shared-slice-known6 .given (c .before .before .before .before .before .before .before .args .child),
+    )
 
 mul-pair-agrees : tie.Need-mul-pair-agrees
 mul-pair-agrees c = search needs

@@ -1,4 +1,5 @@
--- `marks::agree::parent` meets its contract. The loop's invariant: no piece passed, from `at` on, has a run that reaches past the child.
+-- `marks::agree::parent` meets its contract. The loop's invariant: no piece passed, from `at` on, has a run that
+-- reaches past the child.
 -- The first piece's run does, so the search ends. Assumes nothing.
 use Prim.Native.Nat.{ℕ, _+_, _≤_, _<_}
 use native.Mathlib.Omega.{arith}
@@ -30,7 +31,8 @@ add-if1 c = omega (arith, c .shared-slice-known .given (c .before .loop .at))
 
 -- the first piece is not passed
 later : (c : tie.Then1 Inv-loop μ-loop) → 1 ≤ c .before .before .loop .at
-later c = not-the-first (c .before .before .before .args .runs .now) _ (c .before .before .loop .at) (c .before .before .before .pre .1) (c .if1 .taken)
+later c = not-the-first (c .before .before .before .args .runs .now) _ (c .before .before .loop .at)
+    (c .before .before .before .pre .1) (c .if1 .taken)
 
 sub-at-2 : tie.Need-sub-at-2 Inv-loop μ-loop
 sub-at-2 c = later c
@@ -39,10 +41,19 @@ loop-less : tie.Need-loop-less Inv-loop μ-loop
 loop-less c = omega (arith, later c)
 
 loop-again : tie.Need-loop-again Inv-loop μ-loop
-loop-again c = (omega arith, passed (c .before .before .before .args .runs .now) _ _ (c .if1 .taken) (c .before .before .loop .inv .1))
+loop-again c = (
+  omega arith,
+  passed (c .before .before .before .args .runs .now) _ _ (c .if1 .taken)
+      (c .before .before .loop .inv .1),
+)
 
 returns : tie.Need-returns Inv-loop μ-loop
-returns c = record { earlier = c .before .before .loop .inv .0; reaches = c .if1 .left; between = c .before .before .loop .inv .1 }
+returns c = record {
+  earlier = c .before .before .loop .inv .0;
+  reaches = c .if1 .left;
+  between =
+      c .before .before .loop .inv .1;
+}
 
 pub parent-spec : {M : Type 1} → statement M
 parent-spec =

@@ -1,4 +1,5 @@
--- `marks::agree::same_bit` meets its contract: two bits are equal where one is set exactly when the other is. Assumes nothing.
+-- `marks::agree::same_bit` meets its contract: two bits are equal where one is set exactly when the other is. Assumes
+-- nothing.
 use borrow.Author.Tests.{eqb-true, eqb-false}
 use Rattle.marks.specs.Bits.{equal-bits}
 use borrow.Author.Needs.{needs}

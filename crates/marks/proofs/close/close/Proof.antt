@@ -1,4 +1,5 @@
--- `marks::close::close` meets its contract. The loop's invariant: the rows of the bits of the word that are no longer in `rest` are joined.
+-- `marks::close::close` meets its contract. The loop's invariant: the rows of the bits of the word that are no longer
+-- in `rest` are joined.
 -- The measure is `rest`, which loses its lowest bit. Assumes nothing.
 use native.Mathlib.Omega.{arith}
 use mathlib.Core.Path.{refl}

@@ -1,4 +1,5 @@
--- `marks::inner::advance` meets its contract: the words are moved along the byte and closed by two sweeps, which is a step of the plain
+-- `marks::inner::advance` meets its contract: the words are moved along the byte and closed by two sweeps, which is a
+-- step of the plain
 -- simulation. Assumes nothing.
 use native.Mathlib.Omega.{arith}
 use Rattle.marks.specs.Inner.{moved-closable, top-low, advanced}
@@ -11,46 +12,40 @@ use Rattle.marks.proofs.bits.has_bit.Reads as has-bit-reads
 use Rattle.marks.proofs.moves.move_all.Reads as move-all-reads
 use Rattle.marks.proofs.sweep.close_twice.Reads as close-twice-reads
 
--- src/inner.rt:87:5
 move-all-requires : tie.Need-move-all-requires
 move-all-requires c κs = search needs
 
--- src/inner.rt:118:16
 marked-from-requires : tie.Need-marked-from-requires
 marked-from-requires c κs = search needs
 
--- src/inner.rt:119:14
 marked-to-requires : tie.Need-marked-to-requires
 marked-to-requires c κs = search needs
 
--- src/inner.rt:120:5
 close-twice-requires : tie.Need-close-twice-requires
-close-twice-requires c κs = moved-closable (c .before .before .before .before .before .before .before .before .before .before .before .before .before .before .before .pre) (c .before .before .before .before .before .before .before .move-all .ensures) (c .before .before .before .marked-from .ensures) (c .before .marked-to .ensures)
+close-twice-requires c κs =
+    moved-closable
+    (c .before .before .before .before .before .before .before .before .before .before .before .before .before .before .before .pre) (c .before .before .before .before .before .before .before .move-all .ensures) (c .before .before .before .marked-from .ensures) (c .before .marked-to .ensures)
 
--- src/inner.rt:89:15
 shared-slice-read-top : tie.Need-shared-slice-read-top
 shared-slice-read-top c = search needs
 
--- src/inner.rt:89:15
 cast-top : tie.Need-cast-top
 cast-top c = omega (arith, c .shared-slice-known6 .given 0)
 
--- src/inner.rt:90:13
 slice-read-has-bit : tie.Need-slice-read-has-bit
 slice-read-has-bit c = search needs
 
--- src/inner.rt:90:5
 has-bit-requires : tie.Need-has-bit-requires
-has-bit-requires c κs = top-low (c .before .before .before .before .before .before .before .before .before .before .before .before .before .before .before .before .before .before .before .before .pre .ready .of-tree .1)
+has-bit-requires c κs =
+    top-low (c .before .before .before .before .before .before .before .before .before .before .before .before .before .before .before .before .before .before .before .before .pre .ready .of-tree .1)
 
--- src/inner.rt:74:1
 same-length : tie.Need-same-length
 same-length c = search needs
 
--- src/inner.rt:74:1
 returns : tie.Need-returns
 returns c = λ t prepared marks.
-    advanced prepared _ _ _ _ _ marks (c .before .before .before .before .before .before .before .before .before .before .before .before .before .move-all .ensures) (c .before .before .before .before .before .close-twice .ensures) (c .before .before .before .before .before .close-twice .kept .1 .1 .1 .1 .1 .1 .1 .0) (c .has-bit .ensures)
+    advanced prepared _ _ _ _ _ marks
+    (c .before .before .before .before .before .before .before .before .before .before .before .before .before .move-all .ensures) (c .before .before .before .before .before .close-twice .ensures) (c .before .before .before .before .before .close-twice .kept .1 .1 .1 .1 .1 .1 .1 .0) (c .has-bit .ensures)
 
 pub advance-spec : {M : Type 1} → statement M
 advance-spec =

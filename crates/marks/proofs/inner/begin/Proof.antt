@@ -1,4 +1,5 @@
--- `marks::inner::begin` meets its contract: the root's start alone is marked in 128 words of zero, these are closed by two sweeps, and the
+-- `marks::inner::begin` meets its contract: the root's start alone is marked in 128 words of zero, these are closed by
+-- two sweeps, and the
 -- first of them, one for each piece, are put into the lent words. Assumes nothing.
 use native.Mathlib.Omega.{arith}
 use Rattle.tree.specs.Pieces.{cut-up}
@@ -12,51 +13,47 @@ use Rattle.marks.proofs.bits.has_bit.Reads as has-bit-reads
 use Rattle.marks.proofs.inner.copy.Reads as copy-reads
 use Rattle.marks.proofs.sweep.close_twice.Reads as close-twice-reads
 
--- src/inner.rt:66:5
 array-write-marks : tie.Need-array-write-marks
 array-write-marks c = search needs
 
--- src/inner.rt:67:51
 slice-aggregate-close-twice : tie.Need-slice-aggregate-close-twice
 slice-aggregate-close-twice c = search needs
 
--- src/inner.rt:67:5
 close-twice-requires : tie.Need-close-twice-requires
 close-twice-requires c κs = start-closable (c .before .before .before .before .before .before .before .pre .0)
 
--- src/inner.rt:68:10
 slice-aggregate-copy : tie.Need-slice-aggregate-copy
 slice-aggregate-copy c = search needs
 
--- src/inner.rt:68:5
 copy-requires : tie.Need-copy-requires
 copy-requires c κs = search needs
 
--- src/inner.rt:69:15
 shared-slice-read-top : tie.Need-shared-slice-read-top
 shared-slice-read-top c = search needs
 
--- src/inner.rt:69:15
 cast-top : tie.Need-cast-top
 cast-top c = omega (arith, c .shared-slice-known6 .given 0)
 
--- src/inner.rt:70:13
 slice-read-has-bit : tie.Need-slice-read-has-bit
 slice-read-has-bit c = search needs
 
--- src/inner.rt:70:5
 has-bit-requires : tie.Need-has-bit-requires
-has-bit-requires c κs = top-low (c .before .before .before .before .before .before .before .before .before .before .before .before .before .before .before .before .pre .0 .of-tree .1)
+has-bit-requires c κs =
+    top-low (c .before .before .before .before .before .before .before .before .before .before .before .before .before .before .before .before .pre .0 .of-tree .1)
 
--- src/inner.rt:52:1
 same-length : tie.Need-same-length
 same-length c = search needs
 
--- src/inner.rt:52:1
 returns : tie.Need-returns
 returns c = λ t prepared.
-    begun prepared begins _ _ _ _ (begins-marked (cut-up t)) (c .before .before .before .before .before .before .before .before .before .close-twice .ensures)
-    (omega (arith, c .before .before .before .before .before .before .before .before .before .close-twice .kept .1 .1 .1 .1 .1 .1 .1 .0, prepared .counted, prepared .few)) (c .before .before .before .before .before .before .before .before .before .before .before .before .before .before .before .before .before .pre .1) (c .before .before .before .before .before .copy .ensures) (c .has-bit .ensures)
+    begun prepared begins _ _ _ _ (begins-marked (cut-up t))
+    (c .before .before .before .before .before .before .before .before .before .close-twice .ensures)
+    (omega (
+      arith,
+      c .before .before .before .before .before .before .before .before .before .close-twice .kept .1 .1 .1 .1 .1 .1 .1 .0,
+      prepared .counted,
+      prepared .few,
+    )) (c .before .before .before .before .before .before .before .before .before .before .before .before .before .before .before .before .before .pre .1) (c .before .before .before .before .before .copy .ensures) (c .has-bit .ensures)
 
 pub begin-spec : {M : Type 1} → statement M
 begin-spec =

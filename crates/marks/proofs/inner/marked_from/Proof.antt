@@ -1,4 +1,5 @@
--- `marks::inner::marked_from` meets its contract: all words before i are 0. The measure is how many are left. Assumes nothing.
+-- `marks::inner::marked_from` meets its contract: all words before i are 0. The measure is how many are left. Assumes
+-- nothing.
 use Prim.Native.Nat.{_≤_, _-_}
 use native.Mathlib.Omega.{arith}
 use borrow.Author.Needs.{needs}
@@ -39,4 +40,6 @@ returns-2 : tie.Need-returns-2 Inv-loop μ-loop
 returns-2 c = λ o l. c .before .loop .inv .2 o (omega (arith, c .loop-test .left))
 
 pub marked-from-spec : {M : Type 1} → statement M
-marked-from-spec = tie.close (tie.spec Inv-loop μ-loop loop-holds mul-if1 shared-slice-read-if1 returns add-i loop-less loop-again returns-2)
+marked-from-spec =
+    tie.close (tie.spec Inv-loop μ-loop loop-holds mul-if1 shared-slice-read-if1 returns add-i loop-less loop-again
+    returns-2)

@@ -14,7 +14,8 @@ abbrev Zero-from : List ℕ → ℕ → ℕ → Type 0
 Zero-from words count i = (o : ℕ) → i ≤ o → o < count → getD words o 0 ≡ 0
 
 -- one word before
-one-before : (words : List ℕ) (count i : ℕ) → 0 < i → getD words (i - 1) 0 ≡ 0 → Zero-from words count i → Zero-from words count (i - 1)
+one-before : (words : List ℕ) (count i : ℕ) → 0 < i → getD words (i - 1) 0 ≡ 0 → Zero-from words count i
+    → Zero-from words count (i - 1)
 one-before words count i l e zeros o h inside = elim (ℕ-discrete o (i - 1)) [
   | yes same ↦ ap (λ (n : ℕ). getD words n 0) same ∙ e
   | no other ↦ zeros o (omega (arith, other)) inside
@@ -48,10 +49,17 @@ loop-less : tie.Need-loop-less Inv-loop μ-loop
 loop-less c = search needs
 
 loop-again : tie.Need-loop-again Inv-loop μ-loop
-loop-again c = (search needs, search needs, one-before (c .before .before .before .before .args .words .now) _ _ (c .before .before .loop-test .taken) (c .if1 .left) (c .before .before .before .loop .inv .2))
+loop-again c = (
+  search needs,
+  search needs,
+  one-before (c .before .before .before .before .args .words .now) _ _
+      (c .before .before .loop-test .taken) (c .if1 .left) (c .before .before .before .loop .inv .2),
+)
 
 returns-2 : tie.Need-returns-2 Inv-loop μ-loop
 returns-2 c = λ o l h. c .before .loop .inv .2 o (omega (arith, c .loop-test .left)) h
 
 pub marked-to-spec : {M : Type 1} → statement M
-marked-to-spec = tie.close (tie.spec Inv-loop μ-loop loop-holds sub-if1 mul-if1 shared-slice-read-if1 returns sub-i loop-less loop-again returns-2)
+marked-to-spec =
+    tie.close (tie.spec Inv-loop μ-loop loop-holds sub-if1 mul-if1 shared-slice-read-if1 returns sub-i loop-less
+    loop-again returns-2)

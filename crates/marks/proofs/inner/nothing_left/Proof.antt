@@ -1,4 +1,5 @@
--- `marks::inner::nothing_left` meets its contract: all words before i are 0. The measure is how many are left. Assumes nothing.
+-- `marks::inner::nothing_left` meets its contract: all words before i are 0. The measure is how many are left. Assumes
+-- nothing.
 use Prim.Native.Nat.{_≤_, _-_}
 use native.Mathlib.Omega.{arith}
 use borrow.Author.Needs.{needs}
@@ -17,35 +18,27 @@ Inv-loop words count i₀ i = (i ≤ count) × (count ≤ length words) × All-z
 abbrev μ-loop : tie.MeasureT-loop
 μ-loop words count i₀ i = count - i
 
--- src/inner.rt:99:5
 loop-holds : tie.Need-loop-holds Inv-loop μ-loop
 loop-holds c = search needs
 
--- src/inner.rt:100:12
 mul-if1 : tie.Need-mul-if1 Inv-loop μ-loop
 mul-if1 c = search needs
 
--- src/inner.rt:100:12
 shared-slice-read-if1 : tie.Need-shared-slice-read-if1 Inv-loop μ-loop
 shared-slice-read-if1 c = search needs
 
--- src/inner.rt:101:13
 returns : tie.Need-returns Inv-loop μ-loop
 returns c = told-no (λ zeros. c .if1 .taken (zeros _ (c .before .before .loop-test .taken)))
 
--- src/inner.rt:103:9
 add-i : tie.Need-add-i Inv-loop μ-loop
 add-i c = search needs
 
--- src/inner.rt:99:5
 loop-less : tie.Need-loop-less Inv-loop μ-loop
 loop-less c = search needs
 
--- src/inner.rt:99:5
 loop-again : tie.Need-loop-again Inv-loop μ-loop
 loop-again c = (search needs, search needs, below-more _ _ (c .before .before .before .loop .inv .2) (c .if1 .left))
 
--- src/inner.rt:94:1
 returns-2 : tie.Need-returns-2 Inv-loop μ-loop
 returns-2 c = told-yes (λ k inside. c .before .loop .inv .2 k (omega arith))
 

@@ -1,4 +1,5 @@
--- `marks::moves::move_all` meets its contract. The loop's invariant: the words passed are moved and closed. Assumes nothing.
+-- `marks::moves::move_all` meets its contract. The loop's invariant: the words passed are moved and closed. Assumes
+-- nothing.
 use Prim.Native.Nat.{_≤_, _-_}
 use native.Mathlib.Omega.{arith}
 use Rattle.marks.specs.MovedClosed.{Moving-closing, moving-none, moving-more, moving-all}
@@ -6,7 +7,8 @@ use Rattle.marks.proofs.moves.move_all.Statement.{statement}
 use Rattle.marks.proofs.moves.move_all.Tie as tie
 
 abbrev Inv-loop : tie.InvT-loop
-Inv-loop reach labels words₀ byte pieces piece₀ words piece = (piece ≤ pieces) × Moving-closing reach labels words₀ words byte piece
+Inv-loop reach labels words₀ byte pieces piece₀ words piece = (piece ≤ pieces)
+    × Moving-closing reach labels words₀ words byte piece
 
 abbrev μ-loop : tie.MeasureT-loop
 μ-loop reach labels words₀ byte pieces piece₀ words piece = pieces - piece
@@ -21,7 +23,8 @@ slice-read-word-after : tie.Need-slice-read-word-after Inv-loop μ-loop
 slice-read-word-after c = omega arith
 
 word-after-requires : tie.Need-word-after-requires Inv-loop μ-loop
-word-after-requires c κs = (omega arith, omega arith, c .before .before .before .before .before .before .pre .1 _ (omega arith))
+word-after-requires c κs =
+    (omega arith, omega arith, c .before .before .before .before .before .before .pre .1 _ (omega arith))
 
 mul-words : tie.Need-mul-words Inv-loop μ-loop
 mul-words c = omega arith
@@ -36,7 +39,8 @@ loop-less : tie.Need-loop-less Inv-loop μ-loop
 loop-less c = omega arith
 
 loop-again : tie.Need-loop-again Inv-loop μ-loop
-loop-again c = (omega arith, moving-more (omega arith) (c .before .before .before .loop .inv .1) (c .word-after .ensures))
+loop-again c =
+    (omega arith, moving-more (omega arith) (c .before .before .before .loop .inv .1) (c .word-after .ensures))
 
 same-length : tie.Need-same-length Inv-loop μ-loop
 same-length c = omega arith

@@ -1,4 +1,5 @@
--- `marks::moves::moved` meets its contract. The loop's invariant: of the leaves in the word that are no longer in `rest`, the ones with
+-- `marks::moves::moved` meets its contract. The loop's invariant: of the leaves in the word that are no longer in
+-- `rest`, the ones with
 -- the byte's label are picked. The measure is `rest`, which loses its lowest bit. Assumes nothing.
 use mathlib.Core.Path.{refl, _∙_}
 use mathlib.Core.Logic.{⊎-elim}
@@ -63,7 +64,8 @@ loop-again c =
     (c .if1 .came)
 
 returns : tie.Need-returns Inv-loop μ-loop
-returns c = moves-by-leaves _ _ _ _ _ _ _ (c .before .before .before .before .before .pre .2) (c .loop-test .left) (c .before .loop .inv)
+returns c = moves-by-leaves _ _ _ _ _ _ _ (c .before .before .before .before .before .pre .2) (c .loop-test .left)
+    (c .before .loop .inv)
 
 pub moved-spec : {M : Type 1} → statement M
 moved-spec =

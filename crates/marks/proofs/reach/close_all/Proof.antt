@@ -18,13 +18,22 @@ shared-slice-read-states : tie.Need-shared-slice-read-states Inv-loop μ-loop
 shared-slice-read-states c = omega arith
 
 cast-states : tie.Need-cast-states Inv-loop μ-loop
-cast-states c = omega (arith, c .before .before .before .before .before .pre .2 (c .before .before .loop .piece) (omega arith))
+cast-states c =
+    omega (arith, c .before .before .before .before .before .pre .2 (c .before .before .loop .piece) (omega arith))
 
 add-states : tie.Need-add-states Inv-loop μ-loop
-add-states c = omega (arith, c .before .before .before .before .before .pre .2 (c .before .before .loop .piece) (omega arith))
+add-states c =
+    omega (arith, c .before .before .before .before .before .pre .2 (c .before .before .loop .piece) (omega arith))
 
 close-rows-requires : tie.Need-close-rows-requires Inv-loop μ-loop
-close-rows-requires c κs = (omega arith, omega (arith, c .before .before .before .before .before .before .pre .2 (c .before .before .before .loop .piece) (omega arith)))
+close-rows-requires c κs = (
+  omega arith,
+  omega (
+    arith,
+    c .before .before .before .before .before .before .pre .2 (c .before .before .before .loop .piece)
+        (omega arith),
+  ),
+)
 
 add-piece : tie.Need-add-piece Inv-loop μ-loop
 add-piece c = omega arith
@@ -33,7 +42,12 @@ loop-less : tie.Need-loop-less Inv-loop μ-loop
 loop-less c = omega arith
 
 loop-again : tie.Need-loop-again Inv-loop μ-loop
-loop-again c = (omega arith, closing-more (λ k h. c .before .before .before .before .before .before .before .before .before .pre .2 k (omega arith)) (c .before .before .before .before .before .before .loop .inv .1) (c .before .before .close-rows .ensures))
+loop-again c = (
+  omega arith,
+  closing-more (λ k h. c .before .before .before .before .before .before .before .before .before .pre .2 k
+      (omega arith)) (c .before .before .before .before .before .before .loop .inv .1)
+      (c .before .before .close-rows .ensures),
+)
 
 same-length : tie.Need-same-length Inv-loop μ-loop
 same-length c = omega arith

@@ -1,4 +1,5 @@
--- `marks::reach::close_rows` meets its contract. The loop's invariant: the rows of the states passed, from the last down, hold what is reached
+-- `marks::reach::close_rows` meets its contract. The loop's invariant: the rows of the states passed, from the last
+-- down, hold what is reached
 -- with only those states in between. Assumes nothing.
 use Prim.Native.Nat.{_≤_}
 use mathlib.Core.Logic.{⊎-elim}
@@ -9,7 +10,8 @@ use Rattle.marks.proofs.reach.close_rows.Statement.{statement}
 use Rattle.marks.proofs.reach.close_rows.Tie as tie
 
 abbrev Inv-loop : tie.InvT-loop
-Inv-loop reach₀ piece states base state₀ seen₀ reach state seen = (state ≤ states) × Closing-rows reach₀ reach piece states state seen
+Inv-loop reach₀ piece states base state₀ seen₀ reach state seen = (state ≤ states)
+    × Closing-rows reach₀ reach piece states state seen
 
 abbrev μ-loop : tie.MeasureT-loop
 μ-loop reach₀ piece states base state₀ seen₀ reach state seen = state
@@ -48,9 +50,11 @@ loop-again : tie.Need-loop-again Inv-loop μ-loop
 loop-again c = (
   omega arith,
   ⊎-elim
-      (λ t. closing-on (omega arith) (omega arith) (closing-at (omega arith) (c .before .before .before .before .before .loop .inv .1))
+      (λ t. closing-on (omega arith) (omega arith)
+      (closing-at (omega arith) (c .before .before .before .before .before .loop .inv .1))
       (c .before .before .join-ahead .ensures) (t .2 .ensures) (t .5))
-      (λ t. closing-skip (omega arith) (omega arith) (closing-at (omega arith) (c .before .before .before .before .before .loop .inv .1))
+      (λ t. closing-skip (omega arith) (omega arith)
+      (closing-at (omega arith) (c .before .before .before .before .before .loop .inv .1))
       (c .before .before .join-ahead .ensures) (c .before .has-bit .ensures .fails (t .0 .left)) (t .1))
       (c .if1 .came),
 )

@@ -1,4 +1,5 @@
--- `marks::reach::join_ahead` meets its contract. The loop's invariant: of the states ahead that the transitions lead to, all but those left are
+-- `marks::reach::join_ahead` meets its contract. The loop's invariant: of the states ahead that the transitions lead
+-- to, all but those left are
 -- joined. Assumes nothing.
 use Prim.Native.Nat.{_+_, _^_, _<_}
 use native.Mathlib.Nat.{lt-of-le-of-lt}
@@ -11,7 +12,8 @@ use Rattle.marks.proofs.reach.join_ahead.Statement.{statement}
 use Rattle.marks.proofs.reach.join_ahead.Tie as tie
 
 abbrev Inv-loop : tie.InvT-loop
-Inv-loop reach base state at word row₀ left₀ row left = (word < 2 ^ 64) × (left < 2 ^ 64) × Joined-ahead reach base state left row
+Inv-loop reach base state at word row₀ left₀ row left = (word < 2 ^ 64) × (left < 2 ^ 64)
+    × Joined-ahead reach base state left row
 
 abbrev μ-loop : tie.MeasureT-loop
 μ-loop reach base state at word row₀ left₀ row left = left
@@ -47,7 +49,11 @@ add-row : tie.Need-add-row Inv-loop μ-loop
 add-row c = omega (arith, c .lowest .ensures .1)
 
 mul-row : tie.Need-mul-row Inv-loop μ-loop
-mul-row c = omega (arith, joined-below {n = 64} (c .before .before .loop .inv .2) (c .lowest .ensures .0) (c .before .before .loop .inv .0))
+mul-row c = omega (
+  arith,
+  joined-below {n = 64} (c .before .before .loop .inv .2) (c .lowest .ensures .0)
+      (c .before .before .loop .inv .0),
+)
 
 shared-slice-read-row : tie.Need-shared-slice-read-row Inv-loop μ-loop
 shared-slice-read-row c =

@@ -1,4 +1,5 @@
--- `marks::reach::let_in` meets its contract. The loop's invariant: the rows passed have let the state in, and its own is passed. Assumes nothing.
+-- `marks::reach::let_in` meets its contract. The loop's invariant: the rows passed have let the state in, and its own
+-- is passed. Assumes nothing.
 use Prim.Native.Nat.{_≤_, _<_, _-_}
 use mathlib.Core.Logic.{⊎-elim}
 use native.Mathlib.Omega.{arith}
@@ -8,7 +9,8 @@ use Rattle.marks.proofs.reach.let_in.Statement.{statement}
 use Rattle.marks.proofs.reach.let_in.Tie as tie
 
 abbrev Inv-loop : tie.InvT-loop
-Inv-loop reach₀ base states via state₀ reach state = (state ≤ states) × (via < state) × Rows (Let-in reach₀ base via) reach₀ reach base state
+Inv-loop reach₀ base states via state₀ reach state = (state ≤ states) × (via < state)
+    × Rows (Let-in reach₀ base via) reach₀ reach base state
 
 abbrev μ-loop : tie.MeasureT-loop
 μ-loop reach₀ base states via state₀ reach state = states - state
@@ -57,8 +59,10 @@ loop-again c = (
   omega arith,
   omega arith,
   ⊎-elim
-      (λ w. let-in-joined (omega arith) (c .before .before .before .before .loop .inv .2) (omega arith) (c .before .has-bit .ensures .holds (w .0 .taken)) (w .2))
-      (λ w. let-in-kept (omega arith) (c .before .before .before .before .loop .inv .2) (c .before .has-bit .ensures .fails (w .0 .left)) (w .1))
+      (λ w. let-in-joined (omega arith) (c .before .before .before .before .loop .inv .2) (omega arith)
+      (c .before .has-bit .ensures .holds (w .0 .taken)) (w .2))
+      (λ w. let-in-kept (omega arith) (c .before .before .before .before .loop .inv .2)
+      (c .before .has-bit .ensures .fails (w .0 .left)) (w .1))
       (c .if1 .came),
 )
 

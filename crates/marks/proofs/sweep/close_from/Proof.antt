@@ -26,4 +26,5 @@ returns-2 : tie.Need-returns-2
 returns-2 c = closes-unmarked _ _ _ _ (c .before .has-bit .ensures .fails (c .if1 .left))
 
 pub close-from-spec : {M : Type 1} → statement M
-close-from-spec = tie.close (tie.spec has-bit-requires mul-result add-result mul-result-2 shared-slice-read-result returns returns-2)
+close-from-spec =
+    tie.close (tie.spec has-bit-requires mul-result add-result mul-result-2 shared-slice-read-result returns returns-2)

@@ -1,4 +1,5 @@
--- `marks::sweep::pass` meets its contract: masked by 1, the word shifted down is its bit, which shifted up stays within 64 bits.
+-- `marks::sweep::pass` meets its contract: masked by 1, the word shifted down is its bit, which shifted up stays within
+-- 64 bits.
 -- Assumes nothing.
 use borrow.Author.Needs.{needs}
 use mathlib.Core.Path.{_≡_, ap, _∙_}
@@ -19,11 +20,13 @@ shl-result c = search needs
 
 shifted : (v to : ℕ) → to < 64 → (bitAnd v 1 * 2 ^ to) % 2 ^ 64 ≡ v % 2 * 2 ^ to
 shifted v to h =
-    ap (λ (n : ℕ). (n * 2 ^ to) % 2 ^ 64) (and-mask v 1) ∙ shl-exact {a = v % 2} 1 to 64 (mod-lt v {m = 2} (omega arith)) (omega arith)
+    ap (λ (n : ℕ). (n * 2 ^ to) % 2 ^ 64) (and-mask v 1)
+    ∙ shl-exact {a = v % 2} 1 to 64 (mod-lt v {m = 2} (omega arith)) (omega arith)
 
 returns : tie.Need-returns
 unfolding passed
-returns c = ap (λ (n : ℕ). bitOr (c .args .word) n) (shifted (c .args .other / 2 ^ c .args .from) (c .args .to) (c .pre .1))
+returns c = ap (λ (n : ℕ). bitOr (c .args .word) n)
+    (shifted (c .args .other / 2 ^ c .args .from) (c .args .to) (c .pre .1))
 
 pub pass-spec : {M : Type 1} → statement M
 pass-spec = tie.close (tie.spec shr-result shl-result returns)

@@ -1,4 +1,5 @@
--- `picker::line::line_end` meets its contract: no byte passed is 10. The measure is what is left of the input. Assumes nothing.
+-- `picker::line::line_end` meets its contract: no byte passed is 10. The measure is what is left of the input. Assumes
+-- nothing.
 use Prim.Native.Nat.{ℕ, _+_, _≤_, _<_, _-_}
 use mathlib.Core.Path.{_≡_}
 use mathlib.Core.List.{List}
@@ -10,7 +11,8 @@ use Rattle.picker.proofs.line.line_end.Statement.{statement}
 use Rattle.picker.proofs.line.line_end.Tie as tie
 
 -- one more byte that is not 10
-unbroken-next : (input : List ℕ) (start end : ℕ) → ((i : ℕ) → start ≤ i → i < end → getD input i 0 ≡ 10 → ⊥) → (getD input end 0 ≡ 10 → ⊥) → (i : ℕ) → start ≤ i → i < end + 1 → getD input i 0 ≡ 10 → ⊥
+unbroken-next : (input : List ℕ) (start end : ℕ) → ((i : ℕ) → start ≤ i → i < end → getD input i 0 ≡ 10 → ⊥)
+    → (getD input end 0 ≡ 10 → ⊥) → (i : ℕ) → start ≤ i → i < end + 1 → getD input i 0 ≡ 10 → ⊥
 unbroken-next input start end each other i h k same =
     elim (decLt i end) [
       | yes l ↦ each i h l same
@@ -18,7 +20,8 @@ unbroken-next input start end each other i h k same =
     ]
 
 abbrev Inv-loop : tie.InvT-loop
-Inv-loop input start end₀ end = (start ≤ end) × (end ≤ length input) × ((i : ℕ) → start ≤ i → i < end → getD input i 0 ≡ 10 → ⊥)
+Inv-loop input start end₀ end = (start ≤ end) × (end ≤ length input)
+    × ((i : ℕ) → start ≤ i → i < end → getD input i 0 ≡ 10 → ⊥)
 
 abbrev μ-loop : tie.MeasureT-loop
 μ-loop input start end₀ end = length input - end
@@ -36,13 +39,31 @@ loop-less : tie.Need-loop-less Inv-loop μ-loop
 loop-less c = search needs
 
 loop-again : tie.Need-loop-again Inv-loop μ-loop
-loop-again c = (search needs, search needs, unbroken-next (c .before .before .before .before .args .input .now) _ _ (c .before .before .before .loop .inv .2) (c .if1 .left))
+loop-again c = (
+  search needs,
+  search needs,
+  unbroken-next (c .before .before .before .before .args .input .now) _ _
+      (c .before .before .before .loop .inv .2) (c .if1 .left),
+)
 
 returns : tie.Need-returns Inv-loop μ-loop
-returns c = record { ordered = search needs; inside = search needs; unbroken = c .before .loop .inv .2; stops = λ h. absurd (omega arith) }
+returns c = record {
+  ordered = search needs;
+  inside = search needs;
+  unbroken = c .before .loop .inv .2;
+  stops =
+      λ h. absurd (omega arith);
+}
 
 returns-2 : tie.Need-returns-2 Inv-loop μ-loop
-returns-2 c = record { ordered = search needs; inside = search needs; unbroken = c .before .before .before .loop .inv .2; stops = λ h. c .if1 .taken }
+returns-2 c =
+    record {
+      ordered = search needs;
+      inside = search needs;
+      unbroken = c .before .before .before .loop .inv .2;
+      stops =
+          λ h. c .if1 .taken;
+    }
 
 pub line-end-spec : {M : Type 1} → statement M
 line-end-spec =

@@ -1,4 +1,5 @@
--- `picker::print::put_number` meets its contract: a number below 10 is its digit, another one the digits of its tenth, then its last.
+-- `picker::print::put_number` meets its contract: a number below 10 is its digit, another one the digits of its tenth,
+-- then its last.
 -- The measure is the number. Assumes nothing.
 use native.Mathlib.Omega.{arith}
 use borrow.Author.Needs.{needs}
@@ -36,29 +37,45 @@ small-same-length : (t : ℕ) → put-number-lts.Need-same-length (claims t) (pu
 small-same-length t c = search needs
 
 small-returns : (t : ℕ) → put-number-lts.Need-returns (claims t) (put-number-at t) put-number.Post
-small-returns t c = prints-small _ _ _ (c .before .before .before .before .before .before .pre .1) (search needs) (c .before .before .put-digit .ensures)
+small-returns t c = prints-small _ _ _ (c .before .before .before .before .before .before .pre .1) (search needs)
+    (c .before .before .put-digit .ensures)
 
 tenth-requires : (t : ℕ) → put-number-lts.Need-put-number-requires (claims t) (put-number-at t) put-number.Post
 tenth-requires t c κs =
-    let start = c .before .before .before in
-    (search needs, omega (arith, large-room (start .args .out .now) (start .args .at) (start .args .n) (start .pre .1) (search needs)))
+    let start = c .before .before .before in (
+      search needs,
+      omega (
+        arith,
+        large-room (start .args .out .now) (start .args .at) (start .args .n) (start .pre .1)
+            (search needs),
+      ),
+    )
 
 last-requires : (t : ℕ) → put-number-lts.Need-put-digit-requires-2 (claims t) (put-number-at t) put-number.Post
 last-requires t c κs =
     let start = c .before .before .before .before .before .before .before in
-    let tenth = c .before .before .before .put-number in
-    (search needs, omega (arith, tenth .ensures, tenth .kept .0, large-room (start .args .out .now) (start .args .at) (start .args .n) (start .pre .1) (omega arith)))
+    let tenth = c .before .before .before .put-number in (
+      search needs,
+      omega (
+        arith,
+        tenth .ensures,
+        tenth .kept .0,
+        large-room (start .args .out .now) (start .args .at) (start .args .n) (start .pre .1) (omega arith),
+      ),
+    )
 
 large-same-length : (t : ℕ) → put-number-lts.Need-same-length-2 (claims t) (put-number-at t) put-number.Post
 large-same-length t c = search needs
 
 large-returns : (t : ℕ) → put-number-lts.Need-returns-2 (claims t) (put-number-at t) put-number.Post
 large-returns t c =
-    prints-large _ _ _ (c .before .before .before .before .before .before .before .before .before .before .pre .1) (omega arith)
+    prints-large _ _ _ (c .before .before .before .before .before .before .before .before .before .before .pre .1)
+    (omega arith)
     (c .before .before .before .before .before .before .put-number .ensures)
     (c .before .before .put-digit2 .ensures)
 
 pub +put-number-spec : {M : Type 1} → statement M
 +put-number-spec =
     close μ-put-number λ t.
-    put-number-lts.spec (claims t) (put-number-at t) put-number.Post (small-requires t) (small-same-length t) (small-returns t) (tenth-requires t) (last-requires t) (large-same-length t) (large-returns t)
+    put-number-lts.spec (claims t) (put-number-at t) put-number.Post (small-requires t) (small-same-length t)
+    (small-returns t) (tenth-requires t) (last-requires t) (large-same-length t) (large-returns t)

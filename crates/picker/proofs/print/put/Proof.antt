@@ -1,4 +1,5 @@
--- `picker::print::put` meets its contract: before byte i the first i bytes stand in the buffer. The measure is what is left of the bytes.
+-- `picker::print::put` meets its contract: before byte i the first i bytes stand in the buffer. The measure is what is
+-- left of the bytes.
 -- Assumes nothing.
 use Prim.Native.Nat.{_≤_, _-_}
 use mathlib.Core.Path.{_≡_, refl}
@@ -38,8 +39,13 @@ loop-less c = search needs
 loop-again : tie.Need-loop-again Inv-loop μ-loop
 loop-again c =
     let start = c .before .before .before in
-    let copied = c .before .before .loop .inv in
-    (search needs, simp length-set (copied .1), rw (add-one, copied .2) (paste-suc (start .args .out .now) (start .args .at) (start .args .bytes .now) (c .before .before .loop .i) 0 (omega arith) (omega arith)))
+    let copied = c .before .before .loop .inv in (
+      search needs,
+      simp length-set (copied .1),
+      rw (add-one, copied .2)
+          (paste-suc (start .args .out .now) (start .args .at) (start .args .bytes .now) (c .before .before .loop .i) 0
+          (omega arith) (omega arith)),
+    )
 
 add-result : tie.Need-add-result Inv-loop μ-loop
 add-result c = search needs
@@ -48,7 +54,8 @@ same-length : tie.Need-same-length Inv-loop μ-loop
 same-length c = search needs
 
 returns : tie.Need-returns Inv-loop μ-loop
-returns c = prints-copied _ _ _ _ (c .before .loop .i) (search needs) (search needs) (c .before .loop .inv .1) (c .before .loop .inv .2)
+returns c = prints-copied _ _ _ _ (c .before .loop .i) (search needs) (search needs) (c .before .loop .inv .1)
+    (c .before .loop .inv .2)
 
 pub put-spec : {M : Type 1} → statement M
 put-spec =

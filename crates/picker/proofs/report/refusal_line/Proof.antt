@@ -24,7 +24,9 @@ abbrev fourth : tie.After-put3 → tie.After-put-number2
 fourth c = c .before .before .before .before .before
 
 -- there is room for the whole line
-room : (c : tie.Start) → c .args .at + (8 + length (digits (c .args .number)) + 4 + length (digits (c .args .place)) + 1) ≤ length (c .args .out .now)
+room : (c : tie.Start)
+    → c .args .at + (8 + length (digits (c .args .number)) + 4 + length (digits (c .args .place)) + 1)
+    ≤ length (c .args .out .now)
 room c = simp length-append at (c .pre)
 
 slice-aggregate-put : tie.Need-slice-aggregate-put
@@ -57,7 +59,11 @@ same-length c = search needs
 returns : tie.Need-returns
 returns c =
     let last = c .before .before in
-    prints-join (prints-join (prints-join (prints-join (first (second (third (fourth last))) .put .ensures) (second (third (fourth last)) .put-number .ensures)) (third (fourth last) .put2 .ensures)) (fourth last .put-number2 .ensures)) (last .put3 .ensures)
+    prints-join (prints-join
+    (prints-join
+    (prints-join (first (second (third (fourth last))) .put .ensures)
+    (second (third (fourth last)) .put-number .ensures)) (third (fourth last) .put2 .ensures))
+    (fourth last .put-number2 .ensures)) (last .put3 .ensures)
 
 pub refusal-line-spec : {M : Type 1} → statement M
 refusal-line-spec =

@@ -30,7 +30,9 @@ abbrev no-count : tie.After-put4 → tie.After-put-number3
 no-count c = c .before .before .before .before .before
 
 -- there is room for the whole line
-room : (c : tie.Start) → c .args .at + (6 + length (digits (c .args .count)) + 5 + length (digits (c .args .yes)) + 4 + length (digits (c .args .count - c .args .yes)) + 1) ≤ length (c .args .out .now)
+room : (c : tie.Start)
+    → c .args .at + (6 + length (digits (c .args .count)) + 5 + length (digits (c .args .yes)) + 4
+    + length (digits (c .args .count - c .args .yes)) + 1) ≤ length (c .args .out .now)
 room c = simp length-append at (c .pre .1)
 
 slice-aggregate-put : tie.Need-slice-aggregate-put
@@ -61,13 +63,15 @@ sub-put-number : tie.Need-sub-put-number
 sub-put-number c = search needs
 
 put-number-requires-3 : tie.Need-put-number-requires-3
-put-number-requires-3 c κs = omega (arith, room (at-start (total (count (yes-word (yes-count (c .before .before .before)))))))
+put-number-requires-3 c κs =
+    omega (arith, room (at-start (total (count (yes-word (yes-count (c .before .before .before)))))))
 
 slice-aggregate-put-4 : tie.Need-slice-aggregate-put-4
 slice-aggregate-put-4 c = search needs
 
 put-requires-4 : tie.Need-put-requires-4
-put-requires-4 c κs = omega (arith, room (at-start (total (count (yes-word (yes-count (no-word (c .before .before .before .before))))))))
+put-requires-4 c κs =
+    omega (arith, room (at-start (total (count (yes-word (yes-count (no-word (c .before .before .before .before))))))))
 
 same-length : tie.Need-same-length
 same-length c = search needs
@@ -80,7 +84,11 @@ returns c =
     let yes-counted = yes-count no-put in
     let yes-put = yes-word yes-counted in
     let counted = count yes-put in
-    prints-join (prints-join (prints-join (prints-join (prints-join (prints-join (total counted .put .ensures) (counted .put-number .ensures)) (yes-put .put2 .ensures)) (yes-counted .put-number2 .ensures)) (no-put .put3 .ensures)) (no-counted .put-number3 .ensures)) (ended .put4 .ensures)
+    prints-join (prints-join
+    (prints-join
+    (prints-join (prints-join (prints-join (total counted .put .ensures) (counted .put-number .ensures))
+    (yes-put .put2 .ensures)) (yes-counted .put-number2 .ensures)) (no-put .put3 .ensures))
+    (no-counted .put-number3 .ensures)) (ended .put4 .ensures)
 
 pub total-line-spec : {M : Type 1} → statement M
 total-line-spec =

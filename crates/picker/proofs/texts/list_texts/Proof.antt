@@ -1,4 +1,5 @@
--- `picker::texts::list_texts` meets its contract: the tables are those of the list's tree, and the texts are printed by them. Assumes nothing.
+-- `picker::texts::list_texts` meets its contract: the tables are those of the list's tree, and the texts are printed by
+-- them. Assumes nothing.
 use borrow.Author.Needs.{needs}
 use Rattle.picker.proofs.texts.list_texts.Statement.{statement}
 use Rattle.picker.proofs.texts.list_texts.Tie as tie
@@ -39,7 +40,8 @@ slice-aggregate-texts-5 c = search needs
 texts-requires : tie.Need-texts-requires
 texts-requires c κs =
     let start = c .before .before .before .before .before .before .before .before .before .before .before .before .before .before .before .before .before .before .before .before in
-    let (made, of-list) = c .before .before .before .before .before .before .before .before .before .before .before .prepare .ensures in
+    let (made, of-list) =
+    c .before .before .before .before .before .before .before .before .before .before .before .prepare .ensures in
     let list = start .pre .0 in
     (record { roomy = made; of-tree = (list .some, of-list (list .some) (list .good)) }, start .pre .1)
 
@@ -47,7 +49,8 @@ same-length : tie.Need-same-length
 same-length c = search needs
 
 returns : tie.Need-returns
-returns c = λ t good. c .before .before .texts .ensures t (c .before .before .before .before .before .before .before .before .before .before .before .before .before .before .prepare .ensures .1 t good)
+returns c = λ t good. c .before .before .texts .ensures t
+    (c .before .before .before .before .before .before .before .before .before .before .before .before .before .before .prepare .ensures .1 t good)
 
 pub list-texts-spec : {M : Type 1} → statement M
 list-texts-spec =

@@ -1,4 +1,5 @@
--- `picker::texts::texts` meets its contract: before each text the lines printed so far, with those still to come, are the whole output. The
+-- `picker::texts::texts` meets its contract: before each text the lines printed so far, with those still to come, are
+-- the whole output. The
 -- measure is what is left of the input. Assumes nothing.
 use Prim.Native.Nat.{ℕ, _-_}
 use mathlib.Core.Path.{_≡_, refl, sym, ap, _∙_}
@@ -8,16 +9,29 @@ use native.Mathlib.Omega.{arith}
 use borrow.Author.Needs.{needs}
 use lib.ListN.{length}
 use Rattle.language.specs.Tree.{Tree}
+use Rattle.tree.specs.Leaf.{Leaf}
 use Rattle.tables.specs.Tables.{Prepared}
 use Rattle.finder.specs.Decide.{matches}
 use Rattle.picker.specs.Print.{yes-after}
-use Rattle.picker.specs.Loop.{Space, space-line, space-next, space-total, So-far, so-far-none, so-far-next, so-far-done, lent-answer}
+use Rattle.picker.specs.Loop.{
+  Space,
+  space-line,
+  space-next,
+  space-total,
+  So-far,
+  so-far-none,
+  so-far-next,
+  so-far-done,
+  lent-answer,
+}
 use Rattle.picker.proofs.texts.texts.Statement.{statement}
 use Rattle.picker.proofs.texts.texts.Tie as tie
 
 abbrev Inv-loop : tie.InvT-loop
 Inv-loop reach labels runs stands tops pieces input start out₀ place₀ at₀ count₀ yes₀ out place at count yes' =
-    Space input place at count yes' out × (length out ≡ length out₀) × ((t : Tree ℕ) → Prepared t reach labels runs stands tops pieces → So-far matches t input start out₀ place at count yes' out)
+    Space input place at count yes' out × (length out ≡ length out₀)
+    × ((t : Tree Leaf) → Prepared t reach labels runs stands tops pieces
+    → So-far matches t input start out₀ place at count yes' out)
 
 abbrev μ-loop : tie.MeasureT-loop
 μ-loop reach labels runs stands tops pieces input start out₀ place₀ at₀ count₀ yes₀ out place at count yes' =
@@ -34,7 +48,8 @@ abbrev head : tie.After-text-line-arg Inv-loop μ-loop → tie.At-loop Inv-loop 
 head c = c .before .before .before .before .before
 
 -- the yes lines after the turn
-counted : (c : tie.After-next-line Inv-loop μ-loop) → c .before .if1 .yes ≡ yes-after (turn c .before .text-matches .result) (head (turn c) .loop .yes)
+counted : (c : tie.After-next-line Inv-loop μ-loop)
+    → c .before .if1 .yes ≡ yes-after (turn c .before .text-matches .result) (head (turn c) .loop .yes)
 counted c =
     let before = head (turn c) .loop .yes in
     ⊎-elim
@@ -43,7 +58,8 @@ counted c =
     (c .before .if1 .came)
 
 loop-holds : tie.Need-loop-holds Inv-loop μ-loop
-loop-holds c = (c .before .before .before .before .before .before .before .pre .1, refl, λ t prepared. so-far-none matches t _ _ _)
+loop-holds c =
+    (c .before .before .before .before .before .before .before .pre .1, refl, λ t prepared. so-far-none matches t _ _ _)
 
 line-end-requires : tie.Need-line-end-requires Inv-loop μ-loop
 line-end-requires c κs = search needs
@@ -67,7 +83,8 @@ add-text-line : tie.Need-add-text-line Inv-loop μ-loop
 add-text-line c = search needs
 
 text-line-requires : tie.Need-text-line-requires Inv-loop μ-loop
-text-line-requires c κs = space-line (head c .loop .inv .0) _ (c .before .before .before .line-end .ensures) (search needs) (c .before .text-matches .result)
+text-line-requires c κs = space-line (head c .loop .inv .0) _ (c .before .before .before .line-end .ensures)
+    (search needs) (c .before .text-matches .result)
 
 add-yes : tie.Need-add-yes Inv-loop μ-loop
 add-yes c = search needs
@@ -87,7 +104,8 @@ loop-again c =
       space-next space _ line (omega arith) (turn c .before .text-matches .result) printed,
       search needs,
       λ t prepared.
-          so-far-next matches t _ _ _ (head (turn c) .loop .inv .2 t prepared) _ line (omega arith) _ (lent-answer line _ t (turn c .before .text-matches .ensures t prepared)) printed,
+          so-far-next matches t _ _ _ (head (turn c) .loop .inv .2 t prepared) _ line (omega arith) _
+          (lent-answer line _ t (turn c .before .text-matches .ensures t prepared)) printed,
     )
 
 total-line-requires : tie.Need-total-line-requires Inv-loop μ-loop
@@ -98,7 +116,8 @@ same-length c = search needs
 
 returns : tie.Need-returns Inv-loop μ-loop
 returns c = λ t prepared.
-    so-far-done matches t _ _ _ (c .before .before .before .before .before .loop .inv .2 t prepared) (omega arith) (c .before .before .total-line .ensures)
+    so-far-done matches t _ _ _ (c .before .before .before .before .before .loop .inv .2 t prepared) (omega arith)
+    (c .before .before .total-line .ensures)
 
 pub texts-spec : {M : Type 1} → statement M
 texts-spec =

@@ -1,5 +1,6 @@
 -- The measures of the cycle of readers, and what each is given and asks of the others.
--- The bytes left fall: three for each, and one more for a catenation, two more for a union, since these read their first part at the same place.
+-- The bytes left fall: three for each, and one more for a catenation, two more for a union, since these read their
+-- first part at the same place.
 -- Assumes nothing.
 use Prim.Native.Nat.{ℕ, _+_, _*_, _-_, _<_}
 use lib.ListN.{length}
@@ -49,7 +50,14 @@ union-below t = and 2 union-kinds.ps (falls 2 union-kinds.ps _<_ μ-union t) uni
 
 -- what `operand` knows of those that it calls
 abbrev pub operand-claims : ℕ → operand-lts.Claims
-operand-claims t = (union-below t, union.Post, stars-reads.Asked, stars-reads.Learnt, character-reads.Asked, character-reads.Learnt)
+operand-claims t = (
+  union-below t,
+  union.Post,
+  stars-reads.Asked,
+  stars-reads.Learnt,
+  character-reads.Asked,
+  character-reads.Learnt,
+)
 
 -- what `catenation` knows of those that it calls
 abbrev pub catenation-claims : ℕ → catenation-lts.Claims

@@ -1,4 +1,5 @@
--- `reader::catenation::catenation`. The loop's invariant: what was read where the loop begins is read on up to `place`, and an operand ends there.
+-- `reader::catenation::catenation`. The loop's invariant: what was read where the loop begins is read on up to `place`,
+-- and an operand ends there.
 -- Assumes nothing.
 use Prim.Native.Nat.{ℕ, _-_}
 use mathlib.Core.Path.{_≡_, refl, _∙_}
@@ -11,31 +12,45 @@ use Rattle.reader.specs.Surroundings.{fails-joined, fails-factor}
 use Rattle.reader.specs.Reading.{Carries, Whole, Went, went-joined, went-factor}
 use Rattle.reader.proofs.catenation.catenation.Reads as catenation
 use Rattle.reader.proofs.+catenation-catenation+operand-operand+union-union.Lts-catenation-catenation as lts
-use Rattle.reader.proofs.+catenation-catenation+operand-operand+union-union.Proof.Base.{catenation-at, catenation-claims}
+use Rattle.reader.proofs.+catenation-catenation+operand-operand+union-union.Proof.Base.{
+  catenation-at,
+  catenation-claims,
+}
 
 abbrev pub Inv-loop : lts.InvT-loop
 Inv-loop expr at depth labels₀ count next count' place₀ n₀ labels place n =
-    Carries joined expr depth place₀ n₀ labels₀ place n labels × Stops starred expr place × (length labels ≡ length labels₀)
+    Carries joined expr depth place₀ n₀ labels₀ place n labels × Stops starred expr place
+    × (length labels ≡ length labels₀)
 
 abbrev pub μ-loop : lts.MeasureT-loop
 μ-loop expr at depth labels₀ count next count' place₀ n₀ labels place n = length expr - place
 
 -- the first part was read
-first-read : (t : ℕ) (c : lts.After-known-told (catenation-claims t) (catenation-at t) catenation.Post Inv-loop μ-loop) → let s = c .before .before .before .before .before .before .before .before .before in Whole starred (s .args .expr .now) (s .args .depth) (s .args .at) (s .args .count) (s .args .labels .now) (c .before .first .given .0 .0) (c .before .first .given .0 .1 .0) (c .before .before .before .before .before .operand .last .1 .1 .1 .0)
+first-read : (t : ℕ) (c : lts.After-known-told (catenation-claims t) (catenation-at t) catenation.Post Inv-loop μ-loop)
+    → let s = c .before .before .before .before .before .before .before .before .before in Whole starred
+    (s .args .expr .now) (s .args .depth) (s .args .at) (s .args .count) (s .args .labels .now)
+    (c .before .first .given .0 .0) (c .before .first .given .0 .1 .0)
+    (c .before .before .before .before .before .operand .last .1 .1 .1 .0)
 first-read t c = rw (c .before .first .given .1) at (c .before .before .before .before .before .operand .ensures)
 
 -- what was read up to the loop's place
-here : (t : ℕ) (c : lts.At-loop (catenation-claims t) (catenation-at t) catenation.Post Inv-loop μ-loop) → let s = c .before .before .before .before .before .before .before .before .before .before in Went joined (s .args .expr .now) (s .args .depth) (s .args .at) (s .args .count) (s .args .labels .now) (c .loop .place) (c .loop .n) (c .loop .labels)
+here : (t : ℕ) (c : lts.At-loop (catenation-claims t) (catenation-at t) catenation.Post Inv-loop μ-loop)
+    → let s = c .before .before .before .before .before .before .before .before .before .before in Went joined
+    (s .args .expr .now) (s .args .depth) (s .args .at) (s .args .count) (s .args .labels .now) (c .loop .place)
+    (c .loop .n) (c .loop .labels)
 here t c = c .loop .inv .0 .on _ _ _ (went-joined (first-read t (c .before) .went))
 
 -- the next part was read
-part-read : (t : ℕ) (c : lts.After-known-told2 (catenation-claims t) (catenation-at t) catenation.Post Inv-loop μ-loop) → let s = c .before .before .before .before .before .before .before .before .before .before .before .before .before .before .before .before .before .before .before .before .before in let l = c .before .before .before .before .before .before .before .before .before .before .before .loop in Whole starred (s .args .expr .now) (s .args .depth) (l .place) (l .n) (l .labels) (c .before .part .given .0 .0) (c .before .part .given .0 .1 .0) (c .before .before .before .before .before .operand2 .last .1 .1 .1 .0)
+part-read : (t : ℕ) (c : lts.After-known-told2 (catenation-claims t) (catenation-at t) catenation.Post Inv-loop μ-loop)
+    → let s = c .before .before .before .before .before .before .before .before .before .before .before .before .before .before .before .before .before .before .before .before .before in let l = c .before .before .before .before .before .before .before .before .before .before .before .loop in Whole starred (s .args .expr .now) (s .args .depth) (l .place) (l .n) (l .labels) (c .before .part .given .0 .0) (c .before .part .given .0 .1 .0) (c .before .before .before .before .before .operand2 .last .1 .1 .1 .0)
 part-read t c = rw (c .before .part .given .1) at (c .before .before .before .before .before .operand2 .ensures)
 
-pub operand-requires : (t : ℕ) → lts.Need-operand-requires (catenation-claims t) (catenation-at t) catenation.Post Inv-loop μ-loop
+pub operand-requires : (t : ℕ) → lts.Need-operand-requires (catenation-claims t) (catenation-at t) catenation.Post
+    Inv-loop μ-loop
 operand-requires t c κs = search needs
 
-pub enum-known-first : (t : ℕ) → lts.Need-enum-known-first (catenation-claims t) (catenation-at t) catenation.Post Inv-loop μ-loop
+pub enum-known-first : (t : ℕ) → lts.Need-enum-known-first (catenation-claims t) (catenation-at t) catenation.Post
+    Inv-loop μ-loop
 enum-known-first t c = search needs
 
 pub enum-told : (t : ℕ) → lts.Need-enum-told (catenation-claims t) (catenation-at t) catenation.Post Inv-loop μ-loop
@@ -47,65 +62,101 @@ same-length t c = search needs
 pub returns : (t : ℕ) → lts.Need-returns (catenation-claims t) (catenation-at t) catenation.Post Inv-loop μ-loop
 returns t c =
     let e = c .enum-told .given .1 in
-    rw e (fails-joined (c .before .before .before .before .before .before .before .before .args .expr .now) (rw e at (c .before .before .before .before .operand .ensures)))
+    rw e (fails-joined (c .before .before .before .before .before .before .before .before .args .expr .now)
+    (rw e at (c .before .before .before .before .operand .ensures)))
 
 pub loop-holds : (t : ℕ) → lts.Need-loop-holds (catenation-claims t) (catenation-at t) catenation.Post Inv-loop μ-loop
 loop-holds t c = (record { on = λ at first start w. w }, first-read t c .stops, refl)
 
-pub shared-slice-read-byte : (t : ℕ) → lts.Need-shared-slice-read-byte (catenation-claims t) (catenation-at t) catenation.Post Inv-loop μ-loop
+pub shared-slice-read-byte : (t : ℕ)
+    → lts.Need-shared-slice-read-byte (catenation-claims t) (catenation-at t) catenation.Post Inv-loop μ-loop
 shared-slice-read-byte t c = search needs
 
-pub operand-requires-2 : (t : ℕ) → lts.Need-operand-requires-2 (catenation-claims t) (catenation-at t) catenation.Post Inv-loop μ-loop
+pub operand-requires-2 : (t : ℕ) → lts.Need-operand-requires-2 (catenation-claims t) (catenation-at t) catenation.Post
+    Inv-loop μ-loop
 operand-requires-2 t c κs = let w = here t (c .before .before .before .before .before) in omega arith
 
-pub enum-known-part : (t : ℕ) → lts.Need-enum-known-part (catenation-claims t) (catenation-at t) catenation.Post Inv-loop μ-loop
+pub enum-known-part : (t : ℕ) → lts.Need-enum-known-part (catenation-claims t) (catenation-at t) catenation.Post
+    Inv-loop μ-loop
 enum-known-part t c = search needs
 
 pub enum-told-2 : (t : ℕ) → lts.Need-enum-told-2 (catenation-claims t) (catenation-at t) catenation.Post Inv-loop μ-loop
 enum-told-2 t c = search needs
 
-pub same-length-2 : (t : ℕ) → lts.Need-same-length-2 (catenation-claims t) (catenation-at t) catenation.Post Inv-loop μ-loop
+pub same-length-2 : (t : ℕ) → lts.Need-same-length-2 (catenation-claims t) (catenation-at t) catenation.Post Inv-loop
+    μ-loop
 same-length-2 t c = search needs
 
 pub returns-2 : (t : ℕ) → lts.Need-returns-2 (catenation-claims t) (catenation-at t) catenation.Post Inv-loop μ-loop
 returns-2 t c =
     let e = c .enum-told2 .given .1 in
     let l = c .before .before .before .before .before .before .before .before .before .before in
-    rw e (fails-factor (c .before .before .before .before .before .before .before .before .before .before .before .before .before .before .before .before .before .before .before .before .args .expr .now) (l .loop .place) (here t l .leads) (c .before .before .before .before .before .before .before .before .before .loop-test .taken) (begins-next (c .before .before .before .before .before .before .before .before .before .before .before .before .before .before .before .before .before .before .before .before .args .expr .now) (c .before .before .before .before .before .before .before .before .before .before .loop .place) (c .before .before .before .before .before .before .before .before .before .loop-test .taken) (c .before .before .before .before .before .before .before .if1 .left) (c .before .before .before .before .before .before .if2 .left) (c .before .before .before .before .before .before .before .before .before .before .loop .inv .1)) (rw e at (c .before .before .before .before .operand2 .ensures)))
+    rw e (fails-factor
+    (c .before .before .before .before .before .before .before .before .before .before .before .before .before .before .before .before .before .before .before .before .args .expr .now) (l .loop .place) (here t l .leads) (c .before .before .before .before .before .before .before .before .before .loop-test .taken) (begins-next (c .before .before .before .before .before .before .before .before .before .before .before .before .before .before .before .before .before .before .before .before .args .expr .now) (c .before .before .before .before .before .before .before .before .before .before .loop .place) (c .before .before .before .before .before .before .before .before .before .loop-test .taken) (c .before .before .before .before .before .before .before .if1 .left) (c .before .before .before .before .before .before .if2 .left) (c .before .before .before .before .before .before .before .before .before .before .loop .inv .1)) (rw e at (c .before .before .before .before .operand2 .ensures)))
 
 pub mul-labels : (t : ℕ) → lts.Need-mul-labels (catenation-claims t) (catenation-at t) catenation.Post Inv-loop μ-loop
-mul-labels t c = let w = here t (c .before .before .before .before .before .before .before .before .before .before .before) in let r = part-read t c in omega arith
+mul-labels t c = let w =
+    here t (c .before .before .before .before .before .before .before .before .before .before .before) in let r =
+    part-read t c in omega arith
 
-pub slice-write-labels : (t : ℕ) → lts.Need-slice-write-labels (catenation-claims t) (catenation-at t) catenation.Post Inv-loop μ-loop
-slice-write-labels t c = let w = here t (c .before .before .before .before .before .before .before .before .before .before .before) in let r = part-read t c in omega arith
+pub slice-write-labels : (t : ℕ) → lts.Need-slice-write-labels (catenation-claims t) (catenation-at t) catenation.Post
+    Inv-loop μ-loop
+slice-write-labels t c = let w =
+    here t (c .before .before .before .before .before .before .before .before .before .before .before) in let r =
+    part-read t c in omega arith
 
 pub add-n : (t : ℕ) → lts.Need-add-n (catenation-claims t) (catenation-at t) catenation.Post Inv-loop μ-loop
-add-n t c = let w = here t (c .before .before .before .before .before .before .before .before .before .before .before) in let r = part-read t c in omega arith
+add-n t c = let w =
+    here t (c .before .before .before .before .before .before .before .before .before .before .before) in let r =
+    part-read t c in omega arith
 
 pub loop-less : (t : ℕ) → lts.Need-loop-less (catenation-claims t) (catenation-at t) catenation.Post Inv-loop μ-loop
-loop-less t c = let w = here t (c .before .before .before .before .before .before .before .before .before .before .before) in let r = part-read t c in omega arith
+loop-less t c = let w =
+    here t (c .before .before .before .before .before .before .before .before .before .before .before) in let r =
+    part-read t c in omega arith
 
 pub loop-again : (t : ℕ) → lts.Need-loop-again (catenation-claims t) (catenation-at t) catenation.Post Inv-loop μ-loop
 loop-again t c =
     let l = c .before .before .before .before .before .before .before .before .before .before .before in
     let r = part-read t c in
-    let room = here t l in
-    (record { on = λ at first start w. went-factor (l .loop .inv .0 .on at first start w) (c .before .before .before .before .before .before .before .before .before .before .loop-test .taken) (begins-next (c .before .before .before .before .before .before .before .before .before .before .before .before .before .before .before .before .before .before .before .before .before .args .expr .now) (c .before .before .before .before .before .before .before .before .before .before .before .loop .place) (c .before .before .before .before .before .before .before .before .before .before .loop-test .taken) (c .before .before .before .before .before .before .before .before .if1 .left) (c .before .before .before .before .before .before .before .if2 .left) (c .before .before .before .before .before .before .before .before .before .before .before .loop .inv .1)) r (omega arith) }, r .stops, simp length-set (c .before .before .before .before .before .operand2 .kept .1 .1 .1 .0 ∙ l .loop .inv .2))
+    let room = here t l in (
+      record {
+        on = λ at first start w. went-factor (l .loop .inv .0 .on at first start w)
+            (c .before .before .before .before .before .before .before .before .before .before .loop-test .taken)
+            (begins-next
+            (c .before .before .before .before .before .before .before .before .before .before .before .before .before .before .before .before .before .before .before .before .before .args .expr .now) (c .before .before .before .before .before .before .before .before .before .before .before .loop .place) (c .before .before .before .before .before .before .before .before .before .before .loop-test .taken) (c .before .before .before .before .before .before .before .before .if1 .left) (c .before .before .before .before .before .before .before .if2 .left) (c .before .before .before .before .before .before .before .before .before .before .before .loop .inv .1)) r (omega arith);
+      },
+      r .stops,
+      simp length-set (c .before .before .before .before .before .operand2 .kept .1 .1 .1 .0 ∙ l .loop .inv .2),
+    )
 
-pub same-length-3 : (t : ℕ) → lts.Need-same-length-3 (catenation-claims t) (catenation-at t) catenation.Post Inv-loop μ-loop
+pub same-length-3 : (t : ℕ) → lts.Need-same-length-3 (catenation-claims t) (catenation-at t) catenation.Post Inv-loop
+    μ-loop
 same-length-3 t c = search needs
 
 pub returns-3 : (t : ℕ) → lts.Need-returns-3 (catenation-claims t) (catenation-at t) catenation.Post Inv-loop μ-loop
 returns-3 t c = let w = here t (c .before) in record { went = w; stops = at-end (omega arith) }
 
-pub same-length-4 : (t : ℕ) → lts.Need-same-length-4 (catenation-claims t) (catenation-at t) catenation.Post Inv-loop μ-loop
+pub same-length-4 : (t : ℕ) → lts.Need-same-length-4 (catenation-claims t) (catenation-at t) catenation.Post Inv-loop
+    μ-loop
 same-length-4 t c = search needs
 
 pub returns-4 : (t : ℕ) → lts.Need-returns-4 (catenation-claims t) (catenation-at t) catenation.Post Inv-loop μ-loop
-returns-4 t c = record { went = here t (c .before .before .before); stops = stops-at (c .before .before .before .before .before .before .before .before .before .before .before .before .before .args .expr .now) (c .before .before .before .loop .place) (c .before .before .loop-test .taken) (c .if1 .taken) refl }
+returns-4 t c =
+    record {
+      went = here t (c .before .before .before);
+      stops =
+          stops-at (c .before .before .before .before .before .before .before .before .before .before .before .before .before .args .expr .now) (c .before .before .before .loop .place) (c .before .before .loop-test .taken) (c .if1 .taken) refl;
+    }
 
-pub same-length-5 : (t : ℕ) → lts.Need-same-length-5 (catenation-claims t) (catenation-at t) catenation.Post Inv-loop μ-loop
+pub same-length-5 : (t : ℕ) → lts.Need-same-length-5 (catenation-claims t) (catenation-at t) catenation.Post Inv-loop
+    μ-loop
 same-length-5 t c = search needs
 
 pub returns-5 : (t : ℕ) → lts.Need-returns-5 (catenation-claims t) (catenation-at t) catenation.Post Inv-loop μ-loop
-returns-5 t c = record { went = here t (c .before .before .before .before); stops = stops-at (c .before .before .before .before .before .before .before .before .before .before .before .before .before .before .args .expr .now) (c .before .before .before .before .loop .place) (c .before .before .before .loop-test .taken) (c .if2 .taken) refl }
+returns-5 t c =
+    record {
+      went = here t (c .before .before .before .before);
+      stops =
+          stops-at (c .before .before .before .before .before .before .before .before .before .before .before .before .before .before .args .expr .now) (c .before .before .before .before .loop .place) (c .before .before .before .loop-test .taken) (c .if2 .taken) refl;
+    }

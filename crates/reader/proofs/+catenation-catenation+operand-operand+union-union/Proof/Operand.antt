@@ -8,32 +8,44 @@ use Rattle.reader.specs.Surroundings.{fails-end, fails-deep, fails-group
 use Rattle.reader.specs.Reading.{Whole, Went, went-group, then-stars}
 use Rattle.reader.proofs.operand.operand.Reads as operand
 use Rattle.reader.proofs.+catenation-catenation+operand-operand+union-union.Lts-operand-operand as lts
-use Rattle.reader.proofs.+catenation-catenation+operand-operand+union-union.Proof.Base.{operand-at, operand-claims}
+use Rattle.reader.proofs.+catenation-catenation+operand-operand+union-union.Proof.Base.{
+  operand-at,
+  operand-claims,
+}
 
 -- the union in the group was read
-inner-read : (t : ℕ) (c : lts.After-known-told (operand-claims t) (operand-at t) operand.Post) → let s = c .before .before .before .before .before .before .before .before .before .before .before .before .before in Whole united (s .args .expr .now) (s .args .depth + 1) (s .args .at + 1) (s .args .count) (s .args .labels .now) (c .before .inner .given .0 .0) (c .before .inner .given .0 .1 .0) (c .before .before .before .before .before .union .last .1 .1 .1 .0)
+inner-read : (t : ℕ) (c : lts.After-known-told (operand-claims t) (operand-at t) operand.Post)
+    → let s = c .before .before .before .before .before .before .before .before .before .before .before .before .before in Whole united (s .args .expr .now) (s .args .depth + 1) (s .args .at + 1) (s .args .count) (s .args .labels .now) (c .before .inner .given .0 .0) (c .before .inner .given .0 .1 .0) (c .before .before .before .before .before .union .last .1 .1 .1 .0)
 inner-read t c = rw (c .before .inner .given .1) at (c .before .before .before .before .before .union .ensures)
 
 -- the group was read
-group-read : (t : ℕ) (c : lts.Else4 (operand-claims t) (operand-at t) operand.Post) → let s = c .before .before .before .before .before .before .before .before .before .before .before .before .before .before in Went starred (s .args .expr .now) (s .args .depth) (s .args .at) (s .args .count) (s .args .labels .now) (c .before .before .inner .given .0 .0 + 1) (c .before .before .inner .given .0 .1 .0) (c .before .before .before .before .before .before .union .last .1 .1 .1 .0)
+group-read : (t : ℕ) (c : lts.Else4 (operand-claims t) (operand-at t) operand.Post)
+    → let s = c .before .before .before .before .before .before .before .before .before .before .before .before .before .before in Went starred (s .args .expr .now) (s .args .depth) (s .args .at) (s .args .count) (s .args .labels .now) (c .before .before .inner .given .0 .0 + 1) (c .before .before .inner .given .0 .1 .0) (c .before .before .before .before .before .before .union .last .1 .1 .1 .0)
 group-read t c =
     let r = inner-read t (c .before) in
-    went-group r (omega arith) (omega arith) (omega arith) (c .before .before .before .before .before .before .before .before .before .if2 .taken)
+    went-group r (omega arith) (omega arith) (omega arith)
+    (c .before .before .before .before .before .before .before .before .before .if2 .taken)
 
 -- the character was read
-single-read : (t : ℕ) (c : lts.After-known-told2 (operand-claims t) (operand-at t) operand.Post) → let s = c .before .before .before .before .before .before .before .before .before .before .before .before in Went starred (s .args .expr .now) (s .args .depth) (s .args .at) (s .args .count) (s .args .labels .now) (c .before .single .given .0 .0) (c .before .single .given .0 .1 .0) (c .before .before .before .before .before .character .last .1 .1 .0)
+single-read : (t : ℕ) (c : lts.After-known-told2 (operand-claims t) (operand-at t) operand.Post)
+    → let s = c .before .before .before .before .before .before .before .before .before .before .before .before in Went
+    starred (s .args .expr .now) (s .args .depth) (s .args .at) (s .args .count) (s .args .labels .now)
+    (c .before .single .given .0 .0) (c .before .single .given .0 .1 .0)
+    (c .before .before .before .before .before .character .last .1 .1 .0)
 single-read t c =
     let r = rw (c .before .single .given .1) at (c .before .before .before .before .before .character .ensures) in
     r .went (c .before .before .before .before .before .before .before .before .before .before .before .before .args .depth)
 
 pub returns : (t : ℕ) → lts.Need-returns (operand-claims t) (operand-at t) operand.Post
-returns t c = let s = c .before .before .before in fails-end (s .args .expr .now) (s .args .depth) (s .args .at) (c .if1 .taken)
+returns t c = let s = c .before .before .before in fails-end (s .args .expr .now) (s .args .depth) (s .args .at)
+    (c .if1 .taken)
 
 pub shared-slice-read-if2 : (t : ℕ) → lts.Need-shared-slice-read-if2 (operand-claims t) (operand-at t) operand.Post
 shared-slice-read-if2 t c = search needs
 
 pub returns-2 : (t : ℕ) → lts.Need-returns-2 (operand-claims t) (operand-at t) operand.Post
-returns-2 t c = let s = c .before .before .before .before .before .before in fails-deep (s .args .expr .now) (s .args .depth) (s .args .at) (omega arith) (omega arith) (c .before .if2 .taken)
+returns-2 t c = let s = c .before .before .before .before .before .before in fails-deep (s .args .expr .now)
+    (s .args .depth) (s .args .at) (omega arith) (omega arith) (c .before .if2 .taken)
 
 pub add-union : (t : ℕ) → lts.Need-add-union (operand-claims t) (operand-at t) operand.Post
 add-union t c = search needs
@@ -57,7 +69,8 @@ pub returns-3 : (t : ℕ) → lts.Need-returns-3 (operand-claims t) (operand-at 
 returns-3 t c =
     let s = c .before .before .before .before .before .before .before .before .before .before .before .before in
     let e = c .enum-told .given .1 in
-    rw e (fails-group (s .args .expr .now) (s .args .at) (rw e at (c .before .before .before .before .union .ensures)) (omega arith) (omega arith) (c .before .before .before .before .before .before .before .if2 .taken))
+    rw e (fails-group (s .args .expr .now) (s .args .at) (rw e at (c .before .before .before .before .union .ensures))
+    (omega arith) (omega arith) (c .before .before .before .before .before .before .before .if2 .taken))
 
 pub same-length-2 : (t : ℕ) → lts.Need-same-length-2 (operand-claims t) (operand-at t) operand.Post
 same-length-2 t c = search needs
@@ -65,7 +78,9 @@ same-length-2 t c = search needs
 pub returns-4 : (t : ℕ) → lts.Need-returns-4 (operand-claims t) (operand-at t) operand.Post
 returns-4 t c =
     let s = c .before .before .before .before .before .before .before .before .before .before .before .before .before .before in
-    fails-open (s .args .expr .now) (s .args .at) _ (inner-read t (c .before) .went .leads) (c .if4 .taken) (omega arith) (omega arith) (c .before .before .before .before .before .before .before .before .before .if2 .taken)
+    fails-open (s .args .expr .now) (s .args .at) _ (inner-read t (c .before) .went .leads) (c .if4 .taken)
+    (omega arith) (omega arith)
+    (c .before .before .before .before .before .before .before .before .before .if2 .taken)
 
 pub add-stars : (t : ℕ) → lts.Need-add-stars (operand-claims t) (operand-at t) operand.Post
 add-stars t c = let r = inner-read t (c .before) in omega arith
@@ -77,7 +92,8 @@ pub same-length-3 : (t : ℕ) → lts.Need-same-length-3 (operand-claims t) (ope
 same-length-3 t c = search needs
 
 pub returns-5 : (t : ℕ) → lts.Need-returns-5 (operand-claims t) (operand-at t) operand.Post
-returns-5 t c = then-stars (c .before .before .stars .last .1 .1 .0) (c .before .before .stars .result) (group-read t (c .before .before .before .before)) (c .before .before .stars .ensures)
+returns-5 t c = then-stars (c .before .before .stars .last .1 .1 .0) (c .before .before .stars .result)
+    (group-read t (c .before .before .before .before)) (c .before .before .stars .ensures)
 
 pub character-requires : (t : ℕ) → lts.Need-character-requires (operand-claims t) (operand-at t) operand.Post
 character-requires t c κs = search needs
@@ -105,4 +121,5 @@ pub same-length-5 : (t : ℕ) → lts.Need-same-length-5 (operand-claims t) (ope
 same-length-5 t c = search needs
 
 pub returns-7 : (t : ℕ) → lts.Need-returns-7 (operand-claims t) (operand-at t) operand.Post
-returns-7 t c = then-stars (c .before .before .stars2 .last .1 .1 .0) (c .before .before .stars2 .result) (single-read t (c .before .before .before .before)) (c .before .before .stars2 .ensures)
+returns-7 t c = then-stars (c .before .before .stars2 .last .1 .1 .0) (c .before .before .stars2 .result)
+    (single-read t (c .before .before .before .before)) (c .before .before .stars2 .ensures)

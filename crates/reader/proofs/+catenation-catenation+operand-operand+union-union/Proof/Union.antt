@@ -1,4 +1,5 @@
--- `reader::union::union`. The loop's invariant: what was read where the loop begins is read on up to `place`, and a catenation ends there.
+-- `reader::union::union`. The loop's invariant: what was read where the loop begins is read on up to `place`, and a
+-- catenation ends there.
 -- Assumes nothing.
 use Prim.Native.Nat.{ℕ, _+_, _-_}
 use mathlib.Core.Path.{_≡_, refl, _∙_}
@@ -15,24 +16,34 @@ use Rattle.reader.proofs.+catenation-catenation+operand-operand+union-u
 
 abbrev pub Inv-loop : lts.InvT-loop
 Inv-loop expr at depth labels₀ count next count' place₀ n₀ labels place n =
-    Carries united expr depth place₀ n₀ labels₀ place n labels × Stops joined expr place × (length labels ≡ length labels₀)
+    Carries united expr depth place₀ n₀ labels₀ place n labels × Stops joined expr place
+    × (length labels ≡ length labels₀)
 
 abbrev pub μ-loop : lts.MeasureT-loop
 μ-loop expr at depth labels₀ count next count' place₀ n₀ labels place n = length expr - place
 
 -- the first part was read
-first-read : (t : ℕ) (c : lts.After-known-told (union-claims t) (union-at t) union.Post Inv-loop μ-loop) → let s = c .before .before .before .before .before .before .before .before .before in Whole joined (s .args .expr .now) (s .args .depth) (s .args .at) (s .args .count) (s .args .labels .now) (c .before .first .given .0 .0) (c .before .first .given .0 .1 .0) (c .before .before .before .before .before .catenation .last .1 .1 .1 .0)
+first-read : (t : ℕ) (c : lts.After-known-told (union-claims t) (union-at t) union.Post Inv-loop μ-loop)
+    → let s = c .before .before .before .before .before .before .before .before .before in Whole joined
+    (s .args .expr .now) (s .args .depth) (s .args .at) (s .args .count) (s .args .labels .now)
+    (c .before .first .given .0 .0) (c .before .first .given .0 .1 .0)
+    (c .before .before .before .before .before .catenation .last .1 .1 .1 .0)
 first-read t c = rw (c .before .first .given .1) at (c .before .before .before .before .before .catenation .ensures)
 
 -- what was read up to the loop's place
-here : (t : ℕ) (c : lts.At-loop (union-claims t) (union-at t) union.Post Inv-loop μ-loop) → let s = c .before .before .before .before .before .before .before .before .before .before in Went united (s .args .expr .now) (s .args .depth) (s .args .at) (s .args .count) (s .args .labels .now) (c .loop .place) (c .loop .n) (c .loop .labels)
+here : (t : ℕ) (c : lts.At-loop (union-claims t) (union-at t) union.Post Inv-loop μ-loop)
+    → let s = c .before .before .before .before .before .before .before .before .before .before in Went united
+    (s .args .expr .now) (s .args .depth) (s .args .at) (s .args .count) (s .args .labels .now) (c .loop .place)
+    (c .loop .n) (c .loop .labels)
 here t c = c .loop .inv .0 .on _ _ _ (went-united (first-read t (c .before) .went))
 
 -- the next part was read
-part-read : (t : ℕ) (c : lts.After-known-told2 (union-claims t) (union-at t) union.Post Inv-loop μ-loop) → let s = c .before .before .before .before .before .before .before .before .before .before .before .before .before .before .before .before .before .before .before .before in let l = c .before .before .before .before .before .before .before .before .before .before .loop in Whole joined (s .args .expr .now) (s .args .depth) (l .place + 1) (l .n) (l .labels) (c .before .part .given .0 .0) (c .before .part .given .0 .1 .0) (c .before .before .before .before .before .catenation2 .last .1 .1 .1 .0)
+part-read : (t : ℕ) (c : lts.After-known-told2 (union-claims t) (union-at t) union.Post Inv-loop μ-loop)
+    → let s = c .before .before .before .before .before .before .before .before .before .before .before .before .before .before .before .before .before .before .before .before in let l = c .before .before .before .before .before .before .before .before .before .before .loop in Whole joined (s .args .expr .now) (s .args .depth) (l .place + 1) (l .n) (l .labels) (c .before .part .given .0 .0) (c .before .part .given .0 .1 .0) (c .before .before .before .before .before .catenation2 .last .1 .1 .1 .0)
 part-read t c = rw (c .before .part .given .1) at (c .before .before .before .before .before .catenation2 .ensures)
 
-pub catenation-requires : (t : ℕ) → lts.Need-catenation-requires (union-claims t) (union-at t) union.Post Inv-loop μ-loop
+pub catenation-requires : (t : ℕ) → lts.Need-catenation-requires (union-claims t) (union-at t) union.Post Inv-loop
+    μ-loop
 catenation-requires t c κs = search needs
 
 pub enum-known-first : (t : ℕ) → lts.Need-enum-known-first (union-claims t) (union-at t) union.Post Inv-loop μ-loop
@@ -47,18 +58,21 @@ same-length t c = search needs
 pub returns : (t : ℕ) → lts.Need-returns (union-claims t) (union-at t) union.Post Inv-loop μ-loop
 returns t c =
     let e = c .enum-told .given .1 in
-    rw e (fails-united (c .before .before .before .before .before .before .before .before .args .expr .now) (rw e at (c .before .before .before .before .catenation .ensures)))
+    rw e (fails-united (c .before .before .before .before .before .before .before .before .args .expr .now)
+    (rw e at (c .before .before .before .before .catenation .ensures)))
 
 pub loop-holds : (t : ℕ) → lts.Need-loop-holds (union-claims t) (union-at t) union.Post Inv-loop μ-loop
 loop-holds t c = (record { on = λ at first start w. w }, first-read t c .stops, refl)
 
-pub shared-slice-read-if1 : (t : ℕ) → lts.Need-shared-slice-read-if1 (union-claims t) (union-at t) union.Post Inv-loop μ-loop
+pub shared-slice-read-if1 : (t : ℕ) → lts.Need-shared-slice-read-if1 (union-claims t) (union-at t) union.Post Inv-loop
+    μ-loop
 shared-slice-read-if1 t c = omega arith
 
 pub add-catenation : (t : ℕ) → lts.Need-add-catenation (union-claims t) (union-at t) union.Post Inv-loop μ-loop
 add-catenation t c = let w = here t (c .before .before .before) in omega arith
 
-pub catenation-requires-2 : (t : ℕ) → lts.Need-catenation-requires-2 (union-claims t) (union-at t) union.Post Inv-loop μ-loop
+pub catenation-requires-2 : (t : ℕ) → lts.Need-catenation-requires-2 (union-claims t) (union-at t) union.Post Inv-loop
+    μ-loop
 catenation-requires-2 t c κs = let w = here t (c .before .before .before .before) in omega arith
 
 pub enum-known-part : (t : ℕ) → lts.Need-enum-known-part (union-claims t) (union-at t) union.Post Inv-loop μ-loop
@@ -74,26 +88,39 @@ pub returns-2 : (t : ℕ) → lts.Need-returns-2 (union-claims t) (union-at t) u
 returns-2 t c =
     let e = c .enum-told2 .given .1 in
     let l = c .before .before .before .before .before .before .before .before .before in
-    rw e (fails-branch (c .before .before .before .before .before .before .before .before .before .before .before .before .before .before .before .before .before .before .before .args .expr .now) (l .loop .place) (here t l .leads) (c .before .before .before .before .before .before .before .before .loop-test .taken) (c .before .before .before .before .before .before .if1 .left) (rw e at (c .before .before .before .before .catenation2 .ensures)))
+    rw e (fails-branch
+    (c .before .before .before .before .before .before .before .before .before .before .before .before .before .before .before .before .before .before .before .args .expr .now) (l .loop .place) (here t l .leads) (c .before .before .before .before .before .before .before .before .loop-test .taken) (c .before .before .before .before .before .before .if1 .left) (rw e at (c .before .before .before .before .catenation2 .ensures)))
 
 pub mul-labels : (t : ℕ) → lts.Need-mul-labels (union-claims t) (union-at t) union.Post Inv-loop μ-loop
-mul-labels t c = let w = here t (c .before .before .before .before .before .before .before .before .before .before) in let r = part-read t c in omega arith
+mul-labels t c = let w = here t (c .before .before .before .before .before .before .before .before .before .before) in
+    let r = part-read t c in omega arith
 
 pub slice-write-labels : (t : ℕ) → lts.Need-slice-write-labels (union-claims t) (union-at t) union.Post Inv-loop μ-loop
-slice-write-labels t c = let w = here t (c .before .before .before .before .before .before .before .before .before .before) in let r = part-read t c in omega arith
+slice-write-labels t c = let w =
+    here t (c .before .before .before .before .before .before .before .before .before .before) in let r =
+    part-read t c in omega arith
 
 pub add-n : (t : ℕ) → lts.Need-add-n (union-claims t) (union-at t) union.Post Inv-loop μ-loop
-add-n t c = let w = here t (c .before .before .before .before .before .before .before .before .before .before) in let r = part-read t c in omega arith
+add-n t c = let w = here t (c .before .before .before .before .before .before .before .before .before .before) in
+    let r = part-read t c in omega arith
 
 pub loop-less : (t : ℕ) → lts.Need-loop-less (union-claims t) (union-at t) union.Post Inv-loop μ-loop
-loop-less t c = let w = here t (c .before .before .before .before .before .before .before .before .before .before) in let r = part-read t c in omega arith
+loop-less t c = let w = here t (c .before .before .before .before .before .before .before .before .before .before) in
+    let r = part-read t c in omega arith
 
 pub loop-again : (t : ℕ) → lts.Need-loop-again (union-claims t) (union-at t) union.Post Inv-loop μ-loop
 loop-again t c =
     let l = c .before .before .before .before .before .before .before .before .before .before in
     let r = part-read t c in
-    let room = here t l in
-    (record { on = λ at first start w. went-branch (l .loop .inv .0 .on at first start w) (c .before .before .before .before .before .before .before .before .before .loop-test .taken) (c .before .before .before .before .before .before .before .if1 .left) r (omega arith) }, r .stops, simp length-set (c .before .before .before .before .before .catenation2 .kept .1 .1 .1 .0 ∙ l .loop .inv .2))
+    let room = here t l in (
+      record {
+        on = λ at first start w. went-branch (l .loop .inv .0 .on at first start w)
+            (c .before .before .before .before .before .before .before .before .before .loop-test .taken)
+            (c .before .before .before .before .before .before .before .if1 .left) r (omega arith);
+      },
+      r .stops,
+      simp length-set (c .before .before .before .before .before .catenation2 .kept .1 .1 .1 .0 ∙ l .loop .inv .2),
+    )
 
 pub same-length-3 : (t : ℕ) → lts.Need-same-length-3 (union-claims t) (union-at t) union.Post Inv-loop μ-loop
 same-length-3 t c = search needs
@@ -105,4 +132,10 @@ pub same-length-4 : (t : ℕ) → lts.Need-same-length-4 (union-claims t) (union
 same-length-4 t c = search needs
 
 pub returns-4 : (t : ℕ) → lts.Need-returns-4 (union-claims t) (union-at t) union.Post Inv-loop μ-loop
-returns-4 t c = record { went = here t (c .before .before .before); stops = stops-united (c .before .before .before .before .before .before .before .before .before .before .before .before .before .args .expr .now) (c .before .before .before .loop .place) (c .before .before .loop-test .taken) (c .if1 .taken) (c .before .before .before .loop .inv .1) }
+returns-4 t c =
+    record {
+      went = here t (c .before .before .before);
+      stops =
+          stops-united
+          (c .before .before .before .before .before .before .before .before .before .before .before .before .before .args .expr .now) (c .before .before .before .loop .place) (c .before .before .loop-test .taken) (c .if1 .taken) (c .before .before .before .loop .inv .1);
+    }

@@ -18,7 +18,10 @@ add-place c = search needs
 returns : tie.Need-returns
 returns c =
     let s = c .before .before .before .before .before in
-    record { fails = λ depth. fails-last (s .args .expr .now) depth (s .args .at) (c .if2 .taken) (c .before .if1 .taken) }
+    record {
+      fails = λ depth. fails-last (s .args .expr .now) depth (s .args .at) (c .if2 .taken)
+          (c .before .if1 .taken);
+    }
 
 shared-slice-read-escaped : tie.Need-shared-slice-read-escaped
 shared-slice-read-escaped c = search needs
@@ -39,13 +42,19 @@ returns-2 : tie.Need-returns-2
 returns-2 c =
     let s = c .before .before .before .before .before .before .before .before .before .before .before .before in
     let e = c .before .before .before .before .before .before .before .before .if1 .taken in
-    let special = sym (c .before .before .before .before .before .is-special .ensures) ∙ c .before .before .before .before .if3 .taken in
-    character-read (s .args .labels .now) _ _ (λ depth. leads-escaped (s .args .expr .now) depth (s .args .at) (omega arith) e special) (omega arith) (omega arith) (omega arith) (c .before .before .leaf .ensures .0) (c .before .before .leaf .ensures .1)
+    let special = sym (c .before .before .before .before .before .is-special .ensures)
+    ∙ c .before .before .before .before .if3 .taken in
+    character-read (s .args .labels .now) _ _
+    (λ depth. leads-escaped (s .args .expr .now) depth (s .args .at) (omega arith) e special) (omega arith)
+    (omega arith) (omega arith) (c .before .before .leaf .ensures .0) (c .before .before .leaf .ensures .1)
 
 returns-3 : tie.Need-returns-3
 returns-3 c =
     let s = c .before .before .before .before .before .before .before .before in
-    record { fails = λ depth. fails-escaped (s .args .expr .now) depth (s .args .at) (omega arith) (c .before .before .before .before .if1 .taken) (sym (c .before .is-special .ensures) ∙ c .if3 .left) }
+    record {
+      fails = λ depth. fails-escaped (s .args .expr .now) depth (s .args .at) (omega arith)
+          (c .before .before .before .before .if1 .taken) (sym (c .before .is-special .ensures) ∙ c .if3 .left);
+    }
 
 is-special-requires-2 : tie.Need-is-special-requires-2
 is-special-requires-2 c κs = search needs
@@ -53,7 +62,10 @@ is-special-requires-2 c κs = search needs
 returns-4 : tie.Need-returns-4
 returns-4 c =
     let s = c .before .before .before .before .before .before in
-    record { fails = λ depth. fails-special (s .args .expr .now) depth (s .args .at) (s .pre .0) (s .pre .1 .0) (c .before .before .if1 .left) (sym (c .before .is-special2 .ensures) ∙ c .if4 .taken) }
+    record {
+      fails = λ depth. fails-special (s .args .expr .now) depth (s .args .at) (s .pre .0) (s .pre .1 .0)
+          (c .before .before .if1 .left) (sym (c .before .is-special2 .ensures) ∙ c .if4 .taken);
+    }
 
 add-leaf-2 : tie.Need-add-leaf-2
 add-leaf-2 c = search needs
@@ -67,8 +79,12 @@ same-length-2 c = search needs
 returns-5 : tie.Need-returns-5
 returns-5 c =
     let s = c .before .before .before .before .before .before .before .before .before .before in
-    let itself = not-special _ (sym (c .before .before .before .before .before .is-special2 .ensures) ∙ c .before .before .before .before .if4 .left) in
-    character-read (s .args .labels .now) _ _ (λ depth. leads-plain (s .args .expr .now) depth (s .args .at) (s .pre .0) itself) (omega arith) (omega arith) (omega arith) (c .before .before .leaf2 .ensures .0) (c .before .before .leaf2 .ensures .1)
+    let itself =
+    not-special _ (sym (c .before .before .before .before .before .is-special2 .ensures)
+    ∙ c .before .before .before .before .if4 .left) in
+    character-read (s .args .labels .now) _ _
+    (λ depth. leads-plain (s .args .expr .now) depth (s .args .at) (s .pre .0) itself) (omega arith) (omega arith)
+    (omega arith) (c .before .before .leaf2 .ensures .0) (c .before .before .leaf2 .ensures .1)
 
 pub character-spec : {M : Type 1} → statement M
 character-spec =

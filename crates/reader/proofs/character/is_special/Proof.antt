@@ -1,4 +1,5 @@
--- `reader::character::is_special` meets its contract: it asks for each of the five special bytes, as the sign of a byte does.
+-- `reader::character::is_special` meets its contract: it asks for each of the five special bytes, as the sign of a byte
+-- does.
 -- Assumes nothing.
 use Prim.Native.Nat.{ℕ}
 use mathlib.Core.Path.{_≡_, refl}
@@ -15,7 +16,9 @@ picked false = refl
 
 -- where four of the tests fail, the fifth decides
 fifth : (b : ℕ) → (b ≡ 40 → ⊥) → (b ≡ 41 → ⊥) → (b ≡ 124 → ⊥) → (b ≡ 42 → ⊥) → eqb b 92 ≡ special (sign-of b)
-fifth b no-opening no-closing no-bar no-asterisk = rw (ne-eqb b 40 no-opening, ne-eqb b 41 no-closing, ne-eqb b 124 no-bar, ne-eqb b 42 no-asterisk) (picked (eqb b 92))
+fifth b no-opening no-closing no-bar no-asterisk =
+    rw (ne-eqb b 40 no-opening, ne-eqb b 41 no-closing, ne-eqb b 124 no-bar, ne-eqb b 42 no-asterisk)
+    (picked (eqb b 92))
 
 returns : tie.Need-returns
 returns c = rw (c .if1 .taken)
@@ -30,7 +33,8 @@ returns-4 : tie.Need-returns-4
 returns-4 c = rw (c .if4 .taken)
 
 returns-5 : tie.Need-returns-5
-returns-5 c = fifth (c .before .before .before .before .args .byte) (c .before .before .before .if1 .left) (c .before .before .if2 .left) (c .before .if3 .left) (c .if4 .left)
+returns-5 c = fifth (c .before .before .before .before .args .byte) (c .before .before .before .if1 .left)
+    (c .before .before .if2 .left) (c .before .if3 .left) (c .if4 .left)
 
 pub is-special-spec : {M : Type 1} → statement M
 is-special-spec = tie.close (tie.spec returns returns-2 returns-3 returns-4 returns-5)

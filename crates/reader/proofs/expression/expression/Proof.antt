@@ -1,4 +1,5 @@
--- `reader::expression::expression` meets its contract: after 1 and 2 it is the union read from the start, with no group open.
+-- `reader::expression::expression` meets its contract: after 1 and 2 it is the union read from the start, with no group
+-- open.
 -- Assumes nothing.
 use native.Mathlib.Omega.{arith}
 use borrow.Author.Needs.{needs}
@@ -9,7 +10,10 @@ use Rattle.reader.proofs.expression.expression.Statement.{statement}
 use Rattle.reader.proofs.expression.expression.Tie as tie
 
 -- the union was read
-whole-read : (c : tie.After-known-told) → let s = c .before .before .before .before .before .before .before .before .before .before .before in Whole united (s .args .expr .now) 0 0 0 (s .args .labels .now) (c .before .whole .given .0 .0) (c .before .whole .given .0 .1 .0) (c .before .before .before .before .before .union .last .1 .1 .1 .0)
+whole-read : (c : tie.After-known-told)
+    → let s = c .before .before .before .before .before .before .before .before .before .before .before in Whole united
+    (s .args .expr .now) 0 0 0 (s .args .labels .now) (c .before .whole .given .0 .0) (c .before .whole .given .0 .1 .0)
+    (c .before .before .before .before .before .union .last .1 .1 .1 .0)
 whole-read c = rw (c .before .whole .given .1) at (c .before .before .before .before .before .union .ensures)
 
 returns : tie.Need-returns
@@ -33,13 +37,17 @@ same-length c = search needs
 returns-3 : tie.Need-returns-3
 returns-3 c =
     let e = c .enum-told .given .1 in
-    rw e (faulty (c .before .before .before .before .before .before .before .before .before .before .args .expr .now) (c .before .before .before .before .before .before .before .if1 .left) (c .before .before .before .before .before .before .if2 .left) (rw e at (c .before .before .before .before .union .ensures)))
+    rw e (faulty (c .before .before .before .before .before .before .before .before .before .before .args .expr .now)
+    (c .before .before .before .before .before .before .before .if1 .left)
+    (c .before .before .before .before .before .before .if2 .left)
+    (rw e at (c .before .before .before .before .union .ensures)))
 
 same-length-2 : tie.Need-same-length-2
 same-length-2 c = search needs
 
 returns-4 : tie.Need-returns-4
-returns-4 c = unopened (c .before .before .before .before .before .before .before .before .before .before .before .before .args .expr .now) (c .before .before .before .before .before .before .before .before .before .if1 .left) (c .before .before .before .before .before .before .before .before .if2 .left) (whole-read (c .before)) (c .if3 .taken)
+returns-4 c =
+    unopened (c .before .before .before .before .before .before .before .before .before .before .before .before .args .expr .now) (c .before .before .before .before .before .before .before .before .before .if1 .left) (c .before .before .before .before .before .before .before .before .if2 .left) (whole-read (c .before)) (c .if3 .taken)
 
 same-length-3 : tie.Need-same-length-3
 same-length-3 c = search needs
@@ -50,4 +58,6 @@ returns-5 c =
     accepted (c .before .before .before .before .before .before .before .before .before .before .before .before .args .expr .now) (c .before .before .before .before .before .before .before .before .before .if1 .left) (c .before .before .before .before .before .before .before .before .if2 .left) w (omega arith)
 
 pub expression-spec : {M : Type 1} → statement M
-expression-spec = tie.close (tie.spec returns returns-2 union-requires enum-known-whole enum-told same-length returns-3 same-length-2 returns-4 same-length-3 returns-5)
+expression-spec =
+    tie.close (tie.spec returns returns-2 union-requires enum-known-whole enum-told same-length returns-3 same-length-2
+    returns-4 same-length-3 returns-5)

@@ -1,4 +1,5 @@
--- `reader::stars::stars` meets its contract. The loop's invariant: what was read where the loop begins is read on up to `place`,
+-- `reader::stars::stars` meets its contract. The loop's invariant: what was read where the loop begins is read on up to
+-- `place`,
 -- and a label was written for each byte passed. The measure is what is left of the expression. Assumes nothing.
 use Prim.Native.Nat.{ℕ, _+_, _-_, _≤_}
 use mathlib.Core.Path.{_≡_, refl}
@@ -13,7 +14,8 @@ use Rattle.reader.proofs.stars.stars.Tie as tie
 
 abbrev Inv-loop : tie.InvT-loop
 Inv-loop expr at labels₀ count place₀ n₀ labels place n =
-    (place ≤ length expr) × (n + place₀ ≡ n₀ + place) × (length labels ≡ length labels₀) × ((depth : ℕ) → Carries starred expr depth place₀ n₀ labels₀ place n labels)
+    (place ≤ length expr) × (n + place₀ ≡ n₀ + place) × (length labels ≡ length labels₀)
+    × ((depth : ℕ) → Carries starred expr depth place₀ n₀ labels₀ place n labels)
 
 abbrev μ-loop : tie.MeasureT-loop
 μ-loop expr at labels₀ count place₀ n₀ labels place n = length expr - place
@@ -41,8 +43,15 @@ loop-less c = omega arith
 
 loop-again : tie.Need-loop-again Inv-loop μ-loop
 loop-again c =
-    let l = c .before .before .before .loop in
-    (omega arith, omega arith, simp length-set (l .inv .2), λ depth. record { on = λ at first start w. went-star (l .inv .3 depth .on at first start w) (c .before .before .loop-test .taken) (c .if1 .left) (omega arith) })
+    let l = c .before .before .before .loop in (
+      omega arith,
+      omega arith,
+      simp length-set (l .inv .2),
+      λ depth. record {
+        on = λ at first start w. went-star (l .inv .3 depth .on at first start w)
+            (c .before .before .loop-test .taken) (c .if1 .left) (omega arith);
+      },
+    )
 
 same-length : tie.Need-same-length Inv-loop μ-loop
 same-length c = search needs
@@ -54,7 +63,15 @@ same-length-2 : tie.Need-same-length-2 Inv-loop μ-loop
 same-length-2 c = search needs
 
 returns-2 : tie.Need-returns-2 Inv-loop μ-loop
-returns-2 c = record { carries = c .before .before .before .loop .inv .3; stops = stops-starred (c .before .before .before .before .args .expr .now) (c .before .before .before .loop .place) (c .before .before .loop-test .taken) (c .if1 .taken) }
+returns-2 c =
+    record {
+      carries = c .before .before .before .loop .inv .3;
+      stops =
+          stops-starred (c .before .before .before .before .args .expr .now) (c .before .before .before .loop .place)
+          (c .before .before .loop-test .taken) (c .if1 .taken);
+    }
 
 pub stars-spec : {M : Type 1} → statement M
-stars-spec = tie.close (tie.spec Inv-loop μ-loop loop-holds shared-slice-read-if1 mul-labels slice-write-labels add-n add-place loop-less loop-again same-length returns same-length-2 returns-2)
+stars-spec =
+    tie.close (tie.spec Inv-loop μ-loop loop-holds shared-slice-read-if1 mul-labels slice-write-labels add-n add-place
+    loop-less loop-again same-length returns same-length-2 returns-2)

@@ -12,7 +12,8 @@ piece-count-requires c κs = search needs
 returns : tie.Need-returns
 returns c =
     let s = c .before .before .before .before in
-    stored-many (s .args .labels .now) (s .args .records .now) (c .before .piece-count .result) (c .before .piece-count .ensures .count) (omega arith)
+    stored-many (s .args .labels .now) (s .args .records .now) (c .before .piece-count .result)
+    (c .before .piece-count .ensures .count) (omega arith)
 
 mul-if2 : tie.Need-mul-if2
 mul-if2 c = search needs
@@ -20,7 +21,8 @@ mul-if2 c = search needs
 returns-2 : tie.Need-returns-2
 returns-2 c =
     let s = c .before .before .before .before .before in
-    stored-short (s .args .labels .now) (s .args .records .now) (c .before .before .piece-count .result) (c .before .before .piece-count .ensures .count) (omega arith) (omega arith)
+    stored-short (s .args .labels .now) (s .args .records .now) (c .before .before .piece-count .result)
+    (c .before .before .piece-count .ensures .count) (omega arith) (omega arith)
 
 write-records-requires : tie.Need-write-records-requires
 write-records-requires c κs = search needs
@@ -31,7 +33,12 @@ same-length c = search needs
 returns-3 : tie.Need-returns-3
 returns-3 c =
     let s = c .before .before .before .before .before .before .before .before .before in
-    stored-whole (s .args .labels .now) (s .args .records .now) (c .before .before .before .before .before .before .piece-count .result) (c .before .before .before .before .before .before .piece-count .ensures .count) (c .before .before .before .before .before .if1 .left) (c .before .before .before .before .if2 .left) (c .before .before .write-records .ensures .bytes)
+    stored-whole (s .args .labels .now) (s .args .records .now)
+    (c .before .before .before .before .before .before .piece-count .result)
+    (c .before .before .before .before .before .before .piece-count .ensures .count)
+    (c .before .before .before .before .before .if1 .left) (c .before .before .before .before .if2 .left)
+    (c .before .before .write-records .ensures .bytes)
 
 pub store-spec : {M : Type 1} → statement M
-store-spec = tie.close (tie.spec piece-count-requires returns mul-if2 returns-2 write-records-requires same-length returns-3)
+store-spec =
+    tie.close (tie.spec piece-count-requires returns mul-if2 returns-2 write-records-requires same-length returns-3)

@@ -20,14 +20,16 @@ add-result c = search needs
 returns : tie.Need-returns
 returns c =
     let start = c .before .before .before .before .before .before .args in
-    let same = adds-same (start .list .now) (start .counts .now) (start .child) (start .piece) (c .before .field .result) (c .before .field .ensures) (c .if1 .taken) in
+    let same = adds-same (start .list .now) (start .counts .now) (start .child) (start .piece)
+    (c .before .field .result) (c .before .field .ensures) (c .if1 .taken) in
     let read = c .before .before .wide .ensures in
     omega arith
 
 returns-2 : tie.Need-returns-2
 returns-2 c =
     let start = c .before .before .before .before .before .before .args in
-    let other = adds-other (start .list .now) (start .counts .now) (start .child) (start .piece) (c .before .field .result) (c .before .field .ensures) (c .if1 .left) in
+    let other = adds-other (start .list .now) (start .counts .now) (start .child) (start .piece)
+    (c .before .field .result) (c .before .field .ensures) (c .if1 .left) in
     let read = c .before .before .wide .ensures in
     omega arith
 

@@ -1,4 +1,5 @@
--- `tables::count::count` meets its contract. The invariant: the nodes of the records passed are counted. The measure is what is left of the records. Assumes nothing.
+-- `tables::count::count` meets its contract. The invariant: the nodes of the records passed are counted. The measure is
+-- what is left of the records. Assumes nothing.
 use Prim.Native.Nat.{_≤_, _-_}
 use mathlib.Core.Path.{_≡_, subst, refl}
 use native.Mathlib.Omega.{arith}
@@ -38,8 +39,11 @@ loop-less c = omega arith
 
 loop-again : tie.Need-loop-again Inv-loop μ-loop
 loop-again c =
-    let few = few-records (c .before .before .before .before .before .before .pre .0) in
-    (omega arith, simp length-set (c .before .before .before .loop .inv .1), counted-more (c .before .before .before .loop .inv .2) (c .pieces-below .ensures) (omega arith))
+    let few = few-records (c .before .before .before .before .before .before .pre .0) in (
+      omega arith,
+      simp length-set (c .before .before .before .loop .inv .1),
+      counted-more (c .before .before .before .loop .inv .2) (c .pieces-below .ensures) (omega arith),
+    )
 
 same-length : tie.Need-same-length Inv-loop μ-loop
 same-length c = c .before .loop .inv .1

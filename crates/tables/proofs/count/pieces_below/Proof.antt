@@ -20,22 +20,31 @@ field-requires-2 c κs = let listed = node-listed (c .before .before .before .be
 
 added-requires : tie.Need-added-requires
 added-requires c κs =
-    let listed = left-listed (c .before .before .before .before .before .before .pre .0) (λ e. c .before .before .if1 .left (c .before .before .before .kind-of .ensures ∙ e)) in
+    let listed = left-listed (c .before .before .before .before .before .before .pre .0)
+    (λ e. c .before .before .if1 .left (c .before .before .before .kind-of .ensures ∙ e)) in
     omega (arith, c .field2 .ensures, c .before .before .before .before .before .before .pre .1 .1)
 
 returns-2 : tie.Need-returns-2
 returns-2 c =
     let start = c .before .before .before .before .before .before .before .before in
-    read-star (start .pre .1 .0) (c .before .before .before .before .before .kind-of .ensures) (c .before .before .before .field .ensures) (c .before .before .field2 .ensures) (c .if2 .taken) (c .before .added .ensures .0)
+    read-star (start .pre .1 .0) (c .before .before .before .before .before .kind-of .ensures)
+    (c .before .before .before .field .ensures) (c .before .before .field2 .ensures) (c .if2 .taken)
+    (c .before .added .ensures .0)
 
 field-requires-3 : tie.Need-field-requires-3
-field-requires-3 c κs = let listed = node-listed (c .before .before .before .before .before .before .before .before .pre .0) in omega arith
+field-requires-3 c κs = let listed =
+    node-listed (c .before .before .before .before .before .before .before .before .pre .0) in omega arith
 
 added-requires-2 : tie.Need-added-requires-2
 added-requires-2 c κs =
     let kind = c .before .before .before .before .before .before .kind-of .ensures in
-    let listed = right-listed (c .before .before .before .before .before .before .before .before .before .pre .0) (λ e. c .before .before .before .before .before .if1 .left (kind ∙ e)) (λ e. c .before .if2 .left (kind ∙ e)) in
-    omega (arith, c .field3 .ensures, c .before .before .before .before .before .before .before .before .before .pre .1 .1)
+    let listed = right-listed (c .before .before .before .before .before .before .before .before .before .pre .0)
+    (λ e. c .before .before .before .before .before .if1 .left (kind ∙ e)) (λ e. c .before .if2 .left (kind ∙ e)) in
+    omega (
+      arith,
+      c .field3 .ensures,
+      c .before .before .before .before .before .before .before .before .before .pre .1 .1,
+    )
 
 add-result : tie.Need-add-result
 add-result c = search needs
@@ -43,7 +52,10 @@ add-result c = search needs
 returns-3 : tie.Need-returns-3
 returns-3 c =
     let start = c .before .before .before .before .before .before .before .before .before .before in
-    read-two (start .pre .1 .0) (c .before .before .before .before .before .before .before .kind-of .ensures) (c .before .before .before .before .before .field .ensures) (c .before .before .before .before .field2 .ensures) (c .before .before .before .before .before .before .if1 .left) (c .before .before .if2 .left) (c .before .field3 .ensures) (c .before .before .before .added .ensures .0) (c .added2 .ensures .0)
+    read-two (start .pre .1 .0) (c .before .before .before .before .before .before .before .kind-of .ensures)
+    (c .before .before .before .before .before .field .ensures) (c .before .before .before .before .field2 .ensures)
+    (c .before .before .before .before .before .before .if1 .left) (c .before .before .if2 .left)
+    (c .before .field3 .ensures) (c .before .before .before .added .ensures .0) (c .added2 .ensures .0)
 
 pub pieces-below-spec : {M : Type 1} → statement M
 pieces-below-spec =

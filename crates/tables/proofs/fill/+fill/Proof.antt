@@ -1,4 +1,5 @@
--- The proof of the cycle of calls {fill}. The measure is the record's number: the records of the children come before their parent's.
+-- The proof of the cycle of calls {fill}. The measure is the record's number: the records of the children come before
+-- their parent's.
 -- What was found at the record and filled by the calls is what a visit of the spot there makes. Assumes nothing.
 use Prim.Native.Nat.{ℕ, _<_}
 use mathlib.Core.Path.{subst}
@@ -7,7 +8,21 @@ use borrow.Author.Needs.{needs}
 use borrow.Fn.Kinds.{In}
 use borrow.Fn.PlainCycle.{Measures, is, falls, and}
 use Rattle.tables.specs.Filling.{Room, tables}
-use Rattle.tables.specs.Walking.{bounds, stand-few, wide-enough, room-kept, Met, visited-stand, visited-leaf, left-ready, right-ready, star-bounds, two-bounds, visited-star, visited-two}
+use Rattle.tables.specs.Walking.{
+  bounds,
+  stand-few,
+  wide-enough,
+  room-kept,
+  Met,
+  visited-stand,
+  visited-leaf,
+  left-ready,
+  right-ready,
+  star-bounds,
+  two-bounds,
+  visited-star,
+  visited-two,
+}
 use Rattle.tables.proofs.fill.fill.Reads as fill
 use Rattle.tables.proofs.fill.fill.Kinds as fill-kinds
 use Rattle.tables.proofs.fill.+fill.Lts-fill as fill-lts
@@ -29,15 +44,37 @@ abbrev fill-below : ℕ → In 5 fill-kinds.ps
 fill-below t = and 5 fill-kinds.ps (falls 5 fill-kinds.ps _<_ μ-fill t) fill.Pre
 
 abbrev fill-claims : ℕ → fill-lts.Claims
-fill-claims t =
-    (field-reads.Asked, field-reads.Learnt, stand-reads.Asked, stand-reads.Learnt, kind-of-reads.Asked, kind-of-reads.Learnt, leaf-reads.Asked, leaf-reads.Learnt, fill-below t, fill.Post, join-reads.Asked, join-reads.Learnt)
+fill-claims t = (
+  field-reads.Asked,
+  field-reads.Learnt,
+  stand-reads.Asked,
+  stand-reads.Learnt,
+  kind-of-reads.Asked,
+  kind-of-reads.Learnt,
+  leaf-reads.Asked,
+  leaf-reads.Learnt,
+  fill-below t,
+  fill.Post,
+  join-reads.Asked,
+  join-reads.Learnt,
+)
 
 -- the record is of the walk's piece, and its kind is known
-met : (t : ℕ) (c : fill-lts.After-kind-of (fill-claims t) (fill-at t) fill.Post) → Met (c .before .before .before .before .before .before .before .before .args .list .now) (c .before .before .before .before .before .before .before .before .args .node) (c .before .before .before .before .before .before .before .before .args .piece) (c .before .before .field .result) (c .kind-of .result)
-met t c = record { shown = c .before .before .field .ensures; same = c .before .if1 .left; of-kind = c .kind-of .ensures }
+met : (t : ℕ) (c : fill-lts.After-kind-of (fill-claims t) (fill-at t) fill.Post)
+    → Met (c .before .before .before .before .before .before .before .before .args .list .now)
+    (c .before .before .before .before .before .before .before .before .args .node)
+    (c .before .before .before .before .before .before .before .before .args .piece) (c .before .before .field .result)
+    (c .kind-of .result)
+met t c = record {
+  shown = c .before .before .field .ensures;
+  same = c .before .if1 .left;
+  of-kind =
+      c .kind-of .ensures;
+}
 
 fill-field-requires : (t : ℕ) → fill-lts.Need-field-requires (fill-claims t) (fill-at t) fill.Post
-fill-field-requires t c κs = let within = bounds (c .before .before .before .before .before .pre .1 .sitting) in omega arith
+fill-field-requires t c κs = let within = bounds (c .before .before .before .before .before .pre .1 .sitting) in omega
+    arith
 
 fill-stand-requires : (t : ℕ) → fill-lts.Need-stand-requires (fill-claims t) (fill-at t) fill.Post
 fill-stand-requires t c κs =
@@ -62,13 +99,17 @@ fill-same-length-4 t c = search needs
 fill-returns : (t : ℕ) → fill-lts.Need-returns (fill-claims t) (fill-at t) fill.Post
 fill-returns t c =
     let made = c .before .before .before .before .before .before .before .before in
-    visited-stand (made .before .before .before .before .before .before .before .before .before .before .before .before .pre .1 .room) (made .before .before .before .before .before .before .field .ensures) (made .before .before .before .before .before .if1 .taken) (made .stand .ensures .0) (made .stand .ensures .1)
+    visited-stand
+    (made .before .before .before .before .before .before .before .before .before .before .before .before .pre .1 .room) (made .before .before .before .before .before .before .field .ensures) (made .before .before .before .before .before .if1 .taken) (made .stand .ensures .0) (made .stand .ensures .1)
 
 fill-kind-of-requires : (t : ℕ) → fill-lts.Need-kind-of-requires (fill-claims t) (fill-at t) fill.Post
-fill-kind-of-requires t c κs = let within = bounds (c .before .before .before .before .before .before .before .pre .1 .sitting) in omega arith
+fill-kind-of-requires t c κs = let within =
+    bounds (c .before .before .before .before .before .before .before .pre .1 .sitting) in omega arith
 
 fill-leaf-requires : (t : ℕ) → fill-lts.Need-leaf-requires (fill-claims t) (fill-at t) fill.Post
-fill-leaf-requires t c κs = let start = c .before .before .before .before .before .before .before .before .before .before .before in (bounds (start .pre .1 .sitting), wide-enough (start .pre .1 .room))
+fill-leaf-requires t c κs = let start =
+    c .before .before .before .before .before .before .before .before .before .before .before in
+    (bounds (start .pre .1 .sitting), wide-enough (start .pre .1 .room))
 
 fill-same-length-5 : (t : ℕ) → fill-lts.Need-same-length-5 (fill-claims t) (fill-at t) fill.Post
 fill-same-length-5 t c = search needs
@@ -79,30 +120,45 @@ fill-same-length-6 t c = search needs
 fill-returns-2 : (t : ℕ) → fill-lts.Need-returns-2 (fill-claims t) (fill-at t) fill.Post
 fill-returns-2 t c =
     let made = c .before .before .before .before in
-    visited-leaf (met t (made .before .before .before .before)) (made .before .before .before .before .before .before .before .before .before .before .before .before .pre .1 .room) (made .before .before .before .if2 .taken) (made .leaf .ensures .0) (made .leaf .ensures .1 .0) (made .leaf .ensures .1 .1)
+    visited-leaf (met t (made .before .before .before .before))
+    (made .before .before .before .before .before .before .before .before .before .before .before .before .pre .1 .room) (made .before .before .before .if2 .taken) (made .leaf .ensures .0) (made .leaf .ensures .1 .0) (made .leaf .ensures .1 .1)
 
 fill-field-requires-2 : (t : ℕ) → fill-lts.Need-field-requires-2 (fill-claims t) (fill-at t) fill.Post
-fill-field-requires-2 t c κs = let within = bounds (c .before .before .before .before .before .before .before .before .before .pre .1 .sitting) in omega arith
+fill-field-requires-2 t c κs = let within =
+    bounds (c .before .before .before .before .before .before .before .before .before .pre .1 .sitting) in omega arith
 
 fill-add-fill : (t : ℕ) → fill-lts.Need-add-fill (fill-claims t) (fill-at t) fill.Post
-fill-add-fill t c = let within = bounds (c .before .before .before .before .before .before .before .before .before .before .pre .1 .sitting) in omega arith
+fill-add-fill t c = let within =
+    bounds (c .before .before .before .before .before .before .before .before .before .before .pre .1 .sitting) in omega
+    arith
 
 fill-fill-requires : (t : ℕ) → fill-lts.Need-fill-requires (fill-claims t) (fill-at t) fill.Post
 fill-fill-requires t c κs =
     let start = c .before .before .before .before .before .before .before .before .before .before .before .before .before .before in
-    let ready = left-ready (met t (c .before .before .before .before .before .before)) (c .before .before .before .before .field2 .ensures) (c .before .before .before .before .before .if2 .left) (start .pre .1) in
+    let ready = left-ready (met t (c .before .before .before .before .before .before))
+    (c .before .before .before .before .field2 .ensures) (c .before .before .before .before .before .if2 .left)
+    (start .pre .1) in
     (subst (λ (k : ℕ). c .before .before .before .before .field2 .result < k) (start .pre .0) (ready .0), ready .1)
 
 -- the tables that the first call leaves have the same room
-room-left : (t : ℕ) (c : fill-lts.After-fill (fill-claims t) (fill-at t) fill.Post) → Room (tables (c .fill .last .1 .1 .1 .1 .0) (c .fill .last .1 .1 .1 .1 .1 .0) (c .fill .last .1 .1 .1 .1 .1 .1 .0) (c .fill .last .1 .1 .1 .1 .1 .1 .1 .0))
-room-left t c = room-kept _ _ _ _ (c .before .before .before .before .before .before .before .before .before .before .before .before .before .before .before .pre .1 .room) (c .fill .kept .1 .1 .1 .1 .0) (c .fill .kept .1 .1 .1 .1 .1 .0) (c .fill .kept .1 .1 .1 .1 .1 .1 .0) (c .fill .kept .1 .1 .1 .1 .1 .1 .1 .0)
+room-left : (t : ℕ) (c : fill-lts.After-fill (fill-claims t) (fill-at t) fill.Post)
+    → Room (tables (c .fill .last .1 .1 .1 .1 .0) (c .fill .last .1 .1 .1 .1 .1 .0) (c .fill .last .1 .1 .1 .1 .1 .1 .0)
+    (c .fill .last .1 .1 .1 .1 .1 .1 .1 .0))
+room-left t c =
+    room-kept _ _ _ _
+    (c .before .before .before .before .before .before .before .before .before .before .before .before .before .before .before .pre .1 .room) (c .fill .kept .1 .1 .1 .1 .0) (c .fill .kept .1 .1 .1 .1 .1 .0) (c .fill .kept .1 .1 .1 .1 .1 .1 .0) (c .fill .kept .1 .1 .1 .1 .1 .1 .1 .0)
 
 fill-join-requires : (t : ℕ) → fill-lts.Need-join-requires (fill-claims t) (fill-at t) fill.Post
 fill-join-requires t c κs =
     let made = c .before .before .before .before .before .before .before .before .before .before .before in
     let start = made .before .before .before .before .before .before .before .before .before .before .before .before .before .before .before in
-    let room = room-left t made in
-    (star-bounds (met t (made .before .before .before .before .before .before .before)) (made .before .before .before .before .before .field2 .ensures) (made .before .before .before .before .before .before .if2 .left) (start .pre .1) room (made .fill .ensures) (c .before .before .if3 .taken), wide-enough room)
+    let room = room-left t made in (
+      star-bounds (met t (made .before .before .before .before .before .before .before))
+          (made .before .before .before .before .before .field2 .ensures)
+          (made .before .before .before .before .before .before .if2 .left) (start .pre .1) room (made .fill .ensures)
+          (c .before .before .if3 .taken),
+      wide-enough room,
+    )
 
 fill-same-length-7 : (t : ℕ) → fill-lts.Need-same-length-7 (fill-claims t) (fill-at t) fill.Post
 fill-same-length-7 t c = search needs
@@ -120,28 +176,46 @@ fill-returns-3 : (t : ℕ) → fill-lts.Need-returns-3 (fill-claims t) (fill-at 
 fill-returns-3 t c =
     let done = c .before .before .before .before in
     let made = done .before .before .before .before .before .before .before .before .before .before .before .before in
-    visited-star (met t (made .before .before .before .before .before .before .before)) (made .before .before .before .before .before .field2 .ensures) (made .before .before .before .before .before .before .if2 .left) (made .before .before .before .before .before .before .before .before .before .before .before .before .before .before .before .pre .1) (room-left t made) (made .fill .ensures) (done .before .before .before .if3 .taken) (done .join .ensures .0) (done .join .ensures .1 .0) (done .join .ensures .1 .1)
+    visited-star (met t (made .before .before .before .before .before .before .before))
+    (made .before .before .before .before .before .field2 .ensures)
+    (made .before .before .before .before .before .before .if2 .left)
+    (made .before .before .before .before .before .before .before .before .before .before .before .before .before .before .before .pre .1) (room-left t made) (made .fill .ensures) (done .before .before .before .if3 .taken) (done .join .ensures .0) (done .join .ensures .1 .0) (done .join .ensures .1 .1)
 
 fill-field-requires-3 : (t : ℕ) → fill-lts.Need-field-requires-3 (fill-claims t) (fill-at t) fill.Post
-fill-field-requires-3 t c κs = let within = bounds (c .before .before .before .before .before .before .before .before .before .before .before .before .before .before .before .before .before .before .before .before .before .before .before .before .pre .1 .sitting) in omega arith
+fill-field-requires-3 t c κs = let within =
+    bounds (c .before .before .before .before .before .before .before .before .before .before .before .before .before .before .before .before .before .before .before .before .before .before .before .before .pre .1 .sitting) in omega arith
 
 fill-fill-requires-2 : (t : ℕ) → fill-lts.Need-fill-requires-2 (fill-claims t) (fill-at t) fill.Post
 fill-fill-requires-2 t c κs =
     let made = c .before .before .before .before .before .before .before .before .before .before .before .before .before .before in
     let start = made .before .before .before .before .before .before .before .before .before .before .before .before .before .before .before in
-    let ready = right-ready (met t (made .before .before .before .before .before .before .before)) (made .before .before .before .before .before .field2 .ensures) (made .before .before .before .before .before .before .if2 .left) (start .pre .1) (room-left t made) (made .fill .ensures) (c .before .before .before .before .field3 .ensures) (c .before .before .before .before .before .if3 .left) in
+    let ready = right-ready (met t (made .before .before .before .before .before .before .before))
+    (made .before .before .before .before .before .field2 .ensures)
+    (made .before .before .before .before .before .before .if2 .left) (start .pre .1) (room-left t made)
+    (made .fill .ensures) (c .before .before .before .before .field3 .ensures)
+    (c .before .before .before .before .before .if3 .left) in
     (subst (λ (k : ℕ). c .before .before .before .before .field3 .result < k) (start .pre .0) (ready .0), ready .1)
 
 -- and so have those of the second call
-room-right : (t : ℕ) (c : fill-lts.After-fill2 (fill-claims t) (fill-at t) fill.Post) → Room (tables (c .fill2 .last .1 .1 .1 .1 .0) (c .fill2 .last .1 .1 .1 .1 .1 .0) (c .fill2 .last .1 .1 .1 .1 .1 .1 .0) (c .fill2 .last .1 .1 .1 .1 .1 .1 .1 .0))
-room-right t c = room-kept _ _ _ _ (room-left t (c .before .before .before .before .before .before .before .before .before .before .before .before .before .before .before)) (c .fill2 .kept .1 .1 .1 .1 .0) (c .fill2 .kept .1 .1 .1 .1 .1 .0) (c .fill2 .kept .1 .1 .1 .1 .1 .1 .0) (c .fill2 .kept .1 .1 .1 .1 .1 .1 .1 .0)
+room-right : (t : ℕ) (c : fill-lts.After-fill2 (fill-claims t) (fill-at t) fill.Post)
+    → Room (tables (c .fill2 .last .1 .1 .1 .1 .0) (c .fill2 .last .1 .1 .1 .1 .1 .0)
+    (c .fill2 .last .1 .1 .1 .1 .1 .1 .0) (c .fill2 .last .1 .1 .1 .1 .1 .1 .1 .0))
+room-right t c =
+    room-kept _ _ _ _
+    (room-left t
+    (c .before .before .before .before .before .before .before .before .before .before .before .before .before .before .before)) (c .fill2 .kept .1 .1 .1 .1 .0) (c .fill2 .kept .1 .1 .1 .1 .1 .0) (c .fill2 .kept .1 .1 .1 .1 .1 .1 .0) (c .fill2 .kept .1 .1 .1 .1 .1 .1 .1 .0)
 
 fill-join-requires-2 : (t : ℕ) → fill-lts.Need-join-requires-2 (fill-claims t) (fill-at t) fill.Post
 fill-join-requires-2 t c κs =
     let last = c .before .before .before .before .before .before .before .before .before .before in
     let made = last .before .before .before .before .before .before .before .before .before .before .before .before .before .before .before in
-    let room = room-right t last in
-    (two-bounds (met t (made .before .before .before .before .before .before .before)) (made .before .before .before .before .before .field2 .ensures) (made .before .before .before .before .before .before .if2 .left) (made .before .before .before .before .before .before .before .before .before .before .before .before .before .before .before .pre .1) (room-left t made) (made .fill .ensures) (last .before .before .before .before .before .field3 .ensures) (last .before .before .before .before .before .before .if3 .left) room (last .fill2 .ensures), wide-enough room)
+    let room = room-right t last in (
+      two-bounds (met t (made .before .before .before .before .before .before .before))
+          (made .before .before .before .before .before .field2 .ensures)
+          (made .before .before .before .before .before .before .if2 .left)
+          (made .before .before .before .before .before .before .before .before .before .before .before .before .before .before .before .pre .1) (room-left t made) (made .fill .ensures) (last .before .before .before .before .before .field3 .ensures) (last .before .before .before .before .before .before .if3 .left) room (last .fill2 .ensures),
+      wide-enough room,
+    )
 
 fill-same-length-11 : (t : ℕ) → fill-lts.Need-same-length-11 (fill-claims t) (fill-at t) fill.Post
 fill-same-length-11 t c = search needs
@@ -160,7 +234,10 @@ fill-returns-4 t c =
     let done = c .before .before .before .before in
     let last = done .before .before .before .before .before .before .before .before .before .before .before in
     let made = last .before .before .before .before .before .before .before .before .before .before .before .before .before .before .before in
-    visited-two (met t (made .before .before .before .before .before .before .before)) (made .before .before .before .before .before .field2 .ensures) (made .before .before .before .before .before .before .if2 .left) (made .before .before .before .before .before .before .before .before .before .before .before .before .before .before .before .pre .1) (room-left t made) (made .fill .ensures) (last .before .before .before .before .before .field3 .ensures) (last .before .before .before .before .before .before .if3 .left) (room-right t last) (last .fill2 .ensures) (done .join2 .ensures .0) (done .join2 .ensures .1 .0) (done .join2 .ensures .1 .1)
+    visited-two (met t (made .before .before .before .before .before .before .before))
+    (made .before .before .before .before .before .field2 .ensures)
+    (made .before .before .before .before .before .before .if2 .left)
+    (made .before .before .before .before .before .before .before .before .before .before .before .before .before .before .before .pre .1) (room-left t made) (made .fill .ensures) (last .before .before .before .before .before .field3 .ensures) (last .before .before .before .before .before .before .if3 .left) (room-right t last) (last .fill2 .ensures) (done .join2 .ensures .0) (done .join2 .ensures .1 .0) (done .join2 .ensures .1 .1)
 
 pub +fill-spec : {M : Type 1} → statement M
 +fill-spec =

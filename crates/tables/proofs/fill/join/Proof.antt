@@ -79,7 +79,13 @@ same-length-2 : tie.Need-same-length-2
 same-length-2 c = search needs
 
 returns : tie.Need-returns
-returns c = (refl, (cc (c .before .before .start-word .ensures, c .before .left-exit .ensures, c .right-exit .ensures), refl))
+returns c = (
+  refl,
+  (
+    cc (c .before .before .start-word .ensures, c .before .left-exit .ensures, c .right-exit .ensures),
+    refl,
+  ),
+)
 
 pub join-spec : {M : Type 1} → statement M
 join-spec =

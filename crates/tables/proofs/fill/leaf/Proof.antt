@@ -35,7 +35,10 @@ same-length-2 : tie.Need-same-length-2
 same-length-2 c = search needs
 
 returns : tie.Need-returns
-returns c = (refl, (c .before .before .before .before .pair .ensures .0, cc (c .before .before .before .before .pair .ensures .1)))
+returns c = (
+  refl,
+  (c .before .before .before .before .pair .ensures .0, cc (c .before .before .before .before .pair .ensures .1)),
+)
 
 pub leaf-spec : {M : Type 1} → statement M
 leaf-spec =

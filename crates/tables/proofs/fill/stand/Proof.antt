@@ -45,7 +45,11 @@ same-length-4 : tie.Need-same-length-4
 same-length-4 c = search needs
 
 returns : tie.Need-returns
-returns c = (refl, tables-same _ _ (c .before .before .before .before .pair .ensures .0) (c .before .before .before .before .pair .ensures .1))
+returns c = (
+  refl,
+  tables-same _ _ (c .before .before .before .before .pair .ensures .0)
+      (c .before .before .before .before .pair .ensures .1),
+)
 
 pub stand-spec : {M : Type 1} → statement M
 stand-spec =

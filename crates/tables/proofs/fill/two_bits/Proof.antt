@@ -12,7 +12,12 @@ bit-requires-2 : tie.Need-bit-requires-2
 bit-requires-2 c κs = search needs
 
 add-result : tie.Need-add-result
-add-result c = omega (arith, pow-lt {i = c .before .before .args .i} {j = 63} (omega arith), pow-lt {i = c .before .before .args .j} {j = 63} (omega arith))
+add-result c =
+    omega (
+      arith,
+      pow-lt {i = c .before .before .args .i} {j = 63} (omega arith),
+      pow-lt {i = c .before .before .args .j} {j = 63} (omega arith),
+    )
 
 returns : tie.Need-returns
 returns c = search needs

@@ -1,4 +1,5 @@
--- `tables::plan::plan` meets its contract: the pieces are counted, the root is the last record, and all pieces are made. Assumes nothing.
+-- `tables::plan::plan` meets its contract: the pieces are counted, the root is the last record, and all pieces are
+-- made. Assumes nothing.
 use mathlib.Core.Path.{refl}
 use native.Mathlib.Omega.{arith}
 use Rattle.tables.specs.Given.{good-listed, has-records, total-of, making-none, laid}
@@ -13,10 +14,18 @@ count-requires : tie.Need-count-requires
 count-requires c κs = (good-listed (c .before .before .before .before .before .before .before .pre .0), refl)
 
 sub-last : tie.Need-sub-last
-sub-last c = omega (arith, has-records (good-listed (c .before .before .before .before .before .before .before .before .before .pre .0)))
+sub-last c =
+    omega (
+      arith,
+      has-records (good-listed (c .before .before .before .before .before .before .before .before .before .pre .0)),
+    )
 
 array-read-wide : tie.Need-array-read-wide
-array-read-wide c = omega (arith, has-records (good-listed (c .before .before .before .before .before .before .before .before .before .pre .0)))
+array-read-wide c =
+    omega (
+      arith,
+      has-records (good-listed (c .before .before .before .before .before .before .before .before .before .pre .0)),
+    )
 
 wide-requires : tie.Need-wide-requires
 wide-requires c κs = search needs
@@ -25,7 +34,12 @@ add-total : tie.Need-add-total
 add-total c = search needs
 
 cast-roots : tie.Need-cast-roots
-cast-roots c = omega (arith, has-records (good-listed (c .before .before .before .before .before .before .before .before .before .before .pre .0)))
+cast-roots c =
+    omega (
+      arith,
+      has-records (good-listed
+          (c .before .before .before .before .before .before .before .before .before .before .pre .0)),
+    )
 
 array-write-roots : tie.Need-array-write-roots
 array-write-roots c = search needs
@@ -39,8 +53,12 @@ slice-aggregate-pieces-2 c = search needs
 pieces-requires : tie.Need-pieces-requires
 pieces-requires c κs =
     let start = c .before .before .before .before .before .before .before .before .before .before .before .before .before .before .before .before .before in
-    let counted = c .before .before .before .before .before .before .before .before .before .count .ensures in
-    (making-none (good-listed (start .pre .0)) counted (c .before .before .before .before .before .before .before .before .before .count .kept .1 .0) (start .pre .1) refl refl, total-of counted (c .before .before .before .before .before .before .before .wide .ensures .0) refl)
+    let counted = c .before .before .before .before .before .before .before .before .before .count .ensures in (
+      making-none (good-listed (start .pre .0)) counted
+          (c .before .before .before .before .before .before .before .before .before .count .kept .1 .0) (start .pre .1)
+          refl refl,
+      total-of counted (c .before .before .before .before .before .before .before .wide .ensures .0) refl,
+    )
 
 same-length : tie.Need-same-length
 same-length c = search needs
@@ -58,7 +76,9 @@ same-length-5 : tie.Need-same-length-5
 same-length-5 c = search needs
 
 returns : tie.Need-returns
-returns c = laid (c .before .before .before .before .before .before .before .before .before .before .before .pieces .ensures) (total-of (c .before .before .before .before .before .before .before .before .before .before .before .before .before .before .before .before .before .before .before .before .before .count .ensures) (c .before .before .before .before .before .before .before .before .before .before .before .before .before .before .before .before .before .before .before .wide .ensures .0) refl)
+returns c = laid
+    (c .before .before .before .before .before .before .before .before .before .before .before .pieces .ensures)
+    (total-of (c .before .before .before .before .before .before .before .before .before .before .before .before .before .before .before .before .before .before .before .before .before .count .ensures) (c .before .before .before .before .before .before .before .before .before .before .before .before .before .before .before .before .before .before .before .wide .ensures .0) refl)
 
 pub plan-spec : {M : Type 1} → statement M
 plan-spec =

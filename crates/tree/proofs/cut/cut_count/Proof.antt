@@ -1,4 +1,5 @@
--- `tree::cut::cut_count` meets its contract: the sum is that of `cut-sum`, and small, since an edge counts for at most 1.
+-- `tree::cut::cut_count` meets its contract: the sum is that of `cut-sum`, and small, since an edge counts for at most
+-- 1.
 -- Assumes nothing.
 use native.Mathlib.Omega.{arith}
 use Rattle.tree.specs.Gathered.{one-le}
@@ -25,7 +26,8 @@ add-result-2 : tie.Need-add-result-2
 add-result-2 c = omega (arith, one-le (c .before .right-cut .result))
 
 add-result-3 : tie.Need-add-result-3
-add-result-3 c = omega (arith, one-le (c .before .right-cut .result), one-le (c .before .before .before .left-cut .result))
+add-result-3 c =
+    omega (arith, one-le (c .before .right-cut .result), one-le (c .before .before .before .left-cut .result))
 
 returns : tie.Need-returns
 returns c = cc

@@ -1,4 +1,5 @@
--- `tree::cut::open_size` meets its contract: the sum is that of `open-sum`, and small, since a child adds at most its own open size.
+-- `tree::cut::open_size` meets its contract: the sum is that of `open-sum`, and small, since a child adds at most its
+-- own open size.
 -- Assumes nothing.
 use native.Mathlib.Omega.{arith}
 use Rattle.tree.specs.Gathered.{kept-le}
@@ -22,7 +23,11 @@ kept-size-requires-2 : tie.Need-kept-size-requires-2
 kept-size-requires-2 c κs = search needs
 
 add-result-2 : tie.Need-add-result-2
-add-result-2 c = omega (arith, kept-le (c .before .right-cut .result) (c .before .before .before .before .args .r), kept-le (c .before .before .before .left-cut .result) (c .before .before .before .before .args .l))
+add-result-2 c = omega (
+  arith,
+  kept-le (c .before .right-cut .result) (c .before .before .before .before .args .r),
+  kept-le (c .before .before .before .left-cut .result) (c .before .before .before .before .args .l),
+)
 
 returns : tie.Need-returns
 returns c = cc

@@ -1,4 +1,5 @@
--- `tree::good::begins` meets its contract. The loop's invariant: the slices agree at every place below `i`. The measure is what is left of them.
+-- `tree::good::begins` meets its contract. The loop's invariant: the slices agree at every place below `i`. The measure
+-- is what is left of them.
 -- Assumes nothing.
 use Prim.Native.Nat.{ℕ, _≤_, _<_, _-_}
 use mathlib.Core.Path.{_≡_}
@@ -40,8 +41,11 @@ loop-less c = omega arith
 loop-again : tie.Need-loop-again Inv-loop μ-loop
 loop-again c =
     let l = c .before .before .before .before in
-    let s = l .before in
-    (omega arith, below-more (λ (k : ℕ). getD (s .args .list .now) k 0 ≡ getD (s .args .own .now) k 0) (l .loop .i) (l .loop .inv .1) (c .if1 .left))
+    let s = l .before in (
+      omega arith,
+      below-more (λ (k : ℕ). getD (s .args .list .now) k 0 ≡ getD (s .args .own .now) k 0) (l .loop .i)
+          (l .loop .inv .1) (c .if1 .left),
+    )
 
 returns-2 : tie.Need-returns-2 Inv-loop μ-loop
 returns-2 c =

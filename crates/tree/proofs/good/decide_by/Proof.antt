@@ -13,7 +13,8 @@ one-tree-requires c κs = search needs
 returns : tie.Need-returns
 returns c =
     let s = c .before .before .before .before .before in
-    not-by-labels (s .args .list .now) (s .args .labels .now) (s .pre .1 .0) (c .before .one-tree .ensures .if-not (not-true (c .before .one-tree .result) (c .if1 .taken)))
+    not-by-labels (s .args .list .now) (s .args .labels .now) (s .pre .1 .0)
+    (c .before .one-tree .ensures .if-not (not-true (c .before .one-tree .result) (c .if1 .taken)))
 
 piece-count-requires : tie.Need-piece-count-requires
 piece-count-requires c κs =
@@ -24,12 +25,15 @@ returns-2 : tie.Need-returns-2
 returns-2 c =
     let p = c .before in
     let s = p .before .before .before .before .before .before in
-    not-by-pieces (s .args .list .now) (s .args .labels .now) (p .piece-count .result) (s .pre .1 .0) (p .piece-count .ensures) (c .if2 .taken)
+    not-by-pieces (s .args .list .now) (s .args .labels .now) (p .piece-count .result) (s .pre .1 .0)
+    (p .piece-count .ensures) (c .if2 .taken)
 
 write-records-requires : tie.Need-write-records-requires
 write-records-requires c κs =
-    let e = c .before .before .before in
-    (e .before .one-tree .ensures .if-so (not-false (e .before .one-tree .result) (e .if1 .left)), (omega arith, omega arith))
+    let e = c .before .before .before in (
+      e .before .one-tree .ensures .if-so (not-false (e .before .one-tree .result) (e .if1 .left)),
+      (omega arith, omega arith),
+    )
 
 begins-requires : tie.Need-begins-requires
 begins-requires c κs = search needs
@@ -44,8 +48,10 @@ returns-3 c =
     let p = w .before .before .before in
     let e = p .before in
     let s = e .before .before .before .before .before in
-    good-by-bytes (s .args .list .now) (s .args .labels .now) (s .args .own .now) (w .write-records .last .1 .0) (p .piece-count .result)
-    (e .before .one-tree .ensures .if-so (not-false (e .before .one-tree .result) (e .if1 .left))) (s .pre .0 .1) (w .write-records .ensures) (p .piece-count .ensures) (w .before .before .if2 .left)
+    good-by-bytes (s .args .list .now) (s .args .labels .now) (s .args .own .now) (w .write-records .last .1 .0)
+    (p .piece-count .result)
+    (e .before .one-tree .ensures .if-so (not-false (e .before .one-tree .result) (e .if1 .left))) (s .pre .0 .1)
+    (w .write-records .ensures) (p .piece-count .ensures) (w .before .before .if2 .left)
     (b .begins .ensures .if-so (c .if3 .taken))
 
 same-length-2 : tie.Need-same-length-2
@@ -56,7 +62,8 @@ returns-4 c =
     let b = c .before in
     let w = b .before .before .before .before in
     let s = w .before .before .before .before .before .before .before .before .before in
-    not-by-bytes (s .args .list .now) (s .args .labels .now) (s .args .own .now) (w .write-records .last .1 .0) (s .pre .1 .0) (s .pre .0 .1) (w .write-records .ensures)
+    not-by-bytes (s .args .list .now) (s .args .labels .now) (s .args .own .now) (w .write-records .last .1 .0)
+    (s .pre .1 .0) (s .pre .0 .1) (w .write-records .ensures)
     (b .begins .ensures .if-not (c .if3 .left))
 
 pub decide-by-spec : {M : Type 1} → statement M

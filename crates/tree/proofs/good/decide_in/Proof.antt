@@ -1,4 +1,5 @@
--- `tree::good::decide_in` meets its contract: the front of the lent labels holds those of the list, and what is decided by them is decided.
+-- `tree::good::decide_in` meets its contract: the front of the lent labels holds those of the list, and what is decided
+-- by them is decided.
 -- Assumes nothing.
 use Prim.Native.Nat.{_/_}
 use mathlib.Core.Path.{sym}
@@ -31,7 +32,8 @@ front : (c : tie.After-take-labels)
     Front (s .args .list .now) (take n (c .take-labels .last .1 .0 ++ drop n (s .args .labels .now)))
 front c =
     let s = c .before .before .before .before .before in
-    front-labels (s .args .list .now) (s .args .labels .now) (c .take-labels .last .1 .0) (s .pre .0 .0) (omega arith) (c .take-labels .kept .1 .0) (c .take-labels .ensures)
+    front-labels (s .args .list .now) (s .args .labels .now) (c .take-labels .last .1 .0) (s .pre .0 .0) (omega arith)
+    (c .take-labels .kept .1 .0) (c .take-labels .ensures)
 
 slice-reshare-prefix-decide-by : tie.Need-slice-reshare-prefix-decide-by
 slice-reshare-prefix-decide-by c = search needs

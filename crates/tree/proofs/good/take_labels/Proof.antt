@@ -1,4 +1,5 @@
--- `tree::good::take_labels` meets its contract. The loop's invariant: the first `i` labels are those of the first `i` records. The measure is
+-- `tree::good::take_labels` meets its contract. The loop's invariant: the first `i` labels are those of the first `i`
+-- records. The measure is
 -- what is left of the labels.
 -- Assumes nothing.
 use Prim.Native.Nat.{ℕ, _*_, _≤_, _-_}
@@ -15,7 +16,8 @@ use Rattle.tree.proofs.good.take_labels.Lts as lts
 use Rattle.tree.proofs.good.label_from.Reads as label-from-reads
 
 abbrev Inv-loop : tie.InvT-loop
-Inv-loop list labels₀ i₀ labels i = (i ≤ length labels) × (length labels ≡ length labels₀) × (take i labels ≡ labels-of-bytes (take (8 * i) list))
+Inv-loop list labels₀ i₀ labels i = (i ≤ length labels) × (length labels ≡ length labels₀)
+    × (take i labels ≡ labels-of-bytes (take (8 * i) list))
 
 abbrev μ-loop : tie.MeasureT-loop
 μ-loop list labels₀ i₀ labels i = length labels - i
@@ -56,7 +58,8 @@ loop-again c =
     let s = l .before .before .before in (
       simp length-set (omega arith),
       simp length-set (l .loop .inv .1),
-      taken-more (s .args .list .now) (l .loop .labels) (l .loop .i) (c .label-from .result) (omega arith) (omega arith) (l .loop .inv .2) (c .label-from .ensures),
+      taken-more (s .args .list .now) (l .loop .labels) (l .loop .i) (c .label-from .result) (omega arith) (omega arith)
+          (l .loop .inv .2) (c .label-from .ensures),
     )
 
 same-length : tie.Need-same-length Inv-loop μ-loop
@@ -68,7 +71,8 @@ returns c =
     let s = l .before .before .before in
     let all : l .loop .i ≡ length (s .args .labels .now) = omega arith in
     let long : length (s .args .labels .now) ≡ length (l .loop .labels) = omega arith in
-    sym (take-length (l .loop .labels)) ∙ ap (λ (n : ℕ). take n (l .loop .labels)) (sym long) ∙ rw all at (l .loop .inv .2)
+    sym (take-length (l .loop .labels)) ∙ ap (λ (n : ℕ). take n (l .loop .labels)) (sym long)
+    ∙ rw all at (l .loop .inv .2)
 
 pub take-labels-spec : {M : Type 1} → statement M
 take-labels-spec =

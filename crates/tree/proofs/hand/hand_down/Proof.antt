@@ -1,5 +1,7 @@
--- `tree::hand::hand_down` meets its contract. The loop's invariant: the records from `i` on have handed their numbers to their children.
--- A turn hands on those of record `i - 1`, which its own slot holds; that a tree has these labels bounds them all. The measure is `i`.
+-- `tree::hand::hand_down` meets its contract. The loop's invariant: the records from `i` on have handed their numbers
+-- to their children.
+-- A turn hands on those of record `i - 1`, which its own slot holds; that a tree has these labels bounds them all. The
+-- measure is `i`.
 -- Assumes nothing.
 use Prim.Native.Nat.{_≤_, _-_}
 use mathlib.Core.Path.{_≡_, ap}
@@ -20,7 +22,8 @@ use Rattle.tree.proofs.slots.left_of.Reads as left-of-reads
 use Rattle.tree.proofs.slots.right_of.Reads as right-of-reads
 
 abbrev Inv-loop : tie.InvT-loop
-Inv-loop labels sizes opens cuts pieces₀ news₀ i₀ pieces news i = (i ≤ length labels) × (length pieces ≡ 2048) × (length news ≡ 2048) × Handed labels pieces news i
+Inv-loop labels sizes opens cuts pieces₀ news₀ i₀ pieces news i = (i ≤ length labels) × (length pieces ≡ 2048)
+    × (length news ≡ 2048) × Handed labels pieces news i
 
 abbrev μ-loop : tie.MeasureT-loop
 μ-loop labels sizes opens cuts pieces₀ news₀ i₀ pieces news i = i
@@ -87,8 +90,10 @@ left-of-requires c κs =
     let l = r .before .before .before .before .before in
     let s = start l in
     let ls = s .args .labels .now in
-    let less = measured-less ls (s .args .sizes .now) (s .args .opens .now) (s .args .cuts .now) (l .loop .i - 1) (length ls) (omega arith) (s .pre .1 .1 .1 .0) in
-    right-size-le ls (s .pre .0 .tree) (l .loop .i - 1) (r .right-of .result) (s .args .sizes .now) (s .pre .0 .same) (omega arith)
+    let less = measured-less ls (s .args .sizes .now) (s .args .opens .now) (s .args .cuts .now) (l .loop .i - 1)
+    (length ls) (omega arith) (s .pre .1 .1 .1 .0) in
+    right-size-le ls (s .pre .0 .tree) (l .loop .i - 1) (r .right-of .result) (s .args .sizes .now) (s .pre .0 .same)
+    (omega arith)
     (less .sized (s .pre .0 .tree) (s .pre .0 .same)) (r .right-of .ensures .0)
 
 -- the children's open sizes and the right child's first new piece are small
@@ -102,8 +107,10 @@ small c =
     let r = c .before .before in
     let l = r .before .before .before .before .before in
     let s = start l in
-    turn-small (s .args .labels .now) (l .loop .i - 1) (l .loop .i) (c .left-of .result) (r .right-of .result) (s .args .sizes .now) (s .args .opens .now) (s .args .cuts .now)
-    (l .loop .pieces) (l .loop .news) (omega arith) (omega arith) (s .pre .1 .1 .1 .0) (l .loop .inv .3) (r .right-of .ensures .0) (c .left-of .ensures .0) (s .pre .0) (s .pre .1 .0)
+    turn-small (s .args .labels .now) (l .loop .i - 1) (l .loop .i) (c .left-of .result) (r .right-of .result)
+    (s .args .sizes .now) (s .args .opens .now) (s .args .cuts .now)
+    (l .loop .pieces) (l .loop .news) (omega arith) (omega arith) (s .pre .1 .1 .1 .0) (l .loop .inv .3)
+    (r .right-of .ensures .0) (c .left-of .ensures .0) (s .pre .0) (s .pre .1 .0)
 
 mul-left-open : tie.Need-mul-left-open Inv-loop μ-loop
 mul-left-open c = omega arith
@@ -133,10 +140,20 @@ shared-slice-read-past-left : tie.Need-shared-slice-read-past-left Inv-loop μ-l
 shared-slice-read-past-left c = omega arith
 
 add-past-left : tie.Need-add-past-left Inv-loop μ-loop
-add-past-left c = omega (arith, small (c .before .before .before .before .before .before) .all-new, ap one (c .before .before .before .left-cut .ensures), ap one (c .before .before .right-cut .ensures))
+add-past-left c = omega (
+  arith,
+  small (c .before .before .before .before .before .before) .all-new,
+  ap one (c .before .before .before .left-cut .ensures),
+  ap one (c .before .before .right-cut .ensures),
+)
 
 add-past-left-2 : tie.Need-add-past-left-2 Inv-loop μ-loop
-add-past-left-2 c = omega (arith, small (c .before .before .before .before .before .before) .all-new, ap one (c .before .before .before .left-cut .ensures), ap one (c .before .before .right-cut .ensures))
+add-past-left-2 c = omega (
+  arith,
+  small (c .before .before .before .before .before .before) .all-new,
+  ap one (c .before .before .before .left-cut .ensures),
+  ap one (c .before .before .right-cut .ensures),
+)
 
 piece-below-requires : tie.Need-piece-below-requires Inv-loop μ-loop
 piece-below-requires c κs = tt
@@ -160,7 +177,12 @@ one-if-requires-2 : tie.Need-one-if-requires-2 Inv-loop μ-loop
 one-if-requires-2 c κs = tt
 
 add-news : tie.Need-add-news Inv-loop μ-loop
-add-news c = omega (arith, small (c .before .before .before .before .before .before .before .before .before) .all-new, ap one (c .before .before .before .before .before .before .left-cut .ensures), ap one (c .before .before .before .before .before .right-cut .ensures))
+add-news c = omega (
+  arith,
+  small (c .before .before .before .before .before .before .before .before .before) .all-new,
+  ap one (c .before .before .before .before .before .before .left-cut .ensures),
+  ap one (c .before .before .before .before .before .right-cut .ensures),
+)
 
 mul-news-2 : tie.Need-mul-news-2 Inv-loop μ-loop
 mul-news-2 c = omega arith
@@ -172,7 +194,13 @@ one-if-requires-3 : tie.Need-one-if-requires-3 Inv-loop μ-loop
 one-if-requires-3 c κs = tt
 
 add-news-2 : tie.Need-add-news-2 Inv-loop μ-loop
-add-news-2 c = omega (arith, small (c .before .before .before .before .before .before .before .before .before .before) .all-new, ap one (c .before .before .before .before .before .before .before .left-cut .ensures), ap one (c .before .before .before .before .before .before .right-cut .ensures))
+add-news-2 c =
+    omega (
+      arith,
+      small (c .before .before .before .before .before .before .before .before .before .before) .all-new,
+      ap one (c .before .before .before .before .before .before .before .left-cut .ensures),
+      ap one (c .before .before .before .before .before .before .right-cut .ensures),
+    )
 
 mul-news-3 : tie.Need-mul-news-3 Inv-loop μ-loop
 mul-news-3 c = omega arith
@@ -193,12 +221,17 @@ loop-again c =
       omega arith,
       simp length-set (l .loop .inv .1),
       simp length-set (l .loop .inv .2),
-      turn-stored (s .args .labels .now) (l .loop .i - 1) (l .loop .i) (f .left-of .result) (r .right-of .result) (s .args .sizes .now) (s .args .opens .now) (s .args .cuts .now)
-          (l .loop .pieces) (l .loop .news) (omega arith) (omega arith) (s .pre .1 .1 .1 .0) (l .loop .inv .3) (r .right-of .ensures .0) (f .left-of .ensures .0)
-          (m .before .left-cut .result) (m .right-cut .result) (c .before .before .before .piece-below .result) (c .before .before .piece-below2 .result)
+      turn-stored (s .args .labels .now) (l .loop .i - 1) (l .loop .i) (f .left-of .result) (r .right-of .result)
+          (s .args .sizes .now) (s .args .opens .now) (s .args .cuts .now)
+          (l .loop .pieces) (l .loop .news) (omega arith) (omega arith) (s .pre .1 .1 .1 .0) (l .loop .inv .3)
+          (r .right-of .ensures .0) (f .left-of .ensures .0)
+          (m .before .left-cut .result) (m .right-cut .result) (c .before .before .before .piece-below .result)
+          (c .before .before .piece-below2 .result)
           (c .before .before .before .before .before .one-if .result) (c .before .one-if2 .result) (c .one-if3 .result)
-          (omega arith) (omega arith) (f .left-of .ensures .1) (r .right-of .ensures .1) (m .before .left-cut .ensures) (m .right-cut .ensures)
-          (c .before .before .before .before .before .one-if .ensures) (c .before .one-if2 .ensures) (c .one-if3 .ensures)
+          (omega arith) (omega arith) (f .left-of .ensures .1) (r .right-of .ensures .1) (m .before .left-cut .ensures)
+          (m .right-cut .ensures)
+          (c .before .before .before .before .before .one-if .ensures) (c .before .one-if2 .ensures)
+          (c .one-if3 .ensures)
           (c .before .before .before .piece-below .ensures) (c .before .before .piece-below2 .ensures),
     )
 

@@ -1,5 +1,7 @@
--- `tree::measure::measure` meets its contract. The loop's invariant: the records below `i` are measured. A turn reads the children's
--- slots, which the invariant speaks of, and the laws of the specs gather the record's own numbers from theirs; that a tree has these
+-- `tree::measure::measure` meets its contract. The loop's invariant: the records below `i` are measured. A turn reads
+-- the children's
+-- slots, which the invariant speaks of, and the laws of the specs gather the record's own numbers from theirs; that a
+-- tree has these
 -- labels bounds them all. The measure is what is left of the labels.
 -- Assumes nothing.
 use Prim.Native.Nat.{ℕ, _+_, _≤_, _-_}
@@ -7,8 +9,19 @@ use mathlib.Core.Path.{_≡_, _∙_}
 use native.Mathlib.Omega.{arith}
 use lib.ListN.{length, getD}
 use Rattle.language.specs.Tree.{Tree}
+use Rattle.tree.specs.Leaf.{Leaf}
 use Rattle.tree.specs.Records.{labels}
-use Rattle.tree.specs.Measured.{Room, Measured, Gathered, gathered, children, right-size-le, room-stays, measured-none, measured-more}
+use Rattle.tree.specs.Measured.{
+  Room,
+  Measured,
+  Gathered,
+  gathered,
+  children,
+  right-size-le,
+  room-stays,
+  measured-none,
+  measured-more,
+}
 use Rattle.tree.proofs.measure.measure.Statement.{statement}
 use Rattle.tree.proofs.measure.measure.Tie as tie
 use Rattle.tree.proofs.measure.measure.Reads as reads
@@ -19,7 +32,8 @@ use Rattle.tree.proofs.slots.left_of.Reads as left-of-reads
 use Rattle.tree.proofs.slots.right_of.Reads as right-of-reads
 
 abbrev Inv-loop : tie.InvT-loop
-Inv-loop labels sizes₀ opens₀ cuts₀ i₀ sizes opens cuts i = (i ≤ length labels) × Room sizes opens cuts × Measured labels sizes opens cuts i
+Inv-loop labels sizes₀ opens₀ cuts₀ i₀ sizes opens cuts i = (i ≤ length labels) × Room sizes opens cuts
+    × Measured labels sizes opens cuts i
 
 abbrev μ-loop : tie.MeasureT-loop
 μ-loop labels sizes₀ opens₀ cuts₀ i₀ sizes opens cuts i = length labels - i
@@ -66,22 +80,27 @@ left-of-requires c κs =
     let r = c .before in
     let l = r .before .before .before in
     let s = start l in
-    right-size-le (s .args .labels .now) (s .pre .0 .tree) (l .loop .i) (r .right-of .result) (l .loop .sizes) (s .pre .0 .same)
-    (r .before .before .loop-test .taken) (l .loop .inv .2 .sized (s .pre .0 .tree) (s .pre .0 .same)) (r .right-of .ensures .0)
+    right-size-le (s .args .labels .now) (s .pre .0 .tree) (l .loop .i) (r .right-of .result) (l .loop .sizes)
+    (s .pre .0 .same)
+    (r .before .before .loop-test .taken) (l .loop .inv .2 .sized (s .pre .0 .tree) (s .pre .0 .same))
+    (r .right-of .ensures .0)
 
 -- what is gathered once both slots are known, for every tree with these labels
-found : (c : tie.After-left-of Inv-loop μ-loop) (t : Tree ℕ) → (start (c .before .before .before .before .before) .args .labels .now) ≡ labels t
+found : (c : tie.After-left-of Inv-loop μ-loop) (t : Tree Leaf)
+    → (start (c .before .before .before .before .before) .args .labels .now) ≡ labels t
     → let l = c .before .before .before .before .before in
     let left = c .left-of .result in
     let right = c .before .before .right-of .result in
-    Gathered t (l .loop .i) (getD (l .loop .sizes) left 0 + getD (l .loop .sizes) right 0 + 1) (getD (l .loop .opens) left 0) (getD (l .loop .opens) right 0)
+    Gathered t (l .loop .i) (getD (l .loop .sizes) left 0 + getD (l .loop .sizes) right 0 + 1)
+    (getD (l .loop .opens) left 0) (getD (l .loop .opens) right 0)
     (getD (l .loop .cuts) left 0) (getD (l .loop .cuts) right 0)
 found c t e =
     let r = c .before .before in
     let l = r .before .before .before in
     let s = start l in
     gathered t (l .loop .i) (c .left-of .result) (r .right-of .result) (l .loop .sizes) (l .loop .opens) (l .loop .cuts)
-    (children (s .args .labels .now) t (l .loop .i) (c .left-of .result) (r .right-of .result) (l .loop .sizes) (l .loop .opens) (l .loop .cuts) e
+    (children (s .args .labels .now) t (l .loop .i) (c .left-of .result) (r .right-of .result) (l .loop .sizes)
+    (l .loop .opens) (l .loop .cuts) e
     (r .before .before .loop-test .taken) (l .loop .inv .2) (r .right-of .ensures .0) (c .left-of .ensures .0))
 
 mul-size : tie.Need-mul-size Inv-loop μ-loop
@@ -91,10 +110,20 @@ slice-read-size : tie.Need-slice-read-size Inv-loop μ-loop
 slice-read-size c = omega arith
 
 add-size : tie.Need-add-size Inv-loop μ-loop
-add-size c = omega (arith, found (c .before) (start (c .before .before .before .before .before .before) .pre .0 .tree) (start (c .before .before .before .before .before .before) .pre .0 .same))
+add-size c =
+    omega (
+      arith,
+      found (c .before) (start (c .before .before .before .before .before .before) .pre .0 .tree)
+          (start (c .before .before .before .before .before .before) .pre .0 .same),
+    )
 
 add-size-2 : tie.Need-add-size-2 Inv-loop μ-loop
-add-size-2 c = omega (arith, found (c .before) (start (c .before .before .before .before .before .before) .pre .0 .tree) (start (c .before .before .before .before .before .before) .pre .0 .same))
+add-size-2 c =
+    omega (
+      arith,
+      found (c .before) (start (c .before .before .before .before .before .before) .pre .0 .tree)
+          (start (c .before .before .before .before .before .before) .pre .0 .same),
+    )
 
 mul-left-open : tie.Need-mul-left-open Inv-loop μ-loop
 mul-left-open c = omega arith
@@ -109,7 +138,11 @@ slice-read-right-open : tie.Need-slice-read-right-open Inv-loop μ-loop
 slice-read-right-open c = omega arith
 
 open-size-requires : tie.Need-open-size-requires Inv-loop μ-loop
-open-size-requires c κs = let g = found (c .before .before .before) (start (c .before .before .before .before .before .before .before .before) .pre .0 .tree) (start (c .before .before .before .before .before .before .before .before) .pre .0 .same) in (g .left-le, g .right-le)
+open-size-requires c κs = let g =
+    found (c .before .before .before)
+    (start (c .before .before .before .before .before .before .before .before) .pre .0 .tree)
+    (start (c .before .before .before .before .before .before .before .before) .pre .0 .same) in
+    (g .left-le, g .right-le)
 
 mul-cut-count : tie.Need-mul-cut-count Inv-loop μ-loop
 mul-cut-count c = omega arith
@@ -124,7 +157,11 @@ slice-read-cut-count-2 : tie.Need-slice-read-cut-count-2 Inv-loop μ-loop
 slice-read-cut-count-2 c = omega arith
 
 cut-count-requires : tie.Need-cut-count-requires Inv-loop μ-loop
-cut-count-requires c κs = let g = found (c .before .before .before .before .before .before) (start (c .before .before .before .before .before .before .before .before .before .before .before) .pre .0 .tree) (start (c .before .before .before .before .before .before .before .before .before .before .before) .pre .0 .same) in ((g .left-le, g .right-le), omega (arith, g .cuts-le))
+cut-count-requires c κs = let g =
+    found (c .before .before .before .before .before .before)
+    (start (c .before .before .before .before .before .before .before .before .before .before .before) .pre .0 .tree)
+    (start (c .before .before .before .before .before .before .before .before .before .before .before) .pre .0 .same) in
+    ((g .left-le, g .right-le), omega (arith, g .cuts-le))
 
 add-i : tie.Need-add-i Inv-loop μ-loop
 add-i c = omega arith
@@ -157,9 +194,14 @@ loop-again c =
     let s = start l in (
       omega arith,
       room-stays (l .loop .sizes) (l .loop .opens) (l .loop .cuts) (l .loop .i + 1) _ _ _ (l .loop .inv .1),
-      measured-more (s .args .labels .now) (l .loop .i) _ (c .before .before .before .open-size .result) (c .cut-count .result) (l .loop .sizes) (l .loop .opens) (l .loop .cuts)
+      measured-more (s .args .labels .now) (l .loop .i) _ (c .before .before .before .open-size .result)
+          (c .cut-count .result) (l .loop .sizes) (l .loop .opens) (l .loop .cuts)
           (f .before .before .before .before .loop-test .taken) (s .pre .1 .0) (l .loop .inv .1) (l .loop .inv .2)
-          (λ t e. (found f t e .size-is, c .before .before .before .open-size .ensures ∙ found f t e .open-is, c .cut-count .ensures ∙ found f t e .cuts-is)),
+          (λ t e. (
+            found f t e .size-is,
+            c .before .before .before .open-size .ensures ∙ found f t e .open-is,
+            c .cut-count .ensures ∙ found f t e .cuts-is,
+          )),
     )
 
 same-length : tie.Need-same-length Inv-loop μ-loop

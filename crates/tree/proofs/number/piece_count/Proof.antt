@@ -1,4 +1,5 @@
--- `tree::number::piece_count` meets its contract: the root's slot holds the cut edges of the whole tree, fewer than there are labels.
+-- `tree::number::piece_count` meets its contract: the root's slot holds the cut edges of the whole tree, fewer than
+-- there are labels.
 -- Assumes nothing.
 use native.Mathlib.Omega.{arith}
 use Rattle.tree.specs.Measured.{counted-all, root-cuts-lt}
@@ -25,13 +26,26 @@ array-read-result : tie.Need-array-read-result
 array-read-result c = search needs
 
 cast-result : tie.Need-cast-result
-cast-result c = let s = c .before .before .before .before .before .before .before .before in omega (arith, root-cuts-lt (s .args .labels .now) (c .before .before .before .measure .last .1 .0) (c .before .before .before .measure .last .1 .1 .0) (c .before .before .before .measure .last .1 .1 .1 .0) (s .pre .0) (c .before .before .before .measure .ensures))
+cast-result c = let s = c .before .before .before .before .before .before .before .before in omega (
+  arith,
+  root-cuts-lt (s .args .labels .now) (c .before .before .before .measure .last .1 .0)
+      (c .before .before .before .measure .last .1 .1 .0) (c .before .before .before .measure .last .1 .1 .1 .0)
+      (s .pre .0) (c .before .before .before .measure .ensures),
+)
 
 add-result : tie.Need-add-result
-add-result c = let s = c .before .before .before .before .before .before .before .before in omega (arith, root-cuts-lt (s .args .labels .now) (c .before .before .before .measure .last .1 .0) (c .before .before .before .measure .last .1 .1 .0) (c .before .before .before .measure .last .1 .1 .1 .0) (s .pre .0) (c .before .before .before .measure .ensures))
+add-result c = let s = c .before .before .before .before .before .before .before .before in omega (
+  arith,
+  root-cuts-lt (s .args .labels .now) (c .before .before .before .measure .last .1 .0)
+      (c .before .before .before .measure .last .1 .1 .0) (c .before .before .before .measure .last .1 .1 .1 .0)
+      (s .pre .0) (c .before .before .before .measure .ensures),
+)
 
 returns : tie.Need-returns
-returns c = let s = c .before .before .before .before .before .before .before .before in counted-all (s .args .labels .now) (c .before .before .before .measure .last .1 .0) (c .before .before .before .measure .last .1 .1 .0) (c .before .before .before .measure .last .1 .1 .1 .0) (c .before .before .before .measure .ensures)
+returns c = let s = c .before .before .before .before .before .before .before .before in counted-all
+    (s .args .labels .now) (c .before .before .before .measure .last .1 .0)
+    (c .before .before .before .measure .last .1 .1 .0) (c .before .before .before .measure .last .1 .1 .1 .0)
+    (c .before .before .before .measure .ensures)
 
 pub piece-count-spec : {M : Type 1} → statement M
 piece-count-spec =

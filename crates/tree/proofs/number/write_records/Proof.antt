@@ -34,8 +34,21 @@ slice-aggregate-hand-down-5 c = search needs
 hand-down-requires : tie.Need-hand-down-requires
 hand-down-requires c κs =
     let m = c .before .before .before .before .before .before .before .before in
-    let s = m .before .before .before .before .before .before in
-    (s .pre .0, (s .pre .1 .0, (record { for-sizes = m .measure .kept .1 .0; for-opens = m .measure .kept .1 .1 .0; for-cuts = m .measure .kept .1 .1 .1 .0 }, (m .measure .ensures, (search needs, search needs)))))
+    let s = m .before .before .before .before .before .before in (
+      s .pre .0,
+      (
+        s .pre .1 .0,
+        (
+          record {
+            for-sizes = m .measure .kept .1 .0;
+            for-opens = m .measure .kept .1 .1 .0;
+            for-cuts =
+                m .measure .kept .1 .1 .1 .0;
+          },
+          (m .measure .ensures, (search needs, search needs)),
+        ),
+      ),
+    )
 
 slice-aggregate-write-all : tie.Need-slice-aggregate-write-all
 slice-aggregate-write-all c = search needs
@@ -49,7 +62,13 @@ write-all-requires c κs =
     let m = h .before .before .before .before .before .before .before .before .before in
     let s = m .before .before .before .before .before .before in (
       s .pre .0,
-      (s .pre .1 .0, ((m .measure .kept .1 .0, h .hand-down .kept .1 .1 .1 .1 .0), ((record { sized = m .measure .ensures .sized }, h .hand-down .ensures), s .pre .1 .1))),
+      (
+        s .pre .1 .0,
+        (
+          (m .measure .kept .1 .0, h .hand-down .kept .1 .1 .1 .1 .0),
+          ((record { sized = m .measure .ensures .sized }, h .hand-down .ensures), s .pre .1 .1),
+        ),
+      ),
     )
 
 same-length : tie.Need-same-length

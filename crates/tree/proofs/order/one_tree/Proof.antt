@@ -1,4 +1,5 @@
--- `tree::order::one_tree` meets its contract. The loop's invariant: the machine that reads a tree from its labels has read the first `i`, and
+-- `tree::order::one_tree` meets its contract. The loop's invariant: the machine that reads a tree from its labels has
+-- read the first `i`, and
 -- its stack is `depth` deep. The measure is what is left of the labels.
 -- Assumes nothing.
 use Prim.Native.Nat.{ℕ, _≤_, _<_, _-_}
@@ -39,7 +40,8 @@ returns : tie.Need-returns Inv-loop μ-loop
 returns c =
     let d = c .before in
     let l = d .before .before .before in
-    stuck-tree (l .before .before .args .labels .now) (l .loop .i) (l .loop .depth) (d .before .before .loop-test .taken) (l .loop .inv .2) (sym (d .depth-with .ensures) ∙ c .if1 .taken)
+    stuck-tree (l .before .before .args .labels .now) (l .loop .i) (l .loop .depth)
+    (d .before .before .loop-test .taken) (l .loop .inv .2) (sym (d .depth-with .ensures) ∙ c .if1 .taken)
 
 add-i : tie.Need-add-i Inv-loop μ-loop
 add-i c = omega arith
@@ -55,7 +57,8 @@ loop-again c =
     let e = d .depth-with .ensures in (
       omega arith,
       omega (arith, depth-grows (asked (getD ls (l .loop .i) 0)) (l .loop .depth)),
-      rw e (reads-more ls (l .loop .i) (l .loop .depth) (d .before .before .loop-test .taken) (l .loop .inv .2) (rw (← e) (positive (d .depth-with .result) (c .if1 .left)))),
+      rw e (reads-more ls (l .loop .i) (l .loop .depth) (d .before .before .loop-test .taken) (l .loop .inv .2)
+          (rw (← e) (positive (d .depth-with .result) (c .if1 .left)))),
     )
 
 returns-2 : tie.Need-returns-2 Inv-loop μ-loop

@@ -1,5 +1,7 @@
--- `tree::write::write_all` meets its contract. The loop's invariant: the first `i` records are written, and nothing past them. A turn puts
--- in record `i`, whose four numbers the label, the children's slots and the piece give. The measure is what is left of the labels.
+-- `tree::write::write_all` meets its contract. The loop's invariant: the first `i` records are written, and nothing
+-- past them. A turn puts
+-- in record `i`, whose four numbers the label, the children's slots and the piece give. The measure is what is left of
+-- the labels.
 -- Assumes nothing.
 use Prim.Native.Nat.{_+_, _≤_, _-_}
 use mathlib.Core.Path.{_≡_, refl, _∙_}
@@ -51,8 +53,10 @@ left-of-requires c κs =
     let r = c .before in
     let l = r .before .before .before in
     let s = start l in
-    right-size-le (s .args .labels .now) (s .pre .0 .tree) (l .loop .i) (r .right-of .result) (s .args .sizes .now) (s .pre .0 .same) (r .before .before .loop-test .taken)
-    (holds-less (l .loop .i) (l .loop .inv .0) (s .pre .1 .1 .1 .0 .0 .sized (s .pre .0 .tree) (s .pre .0 .same))) (r .right-of .ensures .0)
+    right-size-le (s .args .labels .now) (s .pre .0 .tree) (l .loop .i) (r .right-of .result) (s .args .sizes .now)
+    (s .pre .0 .same) (r .before .before .loop-test .taken)
+    (holds-less (l .loop .i) (l .loop .inv .0) (s .pre .1 .1 .1 .0 .0 .sized (s .pre .0 .tree) (s .pre .0 .same)))
+    (r .right-of .ensures .0)
 
 number-of-requires : tie.Need-number-of-requires Inv-loop μ-loop
 number-of-requires c κs = omega arith
@@ -89,14 +93,20 @@ loop-again c =
     let ls = s .args .labels .now in (
       omega arith,
       w .write-record .kept .0 ∙ l .loop .inv .1,
-      stored-more ls (s .args .out .now) (l .loop .out) (w .write-record .last .0) (l .loop .i) (f .left-of .result) (r .right-of .result) (getD ls (l .loop .i) 0)
-          (n .before .number-of .result) (n .number-of2 .result) (getD (s .args .pieces .now) (l .loop .i + 1) 0) (s .args .sizes .now) (r .before .before .loop-test .taken)
+      stored-more ls (s .args .out .now) (l .loop .out) (w .write-record .last .0) (l .loop .i) (f .left-of .result)
+          (r .right-of .result) (getD ls (l .loop .i) 0)
+          (n .before .number-of .result) (n .number-of2 .result) (getD (s .args .pieces .now) (l .loop .i + 1) 0)
+          (s .args .sizes .now) (r .before .before .loop-test .taken)
           (λ t e. (
-            slots ls t (l .loop .i) (f .left-of .result) (r .right-of .result) (s .args .sizes .now) e (r .before .before .loop-test .taken)
-                (holds-less (l .loop .i) (l .loop .inv .0) (s .pre .1 .1 .1 .0 .0 .sized t e)) (r .right-of .ensures .0) (f .left-of .ensures .0),
-            s .pre .1 .1 .1 .0 .1 .at-record t e (l .loop .i) (in-tree ls t (l .loop .i) e (r .before .before .loop-test .taken)),
+            slots ls t (l .loop .i) (f .left-of .result) (r .right-of .result) (s .args .sizes .now) e
+                (r .before .before .loop-test .taken)
+                (holds-less (l .loop .i) (l .loop .inv .0) (s .pre .1 .1 .1 .0 .0 .sized t e)) (r .right-of .ensures .0)
+                (f .left-of .ensures .0),
+            s .pre .1 .1 .1 .0 .1 .at-record t e (l .loop .i)
+                (in-tree ls t (l .loop .i) e (r .before .before .loop-test .taken)),
           ))
-          refl (r .before .shared-slice-known4 .given (l .loop .i) .fits) (n .before .number-of .ensures) (n .number-of2 .ensures) (w .write-record .ensures) (l .loop .inv .2),
+          refl (r .before .shared-slice-known4 .given (l .loop .i) .fits) (n .before .number-of .ensures)
+          (n .number-of2 .ensures) (w .write-record .ensures) (l .loop .inv .2),
     )
 
 same-length : tie.Need-same-length Inv-loop μ-loop
