@@ -1,6 +1,7 @@
 //! The definitions that the public contracts rest on, found by following names, with their lines counted; then those that the
 //! theorems cited in docs/PROMISES.md add. Writes both tables into that page, or with `--check` compares them. Fails where the
-//! page cites a name that is not in its file, or where its must-fail edits are not those of the crates.
+//! page or docs/DECISIONS.md cites a name that is not in its file, or where the must-fail edits that it lists are not those of
+//! the crates.
 
 mod specs;
 
@@ -10,6 +11,7 @@ use std::fs;
 use std::process::exit;
 
 const PAGE: &str = "docs/PROMISES.md";
+const DECISIONS: &str = "docs/DECISIONS.md";
 const BEGIN: &str = "<!-- made by tests/definitions/run -->\n";
 const END: &str = "<!-- end -->\n";
 
@@ -113,7 +115,10 @@ fn main() {
     let listed: BTreeSet<String> = rows().flat_map(listed_edits).collect();
     wrong.extend(edits().symmetric_difference(&listed).map(|e| format!("not both there and listed: {e}")));
     let pairs: Vec<Name> = rows().flat_map(cited).collect();
-    wrong.extend(pairs.iter().filter(|p| specs.item(p).is_none()).map(|(path, name)| format!("no {name} in {path}")));
+    let decisions = fs::read_to_string(DECISIONS).expect(DECISIONS);
+    let elsewhere: Vec<Name> = decisions.lines().filter(|l| l.starts_with('|')).flat_map(cited).collect();
+    let missing = pairs.iter().chain(&elsewhere).filter(|p| specs.item(p).is_none());
+    wrong.extend(missing.map(|(path, name)| format!("no {name} in {path}")));
     let theorems = pairs.into_iter().filter(|p| specs.item(p).is_some_and(|item| !item.is_definition));
     let added = specs.reached(theorems).difference(&contracts).cloned().collect();
 
@@ -127,7 +132,7 @@ fn main() {
         fs::write(PAGE, made).expect(PAGE);
     }
     for problem in &wrong {
-        println!("{PAGE}: {problem}");
+        println!("docs: {problem}");
     }
     exit(i32::from(!wrong.is_empty()));
 }
