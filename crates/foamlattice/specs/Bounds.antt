@@ -3,7 +3,7 @@
 use Prim.Native.Nat.{ℕ, _+_, _*_, _≤_}
 use native.Mathlib.Omega.{arith}
 use mathlib.Core.Path.{_≡_, refl}
-use mathlib.Core.Bool.{Bool, true, false}
+use mathlib.Core.Bool.{Bool, true, false, cond}
 use mathlib.Core.List.{List}
 use lib.Dec.{ltb}
 use borrow.Author.Tests.{ltb-false}
@@ -13,7 +13,7 @@ use Rattle.tree.specs.Records.{piece-count}
 use Rattle.tree.specs.Pieces.{nodes-per-piece}
 use Rattle.reader.specs.Scanner.{Outcome, tree, refused, scanned}
 use Rattle.reader.specs.Agree.{scanned-refusal}
-use Rattle.reader.specs.Answer.{Numbers, refusing, reading, pick, answer-for, answered}
+use Rattle.reader.specs.Answer.{Numbers, refusing, reading, answer-for, answered}
 use Rattle.marks.specs.declared.Answer.{Answer}
 use Rattle.marks.specs.declared.Answer.the-variants.{Marked, NotGood, TooFewWords, NotMarks}
 use Rattle.marks.specs.Promise.{number-of}
@@ -58,7 +58,7 @@ pub record Read-ranges (n : Numbers) : Type 0 where
 
 -- by the two tests of an expression that is read: the records have at most 15 nodes for each of at most 128 pieces
 picked-ranges : (t : Tree Leaf) (many short : Bool) → ltb 128 (piece-count t) ≡ many
-    → Read-ranges (pick many (refusing 8 0) (pick short (refusing 9 0) (reading t)))
+    → Read-ranges (cond many (refusing 8 0) (cond short (refusing 9 0) (reading t)))
 picked-ranges t true short e = record {
   refusal-small = omega arith;
   place-small = omega arith;

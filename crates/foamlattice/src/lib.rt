@@ -15,7 +15,7 @@ use reader::Answer;
 use reader::read;
 ghost use mathlib.Core.Path.{_≡_};
 ghost use lib.ListN.{length};
-ghost use Rattle.reader.specs.Answer.{answered, stored};
+ghost use Rattle.reader.specs.Answer.{answered, records-after};
 ghost use Rattle.foamlattice.specs.Promise.{
   read-packed,
   marks-packed,
@@ -30,7 +30,7 @@ ghost use Rattle.foamlattice.specs.Promise.{
 #[no_mangle]
 pub extern "C" fn foam_read(expression: &[u8], records: &mut [u8]) -> u64
     ensures answer { λ r. ⌜ r ≡ read-packed (answered (now (expression .entry)) (length (now (records .entry)))) ⌝ }
-    ensures buffer { λ _. ⌜ now (records .exit) ≡ stored (now (expression .entry)) (now (records .entry)) ⌝ }
+    ensures buffer { λ _. ⌜ now (records .exit) ≡ records-after (now (expression .entry)) (now (records .entry)) ⌝ }
 {
     let answer = read(expression, records);
     match answer {

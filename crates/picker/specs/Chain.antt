@@ -12,7 +12,8 @@ use Rattle.tree.specs.Leaf.{Leaf}
 use Rattle.tree.specs.Readback.{good-unique}
 use Rattle.reader.specs.Grammar.{Written}
 use Rattle.reader.specs.Agree.{scanned-exactly, grammar-unique}
-use Rattle.reader.specs.Answer.{numbers, answered, stored, Kept, kept}
+use Rattle.reader.specs.Answer.{numbers, answered, records-after}
+use Rattle.reader.specs.Kept.{Kept, kept}
 use Rattle.reader.specs.declared.answer.Answer.the-variants.{Read}
 use Rattle.finder.specs.Found.{Part, Found, Nothing-found}
 use Rattle.finder.specs.Promise.{Of-good, Match-answers, Search-answers}
@@ -26,7 +27,7 @@ In-expression bytes text = (t : Tree Leaf) × Written bytes t × Matches t text
 -- `read` answered that the expression's records were written
 pub record Accepted (bytes before after : List ℕ) (records pieces : ℕ) : Type 0 where
   pub answer : numbers (Read records pieces) ≡ answered bytes (length before)
-  pub buffer : after ≡ stored bytes before
+  pub buffer : after ≡ records-after bytes before
 
 -- a part in a language lies in a larger one
 part-within : {L M : List ℕ → Type 0} (text : List ℕ) → ((w : List ℕ) → L w → M w) → (s e : ℕ) → Part L text s e

@@ -2,7 +2,7 @@
 -- Assumes nothing.
 use Prim.Native.Nat.{ℕ, _+_, _-_, _≤_, _<_}
 use mathlib.Core.Path.{_≡_}
-use mathlib.Core.Bool.{Bool, true, false}
+use mathlib.Core.Bool.{Bool, true, false, cond}
 use mathlib.Core.List.{List, [], _∷_, _++_}
 use lib.ListN.{length}
 use lib.Dec.{ltb}
@@ -11,14 +11,14 @@ use Rattle.language.specs.Tree.{Tree}
 use Rattle.tree.specs.Leaf.{Leaf}
 use Rattle.tree.specs.Records.{piece-count}
 use Rattle.reader.specs.Text.{bytes}
-use Rattle.reader.specs.Scanner.{Outcome, tree, refused, pick-outcome, scanned}
+use Rattle.reader.specs.Scanner.{Outcome, tree, refused, scanned}
 use Rattle.finder.specs.Decide.{matches}
 use Rattle.picker.specs.Lines.{lines, expression, texts}
 use Rattle.picker.specs.Digits.{digits}
 
 -- a tree is refused with 8 where its cut has more than 128 pieces
 abbrev pub few-pieces : Outcome → Outcome
-few-pieces (tree t) = pick-outcome (ltb 128 (piece-count t)) (refused 8 0) (tree t)
+few-pieces (tree t) = cond (ltb 128 (piece-count t)) (refused 8 0) (tree t)
 few-pieces (refused number place) = refused number place
 
 -- what reading an expression comes to, where there is room for its records

@@ -2,7 +2,7 @@
 -- Assumes nothing.
 use Prim.Native.Nat.{ℕ, _+_, _*_, _-_, _≤_, _<_}
 use mathlib.Core.Path.{_≡_, refl, ap}
-use mathlib.Core.Bool.{Bool, true, false}
+use mathlib.Core.Bool.{Bool, true, false, cond}
 use mathlib.Core.List.{List}
 use native.Mathlib.Omega.{arith}
 use lib.ListN.{length, drop}
@@ -13,9 +13,10 @@ use Rattle.tree.specs.Leaf.{Leaf}
 use Rattle.tree.specs.Records.{piece-count}
 use Rattle.tree.specs.Lengths.{nodes-positive}
 use Rattle.tree.specs.Pieces.{nodes-per-piece}
-use Rattle.reader.specs.Scanner.{Outcome, tree, refused, pick-outcome, scanned}
+use Rattle.reader.specs.Scanner.{Outcome, tree, refused, scanned}
 use Rattle.reader.specs.Agree.{scanned-exactly, scanned-refusal, written-size}
-use Rattle.reader.specs.Answer.{Numbers, refusing, reading, pick, answer-for, answered as answers, Kept}
+use Rattle.reader.specs.Answer.{Numbers, refusing, reading, answer-for, answered as answers}
+use Rattle.reader.specs.Kept.{Kept}
 use Rattle.finder.specs.Found.{part}
 use Rattle.finder.specs.Decide.{matches}
 use Rattle.picker.specs.Lines.{lines, expression, texts, texts-count}
@@ -37,8 +38,8 @@ records-fit t few = omega (arith, nodes-per-piece t, ltb-false 128 (piece-count 
 -- for a tree: 8 where it has too many pieces, and never 9
 told-tree : (bytes : List ℕ) (room number place : ℕ) → 15360 ≤ room → (t : Tree Leaf) (many short : Bool)
     → ltb 128 (piece-count t) ≡ many → ltb room (8 * nodes t) ≡ short → few-pieces (scanned bytes)
-    ≡ pick-outcome many (refused 8 0) (tree t)
-    → refusing number place ≡ pick many (refusing 8 0) (pick short (refusing 9 0) (reading t)) → Told bytes number place
+    ≡ cond many (refused 8 0) (tree t)
+    → refusing number place ≡ cond many (refusing 8 0) (cond short (refusing 9 0) (reading t)) → Told bytes number place
 told-tree bytes room number place large t true short m h outcome e =
     let eight : number ≡ 8 = ap (λ (n : Numbers). n .refusal) e in
     let front : place ≡ 0 = ap (λ (n : Numbers). n .place) e in

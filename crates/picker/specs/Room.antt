@@ -2,7 +2,7 @@
 -- Assumes nothing.
 use Prim.Native.Nat.{ℕ, _+_, _*_, _-_, _≤_, _<_}
 use mathlib.Core.Path.{_≡_, refl}
-use mathlib.Core.Bool.{Bool, true, false}
+use mathlib.Core.Bool.{Bool, true, false, cond}
 use mathlib.Core.List.{List, [], _∷_}
 use native.Mathlib.Decide.{decLt}
 use native.Mathlib.Omega.{arith}
@@ -11,7 +11,7 @@ use lib.Dec.{ltb}
 use Rattle.language.specs.Tree.{Tree}
 use Rattle.tree.specs.Leaf.{Leaf}
 use Rattle.tree.specs.Records.{piece-count}
-use Rattle.reader.specs.Scanner.{Outcome, tree, refused, pick-outcome, scanned}
+use Rattle.reader.specs.Scanner.{Outcome, tree, refused, scanned}
 use Rattle.reader.specs.Agree.{scanned-exactly, scanned-refusal, written-size}
 use Rattle.picker.specs.Lines.{lines, expression, texts, texts-count}
 use Rattle.picker.specs.Digits.{digits-length}
@@ -80,7 +80,7 @@ module _ (matching : Tree Leaf → List ℕ → Bool) where
       omega (arith, refusal-line-length number place (omega (arith, bounds)) (omega (arith, bounds)))
   reported-length expr (tree t) e later h = either (ltb 128 (piece-count t))
     where
-      either : (test : Bool) → length (reported matching (pick-outcome test (refused 8 0) (tree t)) later) ≤ 1048575
+      either : (test : Bool) → length (reported matching (cond test (refused 8 0) (tree t)) later) ≤ 1048575
       either true = omega (arith, refusal-line-length 8 0 (omega arith) (omega arith))
       either false =
           let long = written-size (scanned-exactly expr t .0 e .1) in

@@ -4,7 +4,7 @@
 use Prim.Native.Nat.{ℕ, suc, _+_, _*_, _≤_, _<_}
 use mathlib.Core.Path.{_≡_, refl}
 use mathlib.Core.Logic.{_↔_}
-use mathlib.Core.Bool.{Bool, true, false}
+use mathlib.Core.Bool.{Bool, true, false, cond}
 use mathlib.Core.List.{List, [], _∷_}
 use native.Mathlib.Omega.{arith}
 use lib.ListN.{length}
@@ -12,10 +12,10 @@ use lib.Dec.{ltb}
 use borrow.Author.Tests.{ltb-true, ltb-false}
 use Rattle.language.specs.Tree.{Tree, nodes}
 use Rattle.tree.specs.Leaf.{Leaf}
-use Rattle.reader.specs.Scanner.{Outcome, tree, refused, due, nothing, pick-outcome, scan, scanned}
+use Rattle.reader.specs.Scanner.{Outcome, tree, refused, due, nothing, scan, scanned}
 use Rattle.reader.specs.Grammar.{
   Level,
-  Reads,
+  Spells,
   Written,
   itself,
   escaped,
@@ -41,7 +41,7 @@ grammar-unique p q = cc (scanner-gives p, scanner-gives q)
 
 -- a written tree has fewer than two nodes for each of its bytes: a leaf takes a byte, a star its `*`, and a catenation
 -- or a union joins two
-reads-size : {depth : ℕ} {level : Level} {bytes rest : List ℕ} {t : Tree Leaf} → Reads depth level bytes rest t
+reads-size : {depth : ℕ} {level : Level} {bytes rest : List ℕ} {t : Tree Leaf} → Spells depth level bytes rest t
     → nodes t + 1 + 2 * length rest ≤ 2 * length bytes
 reads-size (itself p) = omega arith
 reads-size (escaped p) = omega arith
@@ -70,7 +70,7 @@ cases [] = empty refl
 cases (b ∷ rest) = go (ltb 1024 (suc (length rest))) refl
   where
     go : (test : Bool) → ltb 1024 (suc (length rest)) ≡ test
-        → Case (b ∷ rest) (pick-outcome test (refused 2 1024) (scan (b ∷ rest) 0 due nothing []))
+        → Case (b ∷ rest) (cond test (refused 2 1024) (scan (b ∷ rest) 0 due nothing []))
     go true e = long (ltb-true 1024 (suc (length rest)) e)
     go false e = usual (omega arith) (ltb-false 1024 (suc (length rest)) e)
 

@@ -1,20 +1,14 @@
 -- What `read` answers and what it leaves in the buffer, by the table of refusals.
 -- Assumes nothing.
-use Prim.Native.Nat.{ℕ, _+_, _*_, _≤_}
-use native.Mathlib.Omega.{arith}
-use mathlib.Core.Path.{_≡_, refl, ap, sym, _∙_}
-use mathlib.Core.Bool.{Bool, true, false}
+use Prim.Native.Nat.{ℕ, _*_}
+use mathlib.Core.Bool.{cond}
 use mathlib.Core.List.{List, _++_}
-use lib.ListN.{length, take, drop}
-use lib.Seq.{take-at, drop-at}
+use lib.ListN.{length, drop}
 use lib.Dec.{ltb}
-use borrow.Author.Tests.{ltb-false}
 use Rattle.language.specs.Tree.{Tree, nodes}
 use Rattle.tree.specs.Leaf.{Leaf}
-use Rattle.tree.specs.Records.{encode, piece-count, Good}
-use Rattle.tree.specs.Lengths.{nodes-positive, length-encode}
+use Rattle.tree.specs.Records.{encode, piece-count}
 use Rattle.reader.specs.Scanner.{Outcome, tree, refused, scanned}
-use Rattle.reader.specs.Agree.{scanned-refusal}
 use Rattle.reader.specs.declared.answer.Answer.{Answer}
 use Rattle.reader.specs.declared.answer.Answer.the-variants.{Read, Refused}
 
@@ -38,130 +32,25 @@ abbrev pub numbers : Answer → Numbers
 numbers (Read records pieces) = record { refusal = 0; place = 0; records = records; pieces = pieces }
 numbers (Refused number place) = refusing number place
 
-abbrev pub pick : {A : Type 0} → Bool → A → A → A
-pick true a b = a
-pick false a b = b
-
 -- what is answered for an expression's outcome, with a buffer of `room` bytes: 8 where the cut has more than 128
--- pieces,
--- then 9 where the buffer is shorter than the records
+-- pieces, then 9 where the buffer is shorter than the records
 abbrev pub answer-for : Outcome → (room : ℕ) → Numbers
 answer-for (refused number place) room = refusing number place
 answer-for (tree t) room =
-    pick (ltb 128 (piece-count t)) (refusing 8 0) (pick (ltb room (8 * nodes t)) (refusing 9 0) (reading t))
+    cond (ltb 128 (piece-count t)) (refusing 8 0) (cond (ltb room (8 * nodes t)) (refusing 9 0) (reading t))
 
 -- what the buffer holds afterwards: the records, and past them what it held; the same as before where the expression is
 -- refused
 abbrev pub buffer-for : Outcome → List ℕ → List ℕ
 buffer-for (refused number place) buffer = buffer
 buffer-for (tree t) buffer =
-    pick (ltb 128 (piece-count t)) buffer
-    (pick (ltb (length buffer) (8 * nodes t)) buffer (encode t ++ drop (8 * nodes t) buffer))
+    cond (ltb 128 (piece-count t)) buffer
+    (cond (ltb (length buffer) (8 * nodes t)) buffer (encode t ++ drop (8 * nodes t) buffer))
 
 -- what `read` answers for these bytes and a buffer of this length
 abbrev pub answered : List ℕ → (room : ℕ) → Numbers
 answered bytes room = answer-for (scanned bytes) room
 
 -- what `read` leaves in the buffer
-abbrev pub stored : List ℕ → List ℕ → List ℕ
-stored bytes buffer = buffer-for (scanned bytes) buffer
-
--- an answer is known from its numbers, where these are neither a refusal nor a record
-numbers-injective : (r s : Answer) → numbers r ≡ numbers s → (numbers r .refusal ≡ 0 → numbers r .records ≡ 0 → ⊥)
-    → r ≡ s
-numbers-injective (Read records pieces) (Read records′ pieces′) e sure =
-    cc (ap (λ (n : Numbers). n .records) e, ap (λ (n : Numbers). n .pieces) e)
-numbers-injective (Refused number place) (Refused number′ place′) e sure =
-    cc (ap (λ (n : Numbers). n .refusal) e, ap (λ (n : Numbers). n .place) e)
-numbers-injective (Read records pieces) (Refused number place) e sure =
-    absurd (sure refl (ap (λ (n : Numbers). n .records) e))
-numbers-injective (Refused number place) (Read records pieces) e sure =
-    absurd (sure (ap (λ (n : Numbers). n .refusal) e) refl)
-
--- what is answered is a refusal, or has a record
-sure-pick : (t : Tree Leaf) (many short : Bool)
-    → pick many (refusing 8 0) (pick short (refusing 9 0) (reading t)) .refusal ≡ 0
-    → pick many (refusing 8 0) (pick short (refusing 9 0) (reading t)) .records ≡ 0 → ⊥
-sure-pick t true short e f = omega arith
-sure-pick t false true e f = omega arith
-sure-pick t false false e f = omega (arith, nodes-positive t)
-
-sure-answer : (bytes : List ℕ) (room : ℕ) (outcome : Outcome) → scanned bytes ≡ outcome
-    → answer-for outcome room .refusal ≡ 0 → answer-for outcome room .records ≡ 0 → ⊥
-sure-answer bytes room (refused number place) scans e f = omega (arith, scanned-refusal bytes number place scans .least)
-sure-answer bytes room (tree t) scans e f = sure-pick t (ltb 128 (piece-count t)) (ltb room (8 * nodes t)) e f
-
--- two answers that both fit the promise are equal
-pub answer-unique : (bytes : List ℕ) (room : ℕ) (r s : Answer) → numbers r ≡ answered bytes room
-    → numbers s ≡ answered bytes room → r ≡ s
-answer-unique bytes room r s e f =
-    numbers-injective r s (e ∙ sym f) (rw e (sure-answer bytes room (scanned bytes) refl))
-
--- what it means that the records were written: the expression has this tree, the counts are the tree's, and the records
--- are a good list
-pub record Kept (bytes before after : List ℕ) (records pieces : ℕ) : Type 0 where
-  pub read : Tree Leaf
-  pub scans : scanned bytes ≡ tree read
-  pub counted : records ≡ nodes read
-  pub parted : pieces ≡ piece-count read
-  pub fits : 8 * records ≤ length before
-  pub good : Good (take (8 * records) after) read
-  pub rest : drop (8 * records) after ≡ drop (8 * records) before
-
-kept-pick : (bytes before after : List ℕ) (records pieces : ℕ) (t : Tree Leaf) → scanned bytes ≡ tree t
-    → (many short : Bool) → ltb 128 (piece-count t) ≡ many → ltb (length before) (8 * nodes t) ≡ short
-    → numbers (Read records pieces) ≡ pick many (refusing 8 0) (pick short (refusing 9 0) (reading t))
-    → after ≡ pick many before (pick short before (encode t ++ drop (8 * nodes t) before))
-    → Kept bytes before after records pieces
-kept-pick bytes before after records pieces t scans true short m h e f =
-    absurd (omega (arith, ap (λ (n : Numbers). n .refusal) e))
-kept-pick bytes before after records pieces t scans false true m h e f =
-    absurd (omega (arith, ap (λ (n : Numbers). n .refusal) e))
-kept-pick bytes before after records pieces t scans false false m h e f =
-    let counted : records ≡ nodes t = ap (λ (n : Numbers). n .records) e in
-    let long : length (encode t) ≡ 8 * nodes t = length-encode t in
-    record {
-      read = t;
-      scans = scans;
-      counted = counted;
-      parted = ap (λ (n : Numbers). n .pieces) e;
-      fits = omega (arith, ltb-false (length before) (8 * nodes t) h);
-      good = record {
-        of-tree = rw (f, counted) (take-at (encode t) (drop (8 * nodes t) before) (8 * nodes t) long);
-        few = ltb-false 128 (piece-count t) m;
-      };
-      rest = rw (f, counted) (drop-at (encode t) (drop (8 * nodes t) before) (8 * nodes t) long);
-    }
-
-kept-outcome : (bytes before after : List ℕ) (records pieces : ℕ) (outcome : Outcome) → scanned bytes ≡ outcome
-    → numbers (Read records pieces) ≡ answer-for outcome (length before) → after ≡ buffer-for outcome before
-    → Kept bytes before after records pieces
-kept-outcome bytes before after records pieces (refused number place) scans e f =
-    absurd (omega (arith, ap (λ (n : Numbers). n .refusal) e, scanned-refusal bytes number place scans .least))
-kept-outcome bytes before after records pieces (tree t) scans e f =
-    kept-pick bytes before after records pieces t scans (ltb 128 (piece-count t)) (ltb (length before) (8 * nodes t))
-    refl refl e f
-
--- from what `read` promises, where it answers that the records were written
-pub kept : (bytes before after : List ℕ) (records pieces : ℕ) → numbers (Read records pieces)
-    ≡ answered bytes (length before) → after ≡ stored bytes before → Kept bytes before after records pieces
-kept bytes before after records pieces e f = kept-outcome bytes before after records pieces (scanned bytes) refl e f
-
--- where it answers a refusal, no byte of the buffer differs
-same-pick : (before : List ℕ) (number place : ℕ) (t : Tree Leaf) (many short : Bool) → numbers (Refused number place)
-    ≡ pick many (refusing 8 0) (pick short (refusing 9 0) (reading t))
-    → pick many before (pick short before (encode t ++ drop (8 * nodes t) before)) ≡ before
-same-pick before number place t true short e = refl
-same-pick before number place t false true e = refl
-same-pick before number place t false false e =
-    absurd (omega (arith, nodes-positive t, ap (λ (n : Numbers). n .records) e))
-
-same-outcome : (before : List ℕ) (number place : ℕ) (outcome : Outcome) → numbers (Refused number place)
-    ≡ answer-for outcome (length before) → buffer-for outcome before ≡ before
-same-outcome before number place (refused number′ place′) e = refl
-same-outcome before number place (tree t) e =
-    same-pick before number place t (ltb 128 (piece-count t)) (ltb (length before) (8 * nodes t)) e
-
-pub refusal-keeps : (bytes before after : List ℕ) (number place : ℕ) → numbers (Refused number place)
-    ≡ answered bytes (length before) → after ≡ stored bytes before → after ≡ before
-refusal-keeps bytes before after number place e f = f ∙ same-outcome before number place (scanned bytes) e
+abbrev pub records-after : List ℕ → List ℕ → List ℕ
+records-after bytes buffer = buffer-for (scanned bytes) buffer

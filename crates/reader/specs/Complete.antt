@@ -28,7 +28,7 @@ use Rattle.reader.specs.Grammar.{
   starred,
   joined,
   united,
-  Reads,
+  Spells,
   Written,
   itself,
   escaped,
@@ -43,7 +43,7 @@ use Rattle.reader.specs.Grammar.{
 
 -- with an operand due, the scan of the bytes at a place goes on with the rest, after this last tree, at the place that
 -- many bytes further
-pub record Goes-on (bytes rest : List ℕ) (place : ℕ) (from : Before) (groups : List Group) (last : Tree Leaf)
+pub record Scans-on (bytes rest : List ℕ) (place : ℕ) (from : Before) (groups : List Group) (last : Tree Leaf)
     (before : Before) : Type 0 where
   pub next : ℕ
   pub counted : next + length rest ≡ place + length bytes
@@ -53,16 +53,16 @@ pub record Goes-on (bytes rest : List ℕ) (place : ℕ) (from : Before) (groups
 -- beside the union before it; a union is collected from nothing
 abbrev pub Passes : Level → ℕ → List ℕ → List ℕ → Tree Leaf → Type 0
 Passes single depth bytes rest t = (place : ℕ) (before : Before) (groups : List Group) → length groups ≡ depth
-    → Goes-on bytes rest place before groups t before
+    → Scans-on bytes rest place before groups t before
 Passes starred depth bytes rest t = (place : ℕ) (before : Before) (groups : List Group) → length groups ≡ depth
-    → Goes-on bytes rest place before groups t before
+    → Scans-on bytes rest place before groups t before
 Passes joined depth bytes rest t =
     (place : ℕ) (unions : Option (Tree Leaf)) (groups : List Group)
     → length groups ≡ depth
     → (factors : Option (Tree Leaf))
     × (last : Tree Leaf)
     × (catenated factors last ≡ t)
-    × Goes-on bytes rest place (record { unions = unions; factors = none }) groups last
+    × Scans-on bytes rest place (record { unions = unions; factors = none }) groups last
     (record { unions = unions; factors = factors })
 Passes united depth bytes rest t =
     (place : ℕ) (groups : List Group)
@@ -70,10 +70,10 @@ Passes united depth bytes rest t =
     → (before : Before)
     × (last : Tree Leaf)
     × (finished before last ≡ t)
-    × Goes-on bytes rest place nothing groups last before
+    × Scans-on bytes rest place nothing groups last before
 
 -- what begins a written tree is an operand: after another tree it is the next factor
-begins : {depth : ℕ} {level : Level} {bytes rest : List ℕ} {t : Tree Leaf} → Reads depth level bytes rest t
+begins : {depth : ℕ} {level : Level} {bytes rest : List ℕ} {t : Tree Leaf} → Spells depth level bytes rest t
     → (place : ℕ) (s : Tree Leaf) (before : Before) (groups : List Group) → scan bytes place (after s) before groups
     ≡ scan bytes place due (with-factor before s) groups
 unfolding scan
@@ -111,7 +111,7 @@ stars operand place before groups e =
 
 -- the next factor joins the catenation collected so far
 factors : {depth : ℕ} {bytes between rest : List ℕ} {s t : Tree Leaf} → Passes joined depth bytes between s
-    → Reads depth starred between rest t → Passes starred depth between rest t
+    → Spells depth starred between rest t → Passes starred depth between rest t
     → Passes joined depth bytes rest (catenation s t)
 factors {between = between} {s = s} {t = t} first r second place unions groups e =
     let (collected, last, made, on) = first place unions groups e in
@@ -150,7 +150,7 @@ branches {between = between} {s = s} first second place groups e =
     )
 
 -- by induction on the reading
-pub passes : {depth : ℕ} {level : Level} {bytes rest : List ℕ} {t : Tree Leaf} → Reads depth level bytes rest t
+pub passes : {depth : ℕ} {level : Level} {bytes rest : List ℕ} {t : Tree Leaf} → Spells depth level bytes rest t
     → Passes level depth bytes rest t
 unfolding scan
 passes (itself {b = b} p) = λ place before groups e. record { next = place + 1; counted = omega arith; same = rw p }

@@ -6,7 +6,7 @@ use Prim.Native.Nat.{ℕ, _*_, _≤_}
 use native.Mathlib.Decide.{decLt}
 use native.Mathlib.Omega.{arith}
 use mathlib.Core.Path.{_≡_, refl}
-use mathlib.Core.Bool.{Bool, true, false}
+use mathlib.Core.Bool.{Bool, true, false, cond}
 use mathlib.Core.List.{List}
 use mathlib.Core.Logic.{_↔_}
 use lib.ListN.{length}
@@ -20,7 +20,7 @@ use Rattle.tree.specs.Least.{wanted-fits, least}
 use Rattle.reader.specs.Grammar.{Written}
 use Rattle.reader.specs.Scanner.{Outcome, tree, refused, scanned}
 use Rattle.reader.specs.Agree.{scanned-exactly, scanned-refusal, written-size}
-use Rattle.reader.specs.Answer.{refusing, reading, pick, answer-for, answered}
+use Rattle.reader.specs.Answer.{refusing, reading, answer-for, answered}
 
 -- some cut of t with pieces of at most 15 nodes has at most 128 of them
 abbrev pub Small-enough : Tree Leaf → Type 0
@@ -40,7 +40,7 @@ pub record Fit-to-read (bytes : List ℕ) (room : ℕ) : Type 0 where
 
 -- of the answers to a tree, only the one past both tests is no refusal
 past-both : (t : Tree Leaf) (many short : Bool)
-    → pick many (refusing 8 0) (pick short (refusing 9 0) (reading t)) .refusal ≡ 0 → (many ≡ false) × (short ≡ false)
+    → cond many (refusing 8 0) (cond short (refusing 9 0) (reading t)) .refusal ≡ 0 → (many ≡ false) × (short ≡ false)
 past-both t true short e = absurd (omega arith)
 past-both t false true e = absurd (omega arith)
 past-both t false false e = (refl, refl)

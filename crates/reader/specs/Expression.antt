@@ -3,14 +3,14 @@
 use Prim.Native.Nat.{ℕ, _<_, _≤_}
 use native.Mathlib.Omega.{arith}
 use mathlib.Core.Path.{_≡_, refl, ap, _∙_}
-use mathlib.Core.Bool.{Bool}
+use mathlib.Core.Bool.{Bool, cond}
 use mathlib.Core.List.{List, [], _∷_}
 use lib.ListN.{length, take}
 use borrow.Author.Tests.{lt-ltb, le-ltb}
 use Rattle.language.specs.Tree.{Tree}
 use Rattle.tree.specs.Leaf.{Leaf}
 use Rattle.tree.specs.Records.{labels}
-use Rattle.reader.specs.Scanner.{tree, refused, due, nothing, pick-outcome, scan, scanned}
+use Rattle.reader.specs.Scanner.{tree, refused, due, nothing, scan, scanned}
 use Rattle.reader.specs.Grammar.{united}
 use Rattle.reader.specs.Stopping.{closes-united}
 use Rattle.reader.specs.Surroundings.{from, Fails, accepts, closes-none}
@@ -19,34 +19,34 @@ use Rattle.reader.specs.declared.part.Part.{Part}
 use Rattle.reader.specs.declared.part.Part.the-variants.{Read, Refused}
 
 -- the expression has a tree, and the first `total` labels are the tree's
-pub record Accepted (bytes later : List ℕ) (total : ℕ) : Type 0 where
+pub record Expression-read (bytes later : List ℕ) (total : ℕ) : Type 0 where
   pub read : Tree Leaf
   pub scans : scanned bytes ≡ tree read
   pub written : take total later ≡ labels read
   pub bounded : total ≤ 2047
 
 -- the expression is refused
-pub record Rejected (bytes : List ℕ) (number place : ℕ) : Type 0 where
+pub record Expression-refused (bytes : List ℕ) (number place : ℕ) : Type 0 where
   pub scans : scanned bytes ≡ refused number place
 
 -- what reading a whole expression answers
-abbrev pub Expression : (bytes later : List ℕ) → Part → Type 0
-Expression bytes later (Read next total) = Accepted bytes later total
-Expression bytes later (Refused number place) = Rejected bytes number place
+abbrev pub Expression-answer : (bytes later : List ℕ) → Part → Type 0
+Expression-answer bytes later (Read next total) = Expression-read bytes later total
+Expression-answer bytes later (Refused number place) = Expression-refused bytes number place
 
 -- no bytes
-pub empty : (bytes : List ℕ) → length bytes ≡ 0 → Rejected bytes 1 0
+pub empty : (bytes : List ℕ) → length bytes ≡ 0 → Expression-refused bytes 1 0
 unfolding scanned
 empty [] e = record { scans = refl }
 empty (b ∷ bytes) e = absurd (omega arith)
 
 -- too many bytes
-pub too-long : (bytes : List ℕ) → 1024 < length bytes → Rejected bytes 2 1024
+pub too-long : (bytes : List ℕ) → 1024 < length bytes → Expression-refused bytes 2 1024
 unfolding scanned
 too-long [] h = absurd (omega arith)
 too-long (b ∷ bytes) h =
     record {
-      scans = ap (λ (t : Bool). pick-outcome t (refused 2 1024) (scan (b ∷ bytes) 0 due nothing []))
+      scans = ap (λ (t : Bool). cond t (refused 2 1024) (scan (b ∷ bytes) 0 due nothing []))
           (lt-ltb 1024 (length (b ∷ bytes)) h);
     }
 
@@ -54,17 +54,17 @@ too-long (b ∷ bytes) h =
 sized : (bytes : List ℕ) → (length bytes ≡ 0 → ⊥) → length bytes ≤ 1024 → scanned bytes ≡ from bytes 0 due nothing []
 unfolding scanned from
 sized [] some h = absurd (some refl)
-sized (b ∷ bytes) some h = ap (λ (t : Bool). pick-outcome t (refused 2 1024) (scan (b ∷ bytes) 0 due nothing []))
+sized (b ∷ bytes) some h = ap (λ (t : Bool). cond t (refused 2 1024) (scan (b ∷ bytes) 0 due nothing []))
     (le-ltb 1024 (length (b ∷ bytes)) h)
 
 module _ (bytes : List ℕ) (some : length bytes ≡ 0 → ⊥) (few : length bytes ≤ 1024) where
   -- the union that the expression is was refused
-  pub faulty : {number place : ℕ} → Fails united bytes 0 0 number place → Rejected bytes number place
+  pub faulty : {number place : ℕ} → Fails united bytes 0 0 number place → Expression-refused bytes number place
   faulty f = record { scans = sized bytes some few ∙ f .onward nothing [] refl }
 
   module _ {next total : ℕ} {earlier later : List ℕ} (w : Whole united bytes 0 0 0 earlier next total later) where
     -- a `)` with no group open
-    pub unopened : next < length bytes → Rejected bytes 5 next
+    pub unopened : next < length bytes → Expression-refused bytes 5 next
     unopened h =
         record {
           scans = sized bytes some few
@@ -72,7 +72,7 @@ module _ (bytes : List ℕ) (some : length bytes ≡ 0 → ⊥) (few : length by
         }
 
     -- the end
-    pub accepted : next ≡ length bytes → Accepted bytes later total
+    pub accepted : next ≡ length bytes → Expression-read bytes later total
     accepted e = record {
       read = w .went .read;
       scans = sized bytes some few ∙ accepts bytes next (w .went .leads) e;

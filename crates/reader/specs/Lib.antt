@@ -13,6 +13,7 @@ pub mod Surroundings
 pub mod Reading
 pub mod Expression
 pub mod Answer
+pub mod Kept
 pub mod Store
 pub mod TooLarge
 pub mod Exactly

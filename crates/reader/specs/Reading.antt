@@ -29,13 +29,13 @@ use Rattle.reader.specs.declared.part.Part.{Part}
 use Rattle.reader.specs.declared.part.Part.the-variants.{Read, Refused}
 
 -- the labels have room for what can be read from `at` on: at most two for each byte, less one
-pub record Room (bytes : List ℕ) (at depth count : ℕ) (scratch : List ℕ) : Type 0 where
+pub record Scratch-room (bytes : List ℕ) (at depth count : ℕ) (scratch : List ℕ) : Type 0 where
   pub within : at ≤ length bytes
   pub shallow : depth ≤ 32
   pub enough : count + 2 * length bytes ≤ length scratch + 1 + 2 * at
 
 -- a tree was read from `at` up to `next`, and its labels stand after the `count` earlier ones
-pub record Went (level : Level) (bytes : List ℕ) (depth at count : ℕ) (earlier : List ℕ) (next total : ℕ)
+pub record Read-up-to (level : Level) (bytes : List ℕ) (depth at count : ℕ) (earlier : List ℕ) (next total : ℕ)
     (later : List ℕ) : Type 0 where
   pub read : Tree Leaf
   pub leads : Leads level bytes depth at read next
@@ -47,33 +47,33 @@ pub record Went (level : Level) (bytes : List ℕ) (depth at count : ℕ) (earli
 -- the same, and nothing more of this level follows
 pub record Whole (level : Level) (bytes : List ℕ) (depth at count : ℕ) (earlier : List ℕ) (next total : ℕ)
     (later : List ℕ) : Type 0 where
-  pub went : Went level bytes depth at count earlier next total later
+  pub went : Read-up-to level bytes depth at count earlier next total later
   pub stops : Stops level bytes next
 
 -- what a reader of this level answers
-abbrev pub Reading : Level → List ℕ → (at depth count : ℕ) → (earlier later : List ℕ) → Part → Type 0
-Reading level bytes at depth count earlier later (Read next total) =
+abbrev pub Part-answer : Level → List ℕ → (at depth count : ℕ) → (earlier later : List ℕ) → Part → Type 0
+Part-answer level bytes at depth count earlier later (Read next total) =
     Whole level bytes depth at count earlier next total later
-Reading level bytes at depth count earlier later (Refused number place) = Fails level bytes depth at number place
+Part-answer level bytes at depth count earlier later (Refused number place) = Fails level bytes depth at number place
 
 -- one character was read, whatever is open
 pub record Character (bytes : List ℕ) (at count : ℕ) (earlier : List ℕ) (next total : ℕ) (later : List ℕ) : Type 0 where
-  pub went : (depth : ℕ) → Went starred bytes depth at count earlier next total later
+  pub went : (depth : ℕ) → Read-up-to starred bytes depth at count earlier next total later
 
 -- no character stands there, whatever is open
 pub record Faulty (bytes : List ℕ) (at number place : ℕ) : Type 0 where
   pub fails : (depth : ℕ) → Fails starred bytes depth at number place
 
 -- what the reader of one character answers
-abbrev pub Single : List ℕ → (at count : ℕ) → (earlier later : List ℕ) → Part → Type 0
-Single bytes at count earlier later (Read next total) = Character bytes at count earlier next total later
-Single bytes at count earlier later (Refused number place) = Faulty bytes at number place
+abbrev pub Character-answer : List ℕ → (at count : ℕ) → (earlier later : List ℕ) → Part → Type 0
+Character-answer bytes at count earlier later (Read next total) = Character bytes at count earlier next total later
+Character-answer bytes at count earlier later (Refused number place) = Faulty bytes at number place
 
 -- what was read up to `place` can be read on up to `next`
 pub record Carries (level : Level) (bytes : List ℕ) (depth place count : ℕ) (earlier : List ℕ) (next total : ℕ)
     (later : List ℕ) : Type 0 where
-  pub on : (at first : ℕ) (start : List ℕ) → Went level bytes depth at first start place count earlier
-      → Went level bytes depth at first start next total later
+  pub on : (at first : ℕ) (start : List ℕ) → Read-up-to level bytes depth at first start place count earlier
+      → Read-up-to level bytes depth at first start next total later
 
 -- what was read up to `place` is read on over all the stars there
 pub record Starred (bytes : List ℕ) (place count : ℕ) (earlier : List ℕ) (next total : ℕ) (later : List ℕ) : Type 0
@@ -82,9 +82,9 @@ pub record Starred (bytes : List ℕ) (place count : ℕ) (earlier : List ℕ) (
     pub stops : Stops starred bytes next
 
 -- what the reader of stars answers: it refuses nothing
-abbrev pub Stars : List ℕ → (place count : ℕ) → (earlier later : List ℕ) → Part → Type 0
-Stars bytes place count earlier later (Read next total) = Starred bytes place count earlier next total later
-Stars bytes place count earlier later (Refused number place·) = ⊥
+abbrev pub Stars-answer : List ℕ → (place count : ℕ) → (earlier later : List ℕ) → Part → Type 0
+Stars-answer bytes place count earlier later (Read next total) = Starred bytes place count earlier next total later
+Stars-answer bytes place count earlier later (Refused number place·) = ⊥
 
 -- one more label
 one-more : (later front : List ℕ) (n v : ℕ) → take n later ≡ front → n < length later → take (n + 1) (set later n v)
@@ -100,7 +100,7 @@ both later middle front s t n v e f h = one-more later _ n v f h ∙ simp (e, ap
 pub character-read : {bytes : List ℕ} {at count : ℕ} (earlier : List ℕ) {later : List ℕ} {answer : Part} (next b : ℕ)
     → ((depth : ℕ) → Leads starred bytes depth at (leaf b) next) → at < next → next ≤ length bytes
     → count < length earlier → answer ≡ Read next (count + 1) → later ≡ set earlier count (label-of 1 b)
-    → Single bytes at count earlier later answer
+    → Character-answer bytes at count earlier later answer
 character-read {count = count} earlier next b leads further within room answered written =
     rw (answered, written)
     (record {
@@ -116,9 +116,9 @@ character-read {count = count} earlier next b leads further within room answered
 
 module _ {bytes : List ℕ} {depth at count : ℕ} {earlier : List ℕ} where
   -- what was read, with a star
-  pub went-star : {place n : ℕ} {later : List ℕ} → Went starred bytes depth at count earlier place n later
+  pub went-star : {place n : ℕ} {later : List ℕ} → Read-up-to starred bytes depth at count earlier place n later
       → place < length bytes → getD bytes place 0 ≡ 42 → n < length later
-      → Went starred bytes depth at count earlier (place + 1) (n + 1) (set later n 4)
+      → Read-up-to starred bytes depth at count earlier (place + 1) (n + 1) (set later n 4)
   went-star {place} {n} {later} w h e room =
       record {
         read = star (w .read);
@@ -133,7 +133,7 @@ module _ {bytes : List ℕ} {depth at count : ℕ} {earlier : List ℕ} where
   -- a closed group
   pub went-group : {next total : ℕ} {later : List ℕ}
       → Whole united bytes (depth + 1) (at + 1) count earlier next total later → next < length bytes → depth < 32
-      → at < length bytes → getD bytes at 0 ≡ 40 → Went starred bytes depth at count earlier (next + 1) total later
+      → at < length bytes → getD bytes at 0 ≡ 40 → Read-up-to starred bytes depth at count earlier (next + 1) total later
   went-group {next = next} r inside few h e =
       record {
         read = r .went .read;
@@ -146,14 +146,14 @@ module _ {bytes : List ℕ} {depth at count : ℕ} {earlier : List ℕ} where
 
   -- an operand is read when its stars are
   pub then-stars : {next total : ℕ} {middle : List ℕ} (later : List ℕ) (answer : Part)
-      → Went starred bytes depth at count earlier next total middle → Stars bytes next total middle later answer
-      → Reading starred bytes at depth count earlier later answer
+      → Read-up-to starred bytes depth at count earlier next total middle → Stars-answer bytes next total middle later answer
+      → Part-answer starred bytes at depth count earlier later answer
   then-stars later (Read last sum) w s = record { went = s .carries depth .on at count earlier w; stops = s .stops }
   then-stars later (Refused number place) w s = absurd s
 
   -- an operand is a catenation, and a catenation a union
-  pub went-joined : {next total : ℕ} {later : List ℕ} → Went starred bytes depth at count earlier next total later
-      → Went joined bytes depth at count earlier next total later
+  pub went-joined : {next total : ℕ} {later : List ℕ} → Read-up-to starred bytes depth at count earlier next total later
+      → Read-up-to joined bytes depth at count earlier next total later
   went-joined w = record {
     read = w .read;
     leads = leads-joined bytes (w .leads);
@@ -164,8 +164,8 @@ module _ {bytes : List ℕ} {depth at count : ℕ} {earlier : List ℕ} where
     bounded = w .bounded;
   }
 
-  pub went-united : {next total : ℕ} {later : List ℕ} → Went joined bytes depth at count earlier next total later
-      → Went united bytes depth at count earlier next total later
+  pub went-united : {next total : ℕ} {later : List ℕ} → Read-up-to joined bytes depth at count earlier next total later
+      → Read-up-to united bytes depth at count earlier next total later
   went-united w = record {
     read = w .read;
     leads = leads-united bytes (w .leads);
@@ -178,9 +178,9 @@ module _ {bytes : List ℕ} {depth at count : ℕ} {earlier : List ℕ} where
 
   module _ {place n : ℕ} {middle : List ℕ} {next total : ℕ} {later : List ℕ} where
     -- a catenation with one more operand
-    pub went-factor : Went joined bytes depth at count earlier place n middle → place < length bytes
+    pub went-factor : Read-up-to joined bytes depth at count earlier place n middle → place < length bytes
         → beginning (sign-of (getD bytes place 0)) ≡ true → Whole starred bytes depth place n middle next total later
-        → total < length later → Went joined bytes depth at count earlier next (total + 1) (set later total 2)
+        → total < length later → Read-up-to joined bytes depth at count earlier next (total + 1) (set later total 2)
     went-factor w h more r room =
         record {
           read = catenation (w .read) (r .went .read);
@@ -193,9 +193,9 @@ module _ {bytes : List ℕ} {depth at count : ℕ} {earlier : List ℕ} where
         }
 
     -- a union with one more branch
-    pub went-branch : Went united bytes depth at count earlier place n middle → place < length bytes
+    pub went-branch : Read-up-to united bytes depth at count earlier place n middle → place < length bytes
         → getD bytes place 0 ≡ 124 → Whole joined bytes depth (place + 1) n middle next total later
-        → total < length later → Went united bytes depth at count earlier next (total + 1) (set later total 3)
+        → total < length later → Read-up-to united bytes depth at count earlier next (total + 1) (set later total 3)
     went-branch w h e r room =
         record {
           read = union (w .read) (r .went .read);

@@ -1,7 +1,7 @@
 -- The table of refusals, as a scanner that takes one byte after the other and gives the tree or the first fault.
 -- Assumes nothing.
 use Prim.Native.Nat.{ℕ, _+_}
-use mathlib.Core.Bool.{Bool, true, false}
+use mathlib.Core.Bool.{Bool, true, false, cond}
 use mathlib.Core.Option.{Option, none, some}
 use mathlib.Core.List.{List, [], _∷_}
 use lib.ListN.{length}
@@ -61,14 +61,10 @@ next-factor before t = record { unions = before .unions; factors = some (catenat
 abbrev pub Onward : Type 0
 Onward = Phase → Before → List Group → Outcome
 
-abbrev pub pick-outcome : Bool → Outcome → Outcome → Outcome
-pick-outcome true a b = a
-pick-outcome false a b = b
-
 -- an operand is due and the byte b stands at the place: 3 at a `|`, `*` or `)`; 6 at a `(` that would open a 33rd group
 abbrev pub operand : Sign → ℕ → ℕ → Onward → Before → List Group → Outcome
 operand opening b place on before groups =
-    pick-outcome (ltb (length groups) 32)
+    cond (ltb (length groups) 32)
     (on due nothing (record { place = place; outside = before } ∷ groups))
     (refused 6 place)
 operand closing b place on before groups = refused 3 place
@@ -95,7 +91,7 @@ follow plain b t place on before groups = operand plain b place on (next-factor 
 abbrev pub byte-at : ℕ → ℕ → Phase → Onward → Before → List Group → Outcome
 byte-at b place due on before groups = operand (sign-of b) b place on before groups
 byte-at b place (escaping begin) on before groups =
-    pick-outcome (special (sign-of b)) (on (after (leaf b)) before groups) (refused 7 begin)
+    cond (special (sign-of b)) (on (after (leaf b)) before groups) (refused 7 begin)
 byte-at b place (after t) on before groups = follow (sign-of b) b t place on before groups
 
 -- the end of the expression: 3 where an operand is due, 7 after a `\`, 4 with a group open
@@ -114,4 +110,4 @@ scan (b ∷ rest) place phase before groups = byte-at b place phase (scan rest (
 -- or its tree
 unfoldable pub scanned : List ℕ → Outcome
 scanned [] = refused 1 0
-scanned (b ∷ rest) = pick-outcome (ltb 1024 (length (b ∷ rest))) (refused 2 1024) (scan (b ∷ rest) 0 due nothing [])
+scanned (b ∷ rest) = cond (ltb 1024 (length (b ∷ rest))) (refused 2 1024) (scan (b ∷ rest) 0 due nothing [])

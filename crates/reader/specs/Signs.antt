@@ -2,10 +2,10 @@
 -- Assumes nothing.
 use Prim.Native.Nat.{ℕ}
 use mathlib.Core.Path.{_≡_, refl}
-use mathlib.Core.Bool.{Bool, true, false}
+use mathlib.Core.Bool.{Bool, true, false, cond}
 use lib.Dec.{eqb}
 use borrow.Author.Tests.{eqb-true}
-use Rattle.reader.specs.Bytes.{Sign, opening, closing, bar, asterisk, backslash, plain, pick-sign, sign-of}
+use Rattle.reader.specs.Bytes.{Sign, opening, closing, bar, asterisk, backslash, plain, sign-of}
 
 -- the byte that a special sign belongs to
 abbrev pub Means : ℕ → Sign → Type 0
@@ -17,7 +17,7 @@ Means b backslash = b ≡ 92
 Means b plain = Unit {0}
 
 -- what holds of the first sign where the test passes, and of the other, holds of the one picked
-picked : (P : Sign → Type 0) (test : Bool) (s r : Sign) → (test ≡ true → P s) → P r → P (pick-sign test s r)
+picked : (P : Sign → Type 0) (test : Bool) (s r : Sign) → (test ≡ true → P s) → P r → P (cond test s r)
 picked P true s r first other = first refl
 picked P false s r first other = other
 

@@ -3,7 +3,7 @@
 -- Assumes nothing.
 use Prim.Native.Nat.{ℕ, _+_, _<_}
 use mathlib.Core.Path.{_≡_, refl}
-use mathlib.Core.Bool.{Bool, true, false}
+use mathlib.Core.Bool.{Bool, true, false, cond}
 use mathlib.Core.Option.{Option, none, some}
 use mathlib.Core.List.{List, [], _∷_}
 use native.Mathlib.Numerals.{add-one}
@@ -32,7 +32,6 @@ use Rattle.reader.specs.Scanner.{
   next-union,
   next-factor as with-factor,
   Onward,
-  pick-outcome,
   operand,
   closed,
   follow,
@@ -44,7 +43,7 @@ use Rattle.reader.specs.Grammar.{
   starred,
   joined,
   united,
-  Reads,
+  Spells,
   Written,
   itself,
   escaped,
@@ -60,64 +59,64 @@ use Rattle.reader.specs.Grammar.{
 -- the union collected: the bytes hold it up to a `|` and go on with `between`, or nothing is collected
 abbrev pub Branches : ℕ → List ℕ → List ℕ → Option (Tree Leaf) → Type 0
 Branches depth bytes between none = bytes ≡ between
-Branches depth bytes between (some s) = Reads depth united bytes (124 ∷ between) s
+Branches depth bytes between (some s) = Spells depth united bytes (124 ∷ between) s
 
 -- the catenation collected: the bytes hold it and go on with the rest, or nothing is collected
 abbrev pub Factors : ℕ → List ℕ → List ℕ → Option (Tree Leaf) → Type 0
 Factors depth between rest none = between ≡ rest
-Factors depth between rest (some s) = Reads depth joined between rest s
+Factors depth between rest (some s) = Spells depth joined between rest s
 
 -- what stands before the rest, within the group that holds it, is already read
-pub record Within (depth : ℕ) (bytes rest : List ℕ) (before : Before) : Type 0 where
+pub record Read-before (depth : ℕ) (bytes rest : List ℕ) (before : Before) : Type 0 where
   pub between : List ℕ
   pub branches : Branches depth bytes between (before .unions)
   pub factors : Factors depth between rest (before .factors)
 
 -- what stands before each open group's inside is already read: `inside` is where the innermost one's begins
-pub data Around (whole : List ℕ) : List Group → List ℕ → Type 0 where
-  outermost : Around whole [] whole
-  in-group : {g : Group} {groups : List Group} {outer inside : List ℕ} → length groups < 32 → Around whole groups outer
-      → Within (length groups) outer (40 ∷ inside) (g .outside) → Around whole (g ∷ groups) inside
+pub data Read-around (whole : List ℕ) : List Group → List ℕ → Type 0 where
+  outermost : Read-around whole [] whole
+  in-group : {g : Group} {groups : List Group} {outer inside : List ℕ} → length groups < 32 → Read-around whole groups outer
+      → Read-before (length groups) outer (40 ∷ inside) (g .outside) → Read-around whole (g ∷ groups) inside
 
 -- what the scanner's state says of the bytes before the rest, by its phase: where an operand is due, after a `\`, after
 -- an operand
-pub data Stands (whole : List ℕ) : List ℕ → Phase → Before → List Group → Type 0 where
-  at-operand : {inside rest : List ℕ} {before : Before} {groups : List Group} → Around whole groups inside
-      → Within (length groups) inside rest before → Stands whole rest due before groups
-  at-escape : {place : ℕ} {inside rest : List ℕ} {before : Before} {groups : List Group} → Around whole groups inside
-      → Within (length groups) inside (92 ∷ rest) before → Stands whole rest (escaping place) before groups
+pub data Read-so-far (whole : List ℕ) : List ℕ → Phase → Before → List Group → Type 0 where
+  at-operand : {inside rest : List ℕ} {before : Before} {groups : List Group} → Read-around whole groups inside
+      → Read-before (length groups) inside rest before → Read-so-far whole rest due before groups
+  at-escape : {place : ℕ} {inside rest : List ℕ} {before : Before} {groups : List Group} → Read-around whole groups inside
+      → Read-before (length groups) inside (92 ∷ rest) before → Read-so-far whole rest (escaping place) before groups
   past-operand : {inside from rest : List ℕ} {before : Before} {groups : List Group} {t : Tree Leaf}
-      → Around whole groups inside → Within (length groups) inside from before
-      → Reads (length groups) starred from rest t → Stands whole rest (after t) before groups
+      → Read-around whole groups inside → Read-before (length groups) inside from before
+      → Spells (length groups) starred from rest t → Read-so-far whole rest (after t) before groups
 
 -- nothing is read yet
-started : {depth : ℕ} {bytes : List ℕ} → Within depth bytes bytes nothing
+started : {depth : ℕ} {bytes : List ℕ} → Read-before depth bytes bytes nothing
 started {bytes = bytes} = record { between = bytes; branches = refl; factors = refl }
 
 -- one more factor makes the catenation
 one-more-factor : {depth : ℕ} {between from rest : List ℕ} {t : Tree Leaf} (collected : Option (Tree Leaf))
-    → Factors depth between from collected → Reads depth starred from rest t
-    → Reads depth joined between rest (catenated collected t)
+    → Factors depth between from collected → Spells depth starred from rest t
+    → Spells depth joined between rest (catenated collected t)
 one-more-factor none e r = rw e (one-factor r)
 one-more-factor (some s) q r = next-factor q r
 
 -- one more branch makes the union
 one-more-branch : {depth : ℕ} {bytes between rest : List ℕ} {t : Tree Leaf} (collected : Option (Tree Leaf))
-    → Branches depth bytes between collected → Reads depth joined between rest t
-    → Reads depth united bytes rest (branched collected t)
+    → Branches depth bytes between collected → Spells depth joined between rest t
+    → Spells depth united bytes rest (branched collected t)
 one-more-branch none e r = rw e (one-branch r)
 one-more-branch (some s) q r = next-branch q r
 
 -- the last operand makes the whole expression of a group
-complete : {depth : ℕ} {bytes from rest : List ℕ} {before : Before} {t : Tree Leaf} → Within depth bytes from before
-    → Reads depth starred from rest t → Reads depth united bytes rest (finished before t)
+complete : {depth : ℕ} {bytes from rest : List ℕ} {before : Before} {t : Tree Leaf} → Read-before depth bytes from before
+    → Spells depth starred from rest t → Spells depth united bytes rest (finished before t)
 complete {before = before} w r =
     one-more-branch (before .unions) (w .branches) (one-more-factor (before .factors) (w .factors) r)
 
 module _ {whole rest : List ℕ} {before : Before} {groups : List Group} where
   -- where another operand begins, the one read joins the catenation
-  joins : {t : Tree Leaf} → Stands whole rest (after t) before groups
-      → Stands whole rest due (with-factor before t) groups
+  joins : {t : Tree Leaf} → Read-so-far whole rest (after t) before groups
+      → Read-so-far whole rest due (with-factor before t) groups
   joins (past-operand around w r) =
       at-operand around
       (record {
@@ -128,39 +127,39 @@ module _ {whole rest : List ℕ} {before : Before} {groups : List Group} where
       })
 
   -- a `*` makes a star of the operand
-  stars : {t : Tree Leaf} → Stands whole (42 ∷ rest) (after t) before groups
-      → Stands whole rest (after (star t)) before groups
+  stars : {t : Tree Leaf} → Read-so-far whole (42 ∷ rest) (after t) before groups
+      → Read-so-far whole rest (after (star t)) before groups
   stars (past-operand around w r) = past-operand around w (one-star r)
 
   -- a `|` ends the branch
-  ends-branch : {t : Tree Leaf} → Stands whole (124 ∷ rest) (after t) before groups
-      → Stands whole rest due (next-union before t) groups
+  ends-branch : {t : Tree Leaf} → Read-so-far whole (124 ∷ rest) (after t) before groups
+      → Read-so-far whole rest due (next-union before t) groups
   ends-branch (past-operand around w r) =
       at-operand around (record { between = rest; branches = complete w r; factors = refl })
 
   -- a `)` ends the group: what it held is an operand of what stands around it
-  ends-group : {t : Tree Leaf} {g : Group} → Stands whole (41 ∷ rest) (after t) before (g ∷ groups)
-      → Stands whole rest (after (finished before t)) (g .outside) groups
+  ends-group : {t : Tree Leaf} {g : Group} → Read-so-far whole (41 ∷ rest) (after t) before (g ∷ groups)
+      → Read-so-far whole rest (after (finished before t)) (g .outside) groups
   ends-group (past-operand (in-group h around out) w r) =
       past-operand around out (no-star (group h (rw (← (add-one (length groups))) at (complete w r))))
 
   -- a `(` opens a group
-  opens-group : {place : ℕ} → length groups < 32 → Stands whole (40 ∷ rest) due before groups
-      → Stands whole rest due nothing (record { place = place; outside = before } ∷ groups)
+  opens-group : {place : ℕ} → length groups < 32 → Read-so-far whole (40 ∷ rest) due before groups
+      → Read-so-far whole rest due nothing (record { place = place; outside = before } ∷ groups)
   opens-group h (at-operand around w) = at-operand (in-group h around w) started
 
   -- a `\` stands before the operand
-  escapes : {place : ℕ} → Stands whole (92 ∷ rest) due before groups → Stands whole rest (escaping place) before groups
+  escapes : {place : ℕ} → Read-so-far whole (92 ∷ rest) due before groups → Read-so-far whole rest (escaping place) before groups
   escapes (at-operand around w) = at-escape around w
 
   -- a special byte after a `\`
-  takes-special : {b place : ℕ} → special (sign-of b) ≡ true → Stands whole (b ∷ rest) (escaping place) before groups
-      → Stands whole rest (after (leaf b)) before groups
+  takes-special : {b place : ℕ} → special (sign-of b) ≡ true → Read-so-far whole (b ∷ rest) (escaping place) before groups
+      → Read-so-far whole rest (after (leaf b)) before groups
   takes-special p (at-escape around w) = past-operand around w (no-star (escaped p))
 
   -- a byte that stands for itself
-  takes-plain : {b : ℕ} → sign-of b ≡ plain → Stands whole (b ∷ rest) due before groups
-      → Stands whole rest (after (leaf b)) before groups
+  takes-plain : {b : ℕ} → sign-of b ≡ plain → Read-so-far whole (b ∷ rest) due before groups
+      → Read-so-far whole rest (after (leaf b)) before groups
   takes-plain p (at-operand around w) = past-operand around w (no-star (itself p))
 
 -- a refusal is no tree
@@ -169,17 +168,17 @@ no-tree e = let z : _≡_ {A = ℕ} 0 1 = cc in absurd (omega arith)
 
 -- one byte, where what follows it is sound: a state that stands goes over into one that stands, or the byte is refused
 module _ (whole rest : List ℕ) (t : Tree Leaf) (on : Onward)
-    (sound : (phase : Phase) (before : Before) (groups : List Group) → Stands whole rest phase before groups
+    (sound : (phase : Phase) (before : Before) (groups : List Group) → Read-so-far whole rest phase before groups
     → on phase before groups ≡ tree t → Written whole t) where
   -- a test that has to pass
   only-true : (test : Bool) (first : Outcome) (number place : ℕ) → (test ≡ true → first ≡ tree t → Written whole t)
-      → pick-outcome test first (refused number place) ≡ tree t → Written whole t
+      → cond test first (refused number place) ≡ tree t → Written whole t
   only-true true first number place k e = k refl e
   only-true false first number place k e = no-tree e
 
   -- where an operand is due
   operand-sound : (s : Sign) (b place : ℕ) (before : Before) (groups : List Group) → sign-of b ≡ s → Means b s
-      → Stands whole (b ∷ rest) due before groups → operand s b place on before groups ≡ tree t → Written whole t
+      → Read-so-far whole (b ∷ rest) due before groups → operand s b place on before groups ≡ tree t → Written whole t
   operand-sound opening b place before groups p m st e =
       only-true (ltb (length groups) 32) _ 6 place
       (λ h. sound due nothing _ (opens-group (ltb-true (length groups) 32 h) (rw m at st))) e
@@ -191,14 +190,14 @@ module _ (whole rest : List ℕ) (t : Tree Leaf) (on : Onward)
 
   -- at a `)` after an operand
   closed-sound : (s : Tree Leaf) (place : ℕ) (before : Before) (groups : List Group)
-      → Stands whole (41 ∷ rest) (after s) before groups → closed s place on before groups ≡ tree t → Written whole t
+      → Read-so-far whole (41 ∷ rest) (after s) before groups → closed s place on before groups ≡ tree t → Written whole t
   closed-sound s place before [] st e = no-tree e
   closed-sound s place before (g ∷ groups) st e = sound (after (finished before s)) (g .outside) groups (ends-group st)
       e
 
   -- after an operand
   follow-sound : (sign : Sign) (b : ℕ) (s : Tree Leaf) (place : ℕ) (before : Before) (groups : List Group)
-      → sign-of b ≡ sign → Means b sign → Stands whole (b ∷ rest) (after s) before groups
+      → sign-of b ≡ sign → Means b sign → Read-so-far whole (b ∷ rest) (after s) before groups
       → follow sign b s place on before groups ≡ tree t → Written whole t
   follow-sound asterisk b s place before groups p m st e = sound (after (star s)) before groups (stars (rw m at st)) e
   follow-sound bar b s place before groups p m st e =
@@ -213,7 +212,7 @@ module _ (whole rest : List ℕ) (t : Tree Leaf) (on : Onward)
 
   -- in each phase
   byte-sound : (b place : ℕ) (phase : Phase) (before : Before) (groups : List Group)
-      → Stands whole (b ∷ rest) phase before groups → byte-at b place phase on before groups ≡ tree t → Written whole t
+      → Read-so-far whole (b ∷ rest) phase before groups → byte-at b place phase on before groups ≡ tree t → Written whole t
   byte-sound b place due before groups st e = operand-sound (sign-of b) b place before groups refl (sign-means b) st e
   byte-sound b place (escaping begin) before groups st e =
       only-true (special (sign-of b)) _ 7 begin (λ p. sound (after (leaf b)) before groups (takes-special p st)) e
@@ -222,7 +221,7 @@ module _ (whole rest : List ℕ) (t : Tree Leaf) (on : Onward)
 
 -- at the end only an operand with no group open gives a tree
 end-sound : (whole : List ℕ) (t : Tree Leaf) (place : ℕ) (phase : Phase) (before : Before) (groups : List Group)
-    → Stands whole [] phase before groups → end-at place phase before groups ≡ tree t → Written whole t
+    → Read-so-far whole [] phase before groups → end-at place phase before groups ≡ tree t → Written whole t
 end-sound whole t place due before groups st e = no-tree e
 end-sound whole t place (escaping begin) before groups st e = no-tree e
 end-sound whole t place (after s) before [] (past-operand outermost w r) e = let same : finished before s ≡ t =
@@ -231,7 +230,7 @@ end-sound whole t place (after s) before (g ∷ groups) st e = no-tree e
 
 -- by induction on the bytes that are left
 pub scan-sound : (whole : List ℕ) (t : Tree Leaf) (rest : List ℕ) (place : ℕ) (phase : Phase) (before : Before)
-    (groups : List Group) → Stands whole rest phase before groups → scan rest place phase before groups ≡ tree t
+    (groups : List Group) → Read-so-far whole rest phase before groups → scan rest place phase before groups ≡ tree t
     → Written whole t
 unfolding scan
 scan-sound whole t [] place = end-sound whole t place

@@ -18,7 +18,7 @@ use Rattle.reader.specs.declared.answer.Answer.{Answer}
 use Rattle.reader.specs.declared.answer.Answer.the-variants.{Read, Refused}
 
 -- of whatever tree the labels are, the answer is that tree's, and so is what the buffer holds afterwards
-pub record Stored (ls before after : List ℕ) (r : Answer) : Type 0 where
+pub record Store-answer (ls before after : List ℕ) (r : Answer) : Type 0 where
   pub answer : (t : Tree Leaf) → ls ≡ labels t → numbers r ≡ answer-for (tree t) (length before)
   pub buffer : (t : Tree Leaf) → ls ≡ labels t → after ≡ buffer-for (tree t) before
 
@@ -33,10 +33,10 @@ module _ (ls before : List ℕ) (n : ℕ) (count : (t : Tree Leaf) → ls ≡ la
   long : (t : Tree Leaf) → ls ≡ labels t → length ls ≡ nodes t
   long t e = ap length e ∙ length-labels t
 
-  pub stored-many : 128 < n → Stored ls before before (Refused 8 0)
+  pub stored-many : 128 < n → Store-answer ls before before (Refused 8 0)
   stored-many h = record { answer = λ t e. rw (many t e h); buffer = λ t e. rw (many t e h) }
 
-  pub stored-short : n ≤ 128 → length before < 8 * length ls → Stored ls before before (Refused 9 0)
+  pub stored-short : n ≤ 128 → length before < 8 * length ls → Store-answer ls before before (Refused 9 0)
   stored-short h short =
       record {
         answer = λ t e. rw (not-many t e h, lt-ltb (length before) (8 * nodes t) (omega (arith, long t e)));
@@ -45,7 +45,7 @@ module _ (ls before : List ℕ) (n : ℕ) (count : (t : Tree Leaf) → ls ≡ la
 
   pub stored-whole : {after : List ℕ} → n ≤ 128 → 8 * length ls ≤ length before
       → ((t : Tree Leaf) → ls ≡ labels t → after ≡ encode t ++ drop (8 * nodes t) before)
-      → Stored ls before after (Read (length ls) n)
+      → Store-answer ls before after (Read (length ls) n)
   stored-whole h room wrote =
       record {
         answer = λ t e. rw (

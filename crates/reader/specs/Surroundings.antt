@@ -1,11 +1,11 @@
--- Reading in all surroundings: scanning on from a place with an operand due is scanning on from a later place after a
+-- Part-answer in all surroundings: scanning on from a place with an operand due is scanning on from a later place after a
 -- tree, or a refusal.
 -- Assumes nothing.
 use Prim.Native.Nat.{ℕ, suc, _+_, _<_, _≤_}
 use native.Mathlib.Omega.{arith}
 use native.Mathlib.Numerals.{add-one}
 use mathlib.Core.Path.{_≡_, refl, ap, sym, _∙_}
-use mathlib.Core.Bool.{Bool, true, false}
+use mathlib.Core.Bool.{Bool, true, false, cond}
 use mathlib.Core.Option.{Option, none, some}
 use mathlib.Core.List.{List, [], _∷_}
 use lib.ListN.{length, drop, getD}
@@ -29,7 +29,6 @@ use Rattle.reader.specs.Scanner.{
   next-union,
   next-factor,
   Onward,
-  pick-outcome,
   operand,
   follow,
   byte-at,
@@ -159,7 +158,7 @@ module _ (bytes : List ℕ) where
         onward = λ before groups d.
             at-due at before groups (omega arith) (ap sign-of e) ∙ from-byte (at + 1) (escaping at) before groups h
             ∙ ap (λ (b : Bool).
-            pick-outcome b (from bytes (at + 1 + 1) (after (leaf (byte (at + 1)))) before groups) (refused 7 at)) s;
+            cond b (from bytes (at + 1 + 1) (after (leaf (byte (at + 1)))) before groups) (refused 7 at)) s;
       }
 
   -- every other byte after a `\`, and the end, is a fault
@@ -170,7 +169,7 @@ module _ (bytes : List ℕ) where
         onward = λ before groups d.
             at-due at before groups (omega arith) (ap sign-of e) ∙ from-byte (at + 1) (escaping at) before groups h
             ∙ ap (λ (b : Bool).
-            pick-outcome b (from bytes (at + 1 + 1) (after (leaf (byte (at + 1)))) before groups) (refused 7 at)) s;
+            cond b (from bytes (at + 1 + 1) (after (leaf (byte (at + 1)))) before groups) (refused 7 at)) s;
       }
 
   pub fails-last : (depth at : ℕ) → at + 1 ≡ length bytes → byte at ≡ 92 → Fails starred bytes depth at 7 at
@@ -209,7 +208,7 @@ module _ (bytes : List ℕ) where
       ≡ from bytes (at + 1) due nothing (opened at before ∷ groups)
   opens {depth} {at} before groups d few h e =
       at-due at before groups h (ap sign-of e)
-      ∙ ap (λ (b : Bool). pick-outcome b (from bytes (at + 1) due nothing (opened at before ∷ groups)) (refused 6 at))
+      ∙ ap (λ (b : Bool). cond b (from bytes (at + 1) due nothing (opened at before ∷ groups)) (refused 6 at))
       (lt-ltb (length groups) 32 (omega arith))
 
   length-opened : {depth : ℕ} (group : Group) (groups : List Group) → length groups ≡ depth
@@ -222,7 +221,7 @@ module _ (bytes : List ℕ) where
       record {
         onward = λ before groups d.
             at-due at before groups h (ap sign-of e)
-            ∙ ap (λ (b : Bool). pick-outcome b (from bytes (at + 1) due nothing (opened at before ∷ groups))
+            ∙ ap (λ (b : Bool). cond b (from bytes (at + 1) due nothing (opened at before ∷ groups))
             (refused 6 at)) (le-ltb (length groups) 32 (omega arith));
       }
 

@@ -3,7 +3,7 @@
 use Prim.Native.Nat.{ℕ, _*_, _<_, _≤_}
 use native.Mathlib.Omega.{arith}
 use mathlib.Core.Path.{_≡_, refl, ap}
-use mathlib.Core.Bool.{Bool, true, false}
+use mathlib.Core.Bool.{Bool, true, false, cond}
 use mathlib.Core.List.{List}
 use mathlib.Core.Logic.{_↔_}
 use lib.ListN.{length}
@@ -17,10 +17,10 @@ use Rattle.tree.specs.Least.{too-many-exactly}
 use Rattle.reader.specs.Grammar.{Written}
 use Rattle.reader.specs.Scanner.{scanned, tree}
 use Rattle.reader.specs.Agree.{scanned-exactly}
-use Rattle.reader.specs.Answer.{Numbers, refusing, reading, pick, answer-for, answered}
+use Rattle.reader.specs.Answer.{Numbers, refusing, reading, answer-for, answered}
 
 -- of the answers to a tree, only the one for too many pieces has the number 8
-eight-first : (t : Tree Leaf) (many short : Bool) → pick many (refusing 8 0) (pick short (refusing 9 0) (reading t))
+eight-first : (t : Tree Leaf) (many short : Bool) → cond many (refusing 8 0) (cond short (refusing 9 0) (reading t))
     ≡ refusing 8 0 → many ≡ true
 eight-first t true short e = refl
 eight-first t false true e = absurd (omega (arith, ap (λ (n : Numbers). n .refusal) e))
@@ -30,7 +30,7 @@ eight-first t false false e = absurd (omega (arith, ap (λ (n : Numbers). n .ref
 eight-tree : (t : Tree Leaf) (room : ℕ) → (answer-for (tree t) room ≡ refusing 8 0) ↔ (128 < piece-count t)
 eight-tree t room = (
   λ e. ltb-true 128 (piece-count t) (eight-first t (ltb 128 (piece-count t)) (ltb room (8 * nodes t)) e),
-  λ many. ap (λ (b : Bool). pick b (refusing 8 0) (pick (ltb room (8 * nodes t)) (refusing 9 0) (reading t)))
+  λ many. ap (λ (b : Bool). cond b (refusing 8 0) (cond (ltb room (8 * nodes t)) (refusing 9 0) (reading t)))
       (lt-ltb 128 (piece-count t) many),
 )
 

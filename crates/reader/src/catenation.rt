@@ -2,12 +2,12 @@
 use crate::operand::operand;
 use crate::part::Part;
 ghost use Rattle.reader.specs.Grammar.{joined};
-ghost use Rattle.reader.specs.Reading.{Room, Reading};
+ghost use Rattle.reader.specs.Reading.{Scratch-room, Part-answer};
 
-// Reads a catenation from a place on.
+// Spells a catenation from a place on.
 pub fn catenation(expr: &[u8], at: usize, depth: usize, labels: &mut [u16], count: usize) -> Part
-    requires { ⌜ Room (now expr) at depth count (now labels) ⌝ }
-    ensures { λ r. ⌜ Reading joined (now (expr .entry)) at depth count (now (labels .entry)) (now (labels .exit)) r ⌝ }
+    requires { ⌜ Scratch-room (now expr) at depth count (now labels) ⌝ }
+    ensures { λ r. ⌜ Part-answer joined (now (expr .entry)) at depth count (now (labels .entry)) (now (labels .exit)) r ⌝ }
 {
     let first = operand(expr, at, depth, labels, count);
     let Part::Read { next, count } = first else {

@@ -5,7 +5,7 @@ ghost use Prim.Native.Nat.{_+_, _<_};
 ghost use lib.ListN.{length, getD, set};
 ghost use Rattle.tree.specs.Records.{label-of};
 ghost use Rattle.reader.specs.Bytes.{sign-of, special};
-ghost use Rattle.reader.specs.Reading.{Room, Single};
+ghost use Rattle.reader.specs.Reading.{Scratch-room, Character-answer};
 
 // Whether a byte is one of the five special ones.
 fn is_special(byte: u8) -> bool
@@ -39,13 +39,13 @@ fn leaf(byte: u8, next: usize, labels: &mut [u16], count: usize) -> Part
     }
 }
 
-// Reads the character at a place: 3 where a `|`, `*` or `)` stands there, 7 at a `\` that is last or not before a
+// Spells the character at a place: 3 where a `|`, `*` or `)` stands there, 7 at a `\` that is last or not before a
 // special byte.
 pub fn character(expr: &[u8], at: usize, labels: &mut [u16], count: usize) -> Part
     requires within { ⌜ at < length (now expr) ⌝ }
     requires character { ⌜ (getD (now expr) at 0 ≡ 40 → ⊥) ⌝ }
-    requires room { ⌜ Room (now expr) at 0 count (now labels) ⌝ }
-    ensures { λ r. ⌜ Single (now (expr .entry)) at count (now (labels .entry)) (now (labels .exit)) r ⌝ }
+    requires room { ⌜ Scratch-room (now expr) at 0 count (now labels) ⌝ }
+    ensures { λ r. ⌜ Character-answer (now (expr .entry)) at count (now (labels .entry)) (now (labels .exit)) r ⌝ }
 {
     let byte = expr[at];
     if byte == b'\\' {

@@ -3,12 +3,12 @@ use crate::part::Part;
 use crate::union::union;
 ghost use Prim.Native.Nat.{_≤_};
 ghost use lib.ListN.{length};
-ghost use Rattle.reader.specs.Expression.{Expression};
+ghost use Rattle.reader.specs.Expression.{Expression-answer};
 
 // Writes the labels of an expression's tree: refuses by 1, 2, or the first fault from left to right.
 pub fn expression(expr: &[u8], labels: &mut [u16]) -> Part
     requires { ⌜ 2047 ≤ length (now labels) ⌝ }
-    ensures { λ r. ⌜ Expression (now (expr .entry)) (now (labels .exit)) r ⌝ }
+    ensures { λ r. ⌜ Expression-answer (now (expr .entry)) (now (labels .exit)) r ⌝ }
 {
     if expr.len() == 0 {
         return Part::Refused {

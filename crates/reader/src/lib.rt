@@ -1,4 +1,4 @@
-// Reads an expression into tree records, or refuses it by number and place.
+// Spells an expression into tree records, or refuses it by number and place.
 mod answer;
 mod catenation;
 mod character;
@@ -15,13 +15,13 @@ use part::Part;
 use store::store;
 ghost use mathlib.Core.Path.{_≡_};
 ghost use lib.ListN.{length};
-ghost use Rattle.reader.specs.Answer.{numbers, answered, stored};
+ghost use Rattle.reader.specs.Answer.{numbers, answered, records-after};
 
-// Reads an expression and writes its tree's records. The labels are collected apart, so that nothing is written before
+// Spells an expression and writes its tree's records. The labels are collected apart, so that nothing is written before
 // the answer is sure.
 pub fn read(expr: &[u8], records: &mut [u8]) -> Answer
     ensures answer { λ r. ⌜ numbers r ≡ answered (now (expr .entry)) (length (now (records .entry))) ⌝ }
-    ensures buffer { λ r. ⌜ now (records .exit) ≡ stored (now (expr .entry)) (now (records .entry)) ⌝ }
+    ensures buffer { λ r. ⌜ now (records .exit) ≡ records-after (now (expr .entry)) (now (records .entry)) ⌝ }
 {
     let mut labels = [0u16; 2047];
     let whole = expression(expr, &mut labels);

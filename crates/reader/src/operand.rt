@@ -4,12 +4,12 @@ use crate::part::Part;
 use crate::stars::stars;
 use crate::union::union;
 ghost use Rattle.reader.specs.Grammar.{starred};
-ghost use Rattle.reader.specs.Reading.{Room, Reading};
+ghost use Rattle.reader.specs.Reading.{Scratch-room, Part-answer};
 
-// Reads the operand at a place: 3 where none stands there, 4 and 6 at a `(`, and 7.
+// Spells the operand at a place: 3 where none stands there, 4 and 6 at a `(`, and 7.
 pub fn operand(expr: &[u8], at: usize, depth: usize, labels: &mut [u16], count: usize) -> Part
-    requires { ⌜ Room (now expr) at depth count (now labels) ⌝ }
-    ensures { λ r. ⌜ Reading starred (now (expr .entry)) at depth count (now (labels .entry)) (now (labels .exit)) r ⌝ }
+    requires { ⌜ Scratch-room (now expr) at depth count (now labels) ⌝ }
+    ensures { λ r. ⌜ Part-answer starred (now (expr .entry)) at depth count (now (labels .entry)) (now (labels .exit)) r ⌝ }
 {
     if at == expr.len() {
         return Part::Refused {

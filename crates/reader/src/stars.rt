@@ -2,13 +2,13 @@
 use crate::part::Part;
 ghost use Prim.Native.Nat.{_+_, _≤_};
 ghost use lib.ListN.{length};
-ghost use Rattle.reader.specs.Reading.{Stars};
+ghost use Rattle.reader.specs.Reading.{Stars-answer};
 
-// Reads every `*` from a place on, and writes a label for each.
+// Spells every `*` from a place on, and writes a label for each.
 pub fn stars(expr: &[u8], at: usize, labels: &mut [u16], count: usize) -> Part
     requires within { ⌜ at ≤ length (now expr) ⌝ }
     requires room { ⌜ count + length (now expr) ≤ length (now labels) + at ⌝ }
-    ensures { λ r. ⌜ Stars (now (expr .entry)) at count (now (labels .entry)) (now (labels .exit)) r ⌝ }
+    ensures { λ r. ⌜ Stars-answer (now (expr .entry)) at count (now (labels .entry)) (now (labels .exit)) r ⌝ }
 {
     let mut place = at;
     let mut n = count;

@@ -5,7 +5,8 @@ use mathlib.Core.Path.{sym, ap, _∙_}
 use native.Mathlib.Omega.{arith}
 use lib.ListN.{take, replicate}
 use lib.Seq.{length-take-le}
-use Rattle.reader.specs.Answer.{numbers, Kept, kept}
+use Rattle.reader.specs.Answer.{numbers}
+use Rattle.reader.specs.Kept.{Kept, kept}
 use Rattle.picker.specs.Report.{Told, told, read-outcome, reports-refusal, reports-texts, texts-space}
 use Rattle.picker.specs.Room.{refusal-line-length}
 use borrow.Author.Needs.{needs}

@@ -1,4 +1,4 @@
--- `reader::read` meets its contract: the scratch holds the labels of the expression's tree, and they are stored; or the
+-- `reader::read` meets its contract: the scratch holds the labels of the expression's tree, and they are records-after; or the
 -- refusal is handed on.
 -- Assumes nothing.
 use Prim.Native.Nat.{_≤_}
@@ -7,14 +7,15 @@ use native.Mathlib.Omega.{arith}
 use lib.ListN.{length}
 use lib.Seq.{length-take-le}
 use borrow.Author.Needs.{needs}
-use Rattle.reader.specs.Expression.{Accepted}
+use Rattle.reader.specs.Expression.{Expression-read}
 use Rattle.reader.proofs.read.Statement.{statement}
 use Rattle.reader.proofs.read.Tie as tie
 
 -- the expression has a tree, whose labels stand in the scratch
 tree-read : (c : tie.After-known-told2)
-    → Accepted (c .before .before .before .before .before .before .before .before .args .expr .now)
-    (c .before .before .before .before .expression .last .1 .0) (c .before .whole2 .given .0 .1 .0)
+    → let called = c .before .before .before .before in
+    Expression-read (called .before .before .before .before .args .expr .now) (called .expression .last .1 .0)
+    (c .before .whole2 .given .0 .1 .0)
 tree-read c = rw (c .before .whole2 .given .1) at (c .before .before .before .before .expression .ensures)
 
 slice-aggregate-expression : tie.Need-slice-aggregate-expression

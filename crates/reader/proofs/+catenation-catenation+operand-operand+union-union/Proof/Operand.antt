@@ -5,7 +5,7 @@ use native.Mathlib.Omega.{arith}
 use borrow.Author.Needs.{needs}
 use Rattle.reader.specs.Grammar.{starred, united}
 use Rattle.reader.specs.Surroundings.{fails-end, fails-deep, fails-group, fails-open}
-use Rattle.reader.specs.Reading.{Whole, Went, went-group, then-stars}
+use Rattle.reader.specs.Reading.{Whole, Read-up-to, went-group, then-stars}
 use Rattle.reader.proofs.operand.operand.Reads as operand
 use Rattle.reader.proofs.+catenation-catenation+operand-operand+union-union.Lts-operand-operand as lts
 use Rattle.reader.proofs.+catenation-catenation+operand-operand+union-union.Proof.Base.{
@@ -13,28 +13,55 @@ use Rattle.reader.proofs.+catenation-catenation+operand-operand+union-u
   operand-claims,
 }
 
+-- the places that the needs go back to: the entry, the `(`, after the union in the group, after the character
+abbrev Start : ℕ → Type 0
+Start t = lts.Start (operand-claims t) (operand-at t) operand.Post
+
+abbrev At-group : ℕ → Type 0
+At-group t = lts.Then2 (operand-claims t) (operand-at t) operand.Post
+
+abbrev After-inner : ℕ → Type 0
+After-inner t = lts.After-known-told (operand-claims t) (operand-at t) operand.Post
+
+abbrev After-single : ℕ → Type 0
+After-single t = lts.After-known-told2 (operand-claims t) (operand-at t) operand.Post
+
+abbrev start-of : (t : ℕ) → At-group t → Start t
+start-of t c = c .before .before .before .before .before
+
+abbrev group-of : (t : ℕ) → After-inner t → At-group t
+group-of t c = c .before .before .before .before .before .before .before .before
+
+abbrev single-start : (t : ℕ) → After-single t → Start t
+single-start t c = c .before .before .before .before .before .before .before .before .before .before .before .before
+
 -- the union in the group was read
-inner-read : (t : ℕ) (c : lts.After-known-told (operand-claims t) (operand-at t) operand.Post)
-    → let s = c .before .before .before .before .before .before .before .before .before .before .before .before .before in Whole united (s .args .expr .now) (s .args .depth + 1) (s .args .at + 1) (s .args .count) (s .args .labels .now) (c .before .inner .given .0 .0) (c .before .inner .given .0 .1 .0) (c .before .before .before .before .before .union .last .1 .1 .1 .0)
+inner-read : (t : ℕ) (c : After-inner t)
+    → let s = start-of t (group-of t c) in
+    Whole united (s .args .expr .now) (s .args .depth + 1) (s .args .at + 1) (s .args .count) (s .args .labels .now)
+    (c .before .inner .given .0 .0) (c .before .inner .given .0 .1 .0)
+    (c .before .before .before .before .before .union .last .1 .1 .1 .0)
 inner-read t c = rw (c .before .inner .given .1) at (c .before .before .before .before .before .union .ensures)
 
 -- the group was read
 group-read : (t : ℕ) (c : lts.Else4 (operand-claims t) (operand-at t) operand.Post)
-    → let s = c .before .before .before .before .before .before .before .before .before .before .before .before .before .before in Went starred (s .args .expr .now) (s .args .depth) (s .args .at) (s .args .count) (s .args .labels .now) (c .before .before .inner .given .0 .0 + 1) (c .before .before .inner .given .0 .1 .0) (c .before .before .before .before .before .before .union .last .1 .1 .1 .0)
+    → let s = start-of t (group-of t (c .before)) in
+    Read-up-to starred (s .args .expr .now) (s .args .depth) (s .args .at) (s .args .count) (s .args .labels .now)
+    (c .before .before .inner .given .0 .0 + 1) (c .before .before .inner .given .0 .1 .0)
+    (c .before .before .before .before .before .before .union .last .1 .1 .1 .0)
 group-read t c =
     let r = inner-read t (c .before) in
-    went-group r (omega arith) (omega arith) (omega arith)
-    (c .before .before .before .before .before .before .before .before .before .if2 .taken)
+    went-group r (omega arith) (omega arith) (omega arith) (group-of t (c .before) .if2 .taken)
 
 -- the character was read
-single-read : (t : ℕ) (c : lts.After-known-told2 (operand-claims t) (operand-at t) operand.Post)
-    → let s = c .before .before .before .before .before .before .before .before .before .before .before .before in Went
-    starred (s .args .expr .now) (s .args .depth) (s .args .at) (s .args .count) (s .args .labels .now)
+single-read : (t : ℕ) (c : After-single t)
+    → let s = single-start t c in
+    Read-up-to starred (s .args .expr .now) (s .args .depth) (s .args .at) (s .args .count) (s .args .labels .now)
     (c .before .single .given .0 .0) (c .before .single .given .0 .1 .0)
     (c .before .before .before .before .before .character .last .1 .1 .0)
 single-read t c =
     let r = rw (c .before .single .given .1) at (c .before .before .before .before .before .character .ensures) in
-    r .went (c .before .before .before .before .before .before .before .before .before .before .before .before .args .depth)
+    r .went (single-start t c .args .depth)
 
 pub returns : (t : ℕ) → lts.Need-returns (operand-claims t) (operand-at t) operand.Post
 returns t c = let s = c .before .before .before in fails-end (s .args .expr .now) (s .args .depth) (s .args .at)
@@ -44,8 +71,8 @@ pub shared-slice-read-if2 : (t : ℕ) → lts.Need-shared-slice-read-if2 (operan
 shared-slice-read-if2 t c = search needs
 
 pub returns-2 : (t : ℕ) → lts.Need-returns-2 (operand-claims t) (operand-at t) operand.Post
-returns-2 t c = let s = c .before .before .before .before .before .before in fails-deep (s .args .expr .now)
-    (s .args .depth) (s .args .at) (omega arith) (omega arith) (c .before .if2 .taken)
+returns-2 t c = let s = start-of t (c .before) in fails-deep (s .args .expr .now) (s .args .depth) (s .args .at)
+    (omega arith) (omega arith) (c .before .if2 .taken)
 
 pub add-union : (t : ℕ) → lts.Need-add-union (operand-claims t) (operand-at t) operand.Post
 add-union t c = search needs
@@ -67,20 +94,19 @@ same-length t c = search needs
 
 pub returns-3 : (t : ℕ) → lts.Need-returns-3 (operand-claims t) (operand-at t) operand.Post
 returns-3 t c =
-    let s = c .before .before .before .before .before .before .before .before .before .before .before .before in
+    let g = c .before .before .before .before .before .before .before in
     let e = c .enum-told .given .1 in
-    rw e (fails-group (s .args .expr .now) (s .args .at) (rw e at (c .before .before .before .before .union .ensures))
-    (omega arith) (omega arith) (c .before .before .before .before .before .before .before .if2 .taken))
+    rw e (fails-group _ (start-of t g .args .at) (rw e at (c .before .before .before .before .union .ensures))
+    (omega arith) (omega arith) (g .if2 .taken))
 
 pub same-length-2 : (t : ℕ) → lts.Need-same-length-2 (operand-claims t) (operand-at t) operand.Post
 same-length-2 t c = search needs
 
 pub returns-4 : (t : ℕ) → lts.Need-returns-4 (operand-claims t) (operand-at t) operand.Post
 returns-4 t c =
-    let s = c .before .before .before .before .before .before .before .before .before .before .before .before .before .before in
-    fails-open (s .args .expr .now) (s .args .at) _ (inner-read t (c .before) .went .leads) (c .if4 .taken)
-    (omega arith) (omega arith)
-    (c .before .before .before .before .before .before .before .before .before .if2 .taken)
+    let g = group-of t (c .before) in
+    fails-open _ (start-of t g .args .at) _ (inner-read t (c .before) .went .leads) (c .if4 .taken) (omega arith)
+    (omega arith) (g .if2 .taken)
 
 pub add-stars : (t : ℕ) → lts.Need-add-stars (operand-claims t) (operand-at t) operand.Post
 add-stars t c = let r = inner-read t (c .before) in omega arith
@@ -109,10 +135,9 @@ same-length-4 t c = search needs
 
 pub returns-6 : (t : ℕ) → lts.Need-returns-6 (operand-claims t) (operand-at t) operand.Post
 returns-6 t c =
-    let s = c .before .before .before .before .before .before .before .before .before .before .before in
     let e = c .enum-told2 .given .1 in
     let r = rw e at (c .before .before .before .before .character .ensures) in
-    rw e (r .fails (s .args .depth))
+    rw e (r .fails _)
 
 pub stars-requires-2 : (t : ℕ) → lts.Need-stars-requires-2 (operand-claims t) (operand-at t) operand.Post
 stars-requires-2 t c κs = let r = single-read t (c .before) in omega arith

@@ -40,13 +40,13 @@ same-length c = search needs
 
 returns-2 : tie.Need-returns-2
 returns-2 c =
-    let s = c .before .before .before .before .before .before .before .before .before .before .before .before in
-    let e = c .before .before .before .before .before .before .before .before .if1 .taken in
-    let special = sym (c .before .before .before .before .before .is-special .ensures)
-    ∙ c .before .before .before .before .if3 .taken in
+    let tested = c .before .before .before .before in
+    let escape = tested .before .before .before .before in
+    let s = escape .before .before .before .before in
+    let special = sym (tested .before .is-special .ensures) ∙ tested .if3 .taken in
     character-read (s .args .labels .now) _ _
-    (λ depth. leads-escaped (s .args .expr .now) depth (s .args .at) (omega arith) e special) (omega arith)
-    (omega arith) (omega arith) (c .before .before .leaf .ensures .0) (c .before .before .leaf .ensures .1)
+    (λ depth. leads-escaped (s .args .expr .now) depth (s .args .at) (omega arith) (escape .if1 .taken) special)
+    (omega arith) (omega arith) (omega arith) (c .before .before .leaf .ensures .0) (c .before .before .leaf .ensures .1)
 
 returns-3 : tie.Need-returns-3
 returns-3 c =
@@ -78,10 +78,9 @@ same-length-2 c = search needs
 
 returns-5 : tie.Need-returns-5
 returns-5 c =
-    let s = c .before .before .before .before .before .before .before .before .before .before in
-    let itself =
-    not-special _ (sym (c .before .before .before .before .before .is-special2 .ensures)
-    ∙ c .before .before .before .before .if4 .left) in
+    let tested = c .before .before .before .before in
+    let s = tested .before .before .before .before .before .before in
+    let itself = not-special _ (sym (tested .before .is-special2 .ensures) ∙ tested .if4 .left) in
     character-read (s .args .labels .now) _ _
     (λ depth. leads-plain (s .args .expr .now) depth (s .args .at) (s .pre .0) itself) (omega arith) (omega arith)
     (omega arith) (c .before .before .leaf2 .ensures .0) (c .before .before .leaf2 .ensures .1)

@@ -3,14 +3,14 @@
 -- Assumes nothing.
 use Prim.Native.Nat.{ℕ}
 use mathlib.Core.Path.{_≡_, refl}
-use mathlib.Core.Bool.{Bool, true, false}
+use mathlib.Core.Bool.{Bool, true, false, cond}
 use lib.Dec.{eqb}
 use borrow.Author.Tests.{ne-eqb}
-use Rattle.reader.specs.Bytes.{backslash, plain, pick-sign, sign-of, special}
+use Rattle.reader.specs.Bytes.{backslash, plain, sign-of, special}
 use Rattle.reader.proofs.character.is_special.Statement.{statement}
 use Rattle.reader.proofs.character.is_special.Tie as tie
 
-picked : (b : Bool) → b ≡ special (pick-sign b backslash plain)
+picked : (b : Bool) → b ≡ special (cond b backslash plain)
 picked true = refl
 picked false = refl
 

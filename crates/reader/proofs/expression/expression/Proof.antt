@@ -1,7 +1,10 @@
 -- `reader::expression::expression` meets its contract: after 1 and 2 it is the union read from the start, with no group
 -- open.
 -- Assumes nothing.
+use Prim.Native.Nat.{_≤_}
+use mathlib.Core.Path.{_≡_}
 use native.Mathlib.Omega.{arith}
+use lib.ListN.{length}
 use borrow.Author.Needs.{needs}
 use Rattle.reader.specs.Grammar.{united}
 use Rattle.reader.specs.Reading.{Whole}
@@ -9,18 +12,29 @@ use Rattle.reader.specs.Expression.{empty, too-long, faulty, unopened, a
 use Rattle.reader.proofs.expression.expression.Statement.{statement}
 use Rattle.reader.proofs.expression.expression.Tie as tie
 
+-- the entry, seen from the place where the union is known to have been read
+abbrev start-of : tie.After-known-told → tie.Start
+start-of c = c .before .before .before .before .before .before .before .before .before .before .before
+
 -- the union was read
 whole-read : (c : tie.After-known-told)
-    → let s = c .before .before .before .before .before .before .before .before .before .before .before in Whole united
-    (s .args .expr .now) 0 0 0 (s .args .labels .now) (c .before .whole .given .0 .0) (c .before .whole .given .0 .1 .0)
+    → let s = start-of c in Whole united (s .args .expr .now) 0 0 0 (s .args .labels .now)
+    (c .before .whole .given .0 .0) (c .before .whole .given .0 .1 .0)
     (c .before .before .before .before .before .union .last .1 .1 .1 .0)
 whole-read c = rw (c .before .whole .given .1) at (c .before .before .before .before .before .union .ensures)
 
+-- the expression has bytes, and few enough
+some : (c : tie.After-known-told) → length (start-of c .args .expr .now) ≡ 0 → ⊥
+some c = c .before .before .before .before .before .before .before .before .if1 .left
+
+few : (c : tie.After-known-told) → length (start-of c .args .expr .now) ≤ 1024
+few c = c .before .before .before .before .before .before .before .if2 .left
+
 returns : tie.Need-returns
-returns c = empty (c .before .before .before .args .expr .now) (c .if1 .taken)
+returns c = empty _ (c .if1 .taken)
 
 returns-2 : tie.Need-returns-2
-returns-2 c = too-long (c .before .before .before .before .args .expr .now) (omega arith)
+returns-2 c = too-long _ (omega arith)
 
 union-requires : tie.Need-union-requires
 union-requires c κs = search needs
@@ -37,25 +51,21 @@ same-length c = search needs
 returns-3 : tie.Need-returns-3
 returns-3 c =
     let e = c .enum-told .given .1 in
-    rw e (faulty (c .before .before .before .before .before .before .before .before .before .before .args .expr .now)
-    (c .before .before .before .before .before .before .before .if1 .left)
-    (c .before .before .before .before .before .before .if2 .left)
-    (rw e at (c .before .before .before .before .union .ensures)))
+    let u = c .before .before .before .before in
+    rw e (faulty _ (u .before .before .before .if1 .left) (u .before .before .if2 .left) (rw e at (u .union .ensures)))
 
 same-length-2 : tie.Need-same-length-2
 same-length-2 c = search needs
 
 returns-4 : tie.Need-returns-4
-returns-4 c =
-    unopened (c .before .before .before .before .before .before .before .before .before .before .before .before .args .expr .now) (c .before .before .before .before .before .before .before .before .before .if1 .left) (c .before .before .before .before .before .before .before .before .if2 .left) (whole-read (c .before)) (c .if3 .taken)
+returns-4 c = unopened _ (some (c .before)) (few (c .before)) (whole-read (c .before)) (c .if3 .taken)
 
 same-length-3 : tie.Need-same-length-3
 same-length-3 c = search needs
 
 returns-5 : tie.Need-returns-5
 returns-5 c =
-    let w = whole-read (c .before) in
-    accepted (c .before .before .before .before .before .before .before .before .before .before .before .before .args .expr .now) (c .before .before .before .before .before .before .before .before .before .if1 .left) (c .before .before .before .before .before .before .before .before .if2 .left) w (omega arith)
+    let w = whole-read (c .before) in accepted _ (some (c .before)) (few (c .before)) w (omega arith)
 
 pub expression-spec : {M : Type 1} → statement M
 expression-spec =

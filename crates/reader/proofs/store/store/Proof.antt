@@ -32,11 +32,12 @@ same-length c = search needs
 
 returns-3 : tie.Need-returns-3
 returns-3 c =
-    let s = c .before .before .before .before .before .before .before .before .before in
-    stored-whole (s .args .labels .now) (s .args .records .now)
-    (c .before .before .before .before .before .before .piece-count .result)
-    (c .before .before .before .before .before .before .piece-count .ensures .count)
-    (c .before .before .before .before .before .if1 .left) (c .before .before .before .before .if2 .left)
+    let long-enough = c .before .before .before .before in
+    let few-enough = long-enough .before in
+    let counted = few-enough .before in
+    let s = counted .before .before .before in
+    stored-whole (s .args .labels .now) (s .args .records .now) (counted .piece-count .result)
+    (counted .piece-count .ensures .count) (few-enough .if1 .left) (long-enough .if2 .left)
     (c .before .before .write-records .ensures .bytes)
 
 pub store-spec : {M : Type 1} → statement M
