@@ -1,12 +1,13 @@
 //! Compares the proved library, through its C interface, with an independent implementation: on all short expressions, all
 //! bytes, all lists with one byte changed, and on inputs from a fixed seed, the small ones first. Prints how many inputs of
-//! each kind agreed; the first difference ends the run with status 1.
+//! each kind agreed; the first difference ends the run with status 1, and so do fewer inputs than 400,000.
 
 mod calls;
 mod desk;
 mod expected;
 mod generate;
 mod pick;
+mod program;
 mod wrapper;
 
 use calls::List;
@@ -14,6 +15,9 @@ use generate::Random;
 use wrapper::foamlattice::{MOST_RECORD_BYTES, MOST_WORDS};
 
 const SIGNS: &[u8] = b"ab()|*\\";
+
+/// A run that compares fewer inputs fails: something was left out.
+const FEWEST_INPUTS: usize = 400_000;
 
 /// The bytes that an expression's records need; some number for one that is refused.
 fn need(e: &[u8]) -> usize {
@@ -278,7 +282,7 @@ fn long_texts(_: &mut Random) -> usize {
 type Compare = fn(&mut Random) -> usize;
 
 fn main() {
-    let kinds: [(&str, Compare); 15] = [
+    let kinds: [(&str, Compare); 16] = [
         ("edges through the Rust wrapper", |_| wrapper::compare()),
         ("short expressions", short_expressions),
         ("pairs of bytes", all_bytes),
@@ -293,6 +297,7 @@ fn main() {
         ("long expressions", long_expressions),
         ("long texts", long_texts),
         ("runs of pick", pick::compare_runs),
+        ("runs of pick in parts", pick::compare_runs_in_parts),
         ("calls of pick", pick::compare_calls),
     ];
     let mut r = Random::new(0x2902_2028_0301_0366);
@@ -301,6 +306,10 @@ fn main() {
         let count = compare(&mut r);
         println!("{count} {what} agree");
         total += count;
+    }
+    if total < FEWEST_INPUTS {
+        println!("only {total} inputs compared, fewer than {FEWEST_INPUTS}");
+        std::process::exit(1);
     }
     println!("{total} inputs compared, no difference");
 }

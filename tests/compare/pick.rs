@@ -1,11 +1,10 @@
-//! The program `pick`, run through the script at the top, and the library's call of it, against the output as the statement
-//! describes it.
+//! The program `pick` and the library's call of it, against the output as the statement describes it.
 
 use crate::generate::{self, Random};
 use crate::wrapper::foamlattice::MOST_OUTPUT;
-use crate::{calls, expected, growing};
-use std::io::Write;
-use std::process::{Command, Stdio};
+use crate::{calls, expected, growing, program};
+use std::process::Output;
+use std::time::Duration;
 
 /// The lines of an input: each ends at byte 10; last bytes without an end are a line if there is at least one.
 fn lines(input: &[u8]) -> Vec<&[u8]> {
@@ -45,17 +44,13 @@ fn expected_output(input: &[u8]) -> String {
     out + &format!("total {} yes {yes} no {}\n", texts.len(), texts.len() - yes)
 }
 
-fn compare_run(input: &[u8]) {
-    let mut run = Command::new("./pick").stdin(Stdio::piped()).stdout(Stdio::piped()).spawn().expect("./pick runs");
-    let mut stdin = run.stdin.take().expect("it was piped");
-    let bytes = input.to_vec();
-    // The program may end before it has read an input that is too long.
-    let writer = std::thread::spawn(move || drop(stdin.write_all(&bytes)));
-    let output = run.wait_with_output().expect("./pick ends");
-    writer.join().expect("the writer ends");
-    let expected = expected_output(input);
+/// Holds what the program printed against what it should print for all parts of its input together.
+fn hold(parts: &[&[u8]], output: Output) {
+    let input = parts.concat();
+    let expected = expected_output(&input);
     if output.stdout != expected.as_bytes() || !output.status.success() {
-        println!("pick differs on \"{}\"", input.escape_ascii());
+        let sent: Vec<usize> = parts.iter().map(|part| part.len()).collect();
+        println!("pick differs on \"{}\", sent in parts of {sent:?} bytes", input.escape_ascii());
         println!(
             "  it printed: \"{}\", {}\n  expected:   \"{}\"",
             output.stdout.escape_ascii(),
@@ -64,6 +59,14 @@ fn compare_run(input: &[u8]) {
         );
         std::process::exit(1);
     }
+}
+
+fn compare_parts(parts: &[&[u8]], pause: Duration) {
+    hold(parts, program::run_in_parts(parts, pause));
+}
+
+fn compare_run(input: &[u8]) {
+    compare_parts(&[input], Duration::ZERO);
 }
 
 /// An expression, a damaged one time in five.
@@ -132,7 +135,59 @@ pub fn compare_runs(r: &mut Random) -> usize {
         let size = 1 + r.below(30);
         compare_run(&random_input(r, size, b"ab\r\x00"));
     }
-    edges.len() + rounds
+    edges.len() + rounds + program::compare_failures()
+}
+
+/// The input cut at these places, those that lie inside it.
+fn cut<'a>(input: &'a [u8], places: &[usize]) -> Vec<&'a [u8]> {
+    let mut parts = vec![];
+    let mut from = 0;
+    for &place in places.iter().filter(|&&place| place < input.len()) {
+        parts.push(&input[from..place]);
+        from = place;
+    }
+    parts.push(&input[from..]);
+    parts
+}
+
+/// Cuttings of an input of this length: near its ends, into parts of a page, of a byte more and less and of two pages, round
+/// each multiple of 4,096, and anywhere.
+fn cuttings(r: &mut Random, length: usize) -> Vec<Vec<usize>> {
+    let mut cuttings =
+        vec![vec![1], vec![length / 2], vec![length - 1], vec![4_096], vec![65_535], vec![65_536], vec![1, length - 1]];
+    cuttings.extend([4_095, 4_096, 4_097, 8_192].map(|size| (1..=length / size).map(|i| i * size).collect()));
+    for _ in 0..4 {
+        let mut places: Vec<usize> = (0..1 + r.below(12)).map(|_| 1 + r.below(length - 1)).collect();
+        places.sort();
+        places.dedup();
+        cuttings.push(places);
+    }
+    cuttings
+}
+
+/// The program on inputs that come in parts: short ones byte by byte, with pauses and with an interrupted read between the
+/// bytes, with and without a last end; others of 4,096, 65,536 and 65,537 bytes and those beside them, in several cuttings.
+pub fn compare_runs_in_parts(r: &mut Random) -> usize {
+    let mut count = 0;
+    for input in [&b"02-2(8|9)\n02-28\n02-29\n03-01\n"[..], b"a*b\naab\nb\nba", b"a|\na", b"(a|b)*\n\n\nab"] {
+        let bytes: Vec<&[u8]> = input.chunks(1).collect();
+        for pause in [0, 1, 20] {
+            compare_parts(&bytes, Duration::from_millis(pause));
+        }
+        hold(&bytes, program::run_interrupted(&bytes));
+        count += 4;
+    }
+    for length in [4_095, 4_096, 4_097, 8_192, 65_535, 65_536, 65_537] {
+        let mut one_line = b"(a|b)*\n".to_vec();
+        one_line.resize(length, b'a');
+        for input in [one_line, long_input(r, length)] {
+            for places in cuttings(r, length) {
+                compare_parts(&cut(&input, &places), Duration::ZERO);
+                count += 1;
+            }
+        }
+    }
+    count
 }
 
 fn compare_call(input: &[u8], room: usize) {

@@ -1,2 +1,3 @@
--- What the program's own functions promise.
+-- What the program's own functions ask and promise.
+pub mod Space
 pub mod Within

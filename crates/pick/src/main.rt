@@ -1,8 +1,10 @@
 // Reads standard input, and writes which of its later lines match its first one.
+use libc::EINTR;
 use libc::STDIN_FILENO;
 use libc::STDOUT_FILENO;
 use picker::MOST_OUTPUT;
 use picker::Picked;
+ghost use Rattle.pick.specs.Space.{Space};
 ghost use Rattle.pick.specs.Within.{Within};
 
 // What reading the input comes to.
@@ -13,13 +15,35 @@ enum Input {
     Failed,
 }
 
+// So many times a read is tried at most, so that the program ends however often it is interrupted.
+const MOST_TRIES: usize = 1000000;
+
+// Whether this is the answer of a read that a signal interrupted.
+fn interrupted(got: isize) -> bool {
+    got < 0 && os::errno() == EINTR
+}
+
+// One read of standard input; a read that a signal interrupted is tried again.
+fn read_part(part: &mut [u8]) -> isize {
+    let mut got = libc::read(STDIN_FILENO, part);
+    let mut tries = 1;
+    while tries < MOST_TRIES {
+        if !interrupted(got) {
+            break;
+        }
+        got = libc::read(STDIN_FILENO, part);
+        tries += 1;
+    }
+    got
+}
+
 // Reads standard input, which may come in many parts, into a buffer.
 fn read_input(input: &mut [u8]) -> Input
     ensures { λ r. ⌜ Within (now (input .exit)) r ⌝ }
 {
     let mut count = 0;
     while count < input.len() {
-        let got = libc::read(STDIN_FILENO, &mut input[count..]);
+        let got = read_part(&mut input[count..]);
         if got < 0 {
             return Input::Failed;
         }
@@ -44,7 +68,9 @@ fn write_output(input: &[u8], output: &mut [u8]) {
 }
 
 // Reads the input, and writes the output for it; a read or a write that fails is told on standard error.
-fn run(input: &mut [u8], output: &mut [u8; MOST_OUTPUT]) {
+fn run(input: &mut [u8], output: &mut [u8; MOST_OUTPUT])
+    requires space { ⌜ Space (now input) ⌝ }
+{
     let read = read_input(input);
     let Input::Read { count } = read else {
         os::fail(b"standard input");

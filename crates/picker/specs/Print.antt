@@ -50,6 +50,10 @@ abbrev pub pick-bytes : Bool → List ℕ → List ℕ → List ℕ
 pick-bytes true a b = a
 pick-bytes false a b = b
 
+-- the only line for an input that is too long
+abbrev pub too-long-line : List ℕ
+too-long-line = bytes "input too long\n"
+
 -- whether a text matches a tree is given
 module _ (matching : Tree Leaf → List ℕ → Bool) where
   -- the lines of the texts that are left, after so many texts and yes lines; then the last line
@@ -67,7 +71,7 @@ module _ (matching : Tree Leaf → List ℕ → Bool) where
   -- what is printed for an input: with more than 65,536 bytes one line that says so
   unfoldable pub output : List ℕ → List ℕ
   output input =
-      pick-bytes (ltb 65536 (length input)) (bytes "input too long\n")
+      pick-bytes (ltb 65536 (length input)) too-long-line
       (reported (answered (expression (lines input))) (texts (lines input)))
 
 -- the output of `pick`
@@ -76,7 +80,7 @@ picked = output matches
 
 -- an input over 65,536 bytes has that one line
 pub output-long : (matching : Tree Leaf → List ℕ → Bool) (input : List ℕ) → 65536 < length input
-    → output matching input ≡ bytes "input too long\n"
+    → output matching input ≡ too-long-line
 unfolding output
 output-long matching input h = rw (lt-ltb 65536 (length input) h)
 
