@@ -1,5 +1,5 @@
 //! Tries the examples of docs/REFERENCE.md on the library: each row of a table whose head is known here. Prints how many
-//! examples were tried; one that the library answers otherwise, or fewer than 60 of them, ends the run with status 1.
+//! examples were tried; one that the library answers otherwise, or fewer than 70 of them, ends the run with status 1.
 
 #[allow(dead_code)]
 #[path = "../../rust/foamlattice.rs"]
@@ -66,6 +66,40 @@ fn good(example: &str) -> bool {
     foamlattice::is_match(&bytes, b"") != Err(Refusal { number: 10, place: 0 })
 }
 
+/// The list of an example's expression.
+fn list(example: &str) -> Vec<u8> {
+    let mut records = vec![0; MOST_RECORD_BYTES];
+    let counts = foamlattice::read(&expression(example), &mut records).expect("an expression that is read");
+    records.truncate(8 * counts.records);
+    records
+}
+
+/// The words that an example names: `with 2 words` to start in, `from words 2, 0` to step from.
+fn words(example: &str) -> Vec<u64> {
+    let named = example.split(" from word").nth(1).map(|rest| rest.trim_start_matches('s'));
+    let count = after(example, " with ").unwrap_or(0);
+    named.map_or(vec![0; count], |rest| rest.split(", ").map(|w| w.trim().parse().expect("a word")).collect())
+}
+
+/// The refusal's number that an example of a match, a start or a step is answered with, or 0.
+fn refusal(example: &str) -> u8 {
+    let list = list(example);
+    let answer = match after(example, " on ") {
+        Some(length) => foamlattice::is_match(&list, &vec![b'a'; length]),
+        None if example.contains(" from ") => foamlattice::step(&list, &mut words(example), b'a'),
+        None => foamlattice::start(&list, &mut words(example)),
+    };
+    answer.map_or_else(|refused| refused.number, |_| 0)
+}
+
+/// The words and the flag after a start and a step for each byte of a text.
+fn marks(list: &[u8], text: &str, pieces: usize) -> (Vec<usize>, bool) {
+    let mut words = vec![0; pieces];
+    let start = foamlattice::start(list, &mut words);
+    let flag = text.bytes().fold(start, |_, byte| foamlattice::step(list, &mut words, byte));
+    (words.iter().map(|w| *w as usize).collect(), flag == Ok(true))
+}
+
 /// What `pick` prints for an example's input.
 fn picked(example: &str) -> String {
     let input = quoted(example).first().map_or(String::new(), |q| q.replace('⏎', "\n").replace('␍', "\r"));
@@ -81,26 +115,44 @@ fn counts_fit(example: &str, answer: Result<Counts, Refusal>) -> bool {
     answer.is_ok_and(|c| named("record").is_none_or(|n| n == c.records) && named("piece").is_none_or(|n| n == c.pieces))
 }
 
-/// Tries a row of a table with this head: the examples that fit, and those that do not.
-fn try_row(head: &[String], row: &[String]) -> Vec<(String, bool)> {
+/// Whether an example of the refusal `no` is answered so.
+fn refused(no: u8, example: &str) -> bool {
+    match no {
+        1..=9 => read(example) == Err(Refusal { number: no, place: after(example, " at ").unwrap_or(0) }),
+        10 => !good(example),
+        _ => refusal(example) == no,
+    }
+}
+
+/// Whether the nearest example that is not refused by `no` is not.
+fn taken(no: u8, example: &str) -> bool {
+    match no {
+        1..=9 => counts_fit(example, read(example)),
+        10 => good(example),
+        _ => refusal(example) == 0,
+    }
+}
+
+/// Tries a row of a table with this head, below a line of text: its examples, and whether the library answers so.
+fn try_row(above: &str, head: &[String], row: &[String]) -> Vec<(String, bool)> {
     let column = |name: &str| head.iter().position(|h| h.starts_with(name)).map(|i| row[i].as_str());
     let mut tried = vec![];
     let mut note = |example: &str, fits: bool| tried.push((example.to_string(), fits));
     if let (Some(no), Some(gives), Some(nearest)) = (column("No."), column("Gives it"), column("Nearest")) {
-        let no = number(no).unwrap_or(0);
-        for example in examples(gives).filter(|_| no < 10) {
-            let place = after(example, " at ").unwrap_or(0);
-            note(example, read(example) == Err(Refusal { number: no as u8, place }));
-        }
-        examples(nearest).filter(|_| no < 10).for_each(|example| note(example, counts_fit(example, read(example))));
-        examples(gives).filter(|_| no == 10).for_each(|example| note(example, !good(example)));
-        examples(nearest).filter(|_| no == 10).for_each(|example| note(example, good(example)));
+        let no = number(no).expect("a refusal's number") as u8;
+        examples(gives).for_each(|example| note(example, refused(no, example)));
+        examples(nearest).for_each(|example| note(example, taken(no, example)));
     } else if let (Some(example), Some(nodes)) = (column("Expression"), column("Nodes")) {
         note(example, read(example).is_ok_and(|c| Some(c.records) == number(nodes)));
     } else if let (Some(example), Some(pieces)) = (column("Expression"), column("Pieces")) {
         note(example, read(example).is_ok_and(|c| Some(c.pieces) == number(pieces)));
     } else if let Some(list) = column("List that is not good") {
         examples(list).filter(|e| e.starts_with('`')).for_each(|example| note(example, !good(example)));
+    } else if let (Some(text), Some(accepting)) = (column("After"), column("Accepting")) {
+        let words = head.iter().zip(row).filter(|(h, _)| h.starts_with("Word")).filter_map(|(_, w)| number(w));
+        let words: Vec<usize> = words.collect();
+        let text = quoted(text).first().copied().unwrap_or("");
+        note(text, marks(&list(above), text, words.len()) == (words, accepting == "yes"));
     } else if let (Some(inputs), Some(printed)) = (column("Input, with"), column("Printed")) {
         let lines: String = quoted(printed).iter().map(|line| format!("{line}\n")).collect();
         examples(inputs).for_each(|example| note(example, picked(example) == lines));
@@ -111,14 +163,16 @@ fn try_row(head: &[String], row: &[String]) -> Vec<(String, bool)> {
 fn main() {
     let page = fs::read_to_string("docs/REFERENCE.md").expect("docs/REFERENCE.md");
     let mut head: Vec<String> = vec![];
+    let mut above = "";
     let mut count = 0;
     for line in page.lines() {
         if !line.starts_with('|') {
             head.clear();
+            above = if line.is_empty() { above } else { line };
         } else if head.is_empty() {
             head = cells(line);
         } else if !line.starts_with("|---") {
-            for (example, fits) in try_row(&head, &cells(line)) {
+            for (example, fits) in try_row(above, &head, &cells(line)) {
                 count += 1;
                 if !fits {
                     println!("docs/REFERENCE.md: the library answers otherwise: {example}\n{line}");
@@ -128,5 +182,5 @@ fn main() {
         }
     }
     println!("{count} examples of docs/REFERENCE.md tried");
-    exit(i32::from(count < 60));
+    exit(i32::from(count < 70));
 }
