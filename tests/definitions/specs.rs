@@ -85,9 +85,9 @@ fn parse(text: &str) -> File {
         } else if let Some((name, _)) = &current {
             let item = file.items.get_mut(name).expect("an item is entered when it begins");
             item.lines.push(code.to_string());
-            if item.lines[0].contains("data ") {
-                let before = code.split(" :").next().unwrap_or("");
-                file.constructors.extend(words(before).map(|c| (c.to_string(), name.clone())));
+            let signed = code.split_once(" :").filter(|(before, _)| !before.contains(['(', '{', '→']));
+            if let Some((constructors, _)) = signed.filter(|_| item.lines[0].contains("data ")) {
+                file.constructors.extend(words(constructors).map(|c| (c.to_string(), name.clone())));
             }
         }
     }
