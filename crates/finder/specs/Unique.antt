@@ -1,21 +1,32 @@
--- What match and search promise leaves no choice: the answer is determined, so each case of it is given exactly when
--- its promise holds.
--- Assumes nothing.
-use Prim.Native.Nat.{ℕ, _≤_}
+-- What match and search promise leaves no choice: the numbers given back are determined, and with them the answer.
+use Prim.Native.Nat.{ℕ}
 use native.Mathlib.Omega.{arith}
-use mathlib.Core.Path.{_≡_, refl, ap, subst}
-use mathlib.Core.Logic.{_↔_}
+use mathlib.Core.Path.{_≡_, refl, sym, ap, _∙_, subst}
+use mathlib.Core.Bool.{Bool, true, false, cond}
+use mathlib.Core.Logic.{_↔_, Iff·trans, Iff·symm}
 use mathlib.Core.List.{List}
-use lib.ListN.{length}
-use lib.Dec.{T, eqb, eqb-refl}
+use lib.Dec.{eqb}
 use Rattle.language.specs.Tree.{Tree}
 use Rattle.language.specs.Language.{Matches}
 use Rattle.tree.specs.Leaf.{Leaf}
-use Rattle.tree.specs.Records.{Good}
 use Rattle.tree.specs.Readback.{good-unique}
-use Rattle.marks.specs.Promise.{Not-good}
 use Rattle.finder.specs.Found.{Answer, at, nothing, search-unique}
-use Rattle.finder.specs.Promise.{match-number, search-number, Of-good, Too-long, Match-answers, Search-answers}
+use Rattle.finder.specs.Answer.{refusing, answering, finding, match-numbers, search-numbers}
+use Rattle.finder.specs.Promise.{
+  Of-good,
+  Refuses,
+  not-good,
+  too-long,
+  Match-answers,
+  match-refused,
+  match-answered,
+  Search-answers,
+  search-refused,
+  search-found,
+  search-nothing,
+}
+use Rattle.finder.specs.Refusals.{reason-unique, refused}
+use Rattle.finder.specs.declared.numbers.Numbers.{Numbers}
 use Rattle.finder.specs.declared.Matched.{Matched}
 use Rattle.finder.specs.declared.Matched.the-variants.{
   Yes,
@@ -31,90 +42,89 @@ use Rattle.finder.specs.declared.Searched.the-variants.{
   TooLong as Search-too-long,
 }
 
--- an answer that is no refusal
-abbrev answer : Answer → Searched
-answer (at s e) = Found-at s e
-answer nothing = Nothing
+-- the answer of a match, from its numbers
+abbrev matched-by : Numbers → Matched
+matched-by n =
+    cond (eqb (n .refusal) 10) Match-not-good (cond (eqb (n .refusal) 11) Match-too-long (cond (n .matched) Yes No))
+
+matched-back : (r : Matched) → matched-by (match-numbers r) ≡ r
+matched-back Yes = refl
+matched-back No = refl
+matched-back Match-not-good = refl
+matched-back Match-too-long = refl
+
+-- the answer of a search, from its numbers
+abbrev searched-by : Numbers → Searched
+searched-by n =
+    cond (eqb (n .refusal) 10) Search-not-good
+    (cond (eqb (n .refusal) 11) Search-too-long (cond (n .matched) (Found-at (n .start) (n .end)) Nothing))
+
+searched-back : (r : Searched) → searched-by (search-numbers r) ≡ r
+searched-back (Found-at start end) = refl
+searched-back Nothing = refl
+searched-back Search-not-good = refl
+searched-back Search-too-long = refl
+
+-- two tests of one thing give the same
+same-test : (a b : Bool) → (a ≡ true) ↔ (b ≡ true) → a ≡ b
+same-test true b h = sym (h .0 refl)
+same-test false true h = h .1 refl
+same-test false false h = refl
+
+-- the numbers of a search that refuses nothing
+abbrev found-numbers : Answer → Numbers
+found-numbers (at start end) = finding start end
+found-numbers nothing = answering false
 
 module _ (list text : List ℕ) where
-  -- why an answer has its number
-  data Reason : ℕ → Type 0 where
-    fine : (t : Tree Leaf) → Good list t → length text ≤ 65536 → Reason 0
-    not-good : Not-good list → Reason 10
-    too-long : Too-long list text → Reason 11
-
-  -- the reasons exclude each other
-  reason-unique : {m n : ℕ} → Reason m → Reason n → m ≡ n
-  reason-unique (fine s p h) (fine t q k) = refl
-  reason-unique (not-good a) (not-good b) = refl
-  reason-unique (too-long a) (too-long b) = refl
-  reason-unique (fine t good short) (not-good b) = absurd (b t good)
-  reason-unique (fine t good short) (too-long b) = absurd (omega arith)
-  reason-unique (not-good a) (fine t good short) = absurd (a t good)
-  reason-unique (not-good a) (too-long b) = absurd (a (b .t) (b .good))
-  reason-unique (too-long a) (fine t good short) = absurd (omega arith)
-  reason-unique (too-long a) (not-good b) = absurd (b (a .t) (a .good))
+  -- what is refused is not answered
+  not-both : {number : ℕ} {P : Tree Leaf → Type 0} → Refuses list text number → Of-good list text P → ⊥
+  not-both (not-good why) a = why (a .t) (a .good)
+  not-both (too-long b) a = omega (arith, a .short, b .long)
 
   -- what holds of the list's tree holds of one tree
   of-one : {P Q : Tree Leaf → Type 0} → Of-good list text P → Of-good list text Q → (t : Tree Leaf) × P t × Q t
   of-one {P} {Q} a b = (b .t, subst P (good-unique list (a .t) (b .t) (a .good) (b .good)) (a .holds), b .holds)
 
-  -- so they give answers of the same number
-  passed : {m n : ℕ} → Reason m → Reason n → T (eqb m n)
-  passed {m} {n} a b = subst (λ (k : ℕ). T (eqb m k)) (reason-unique a b) (eqb-refl m)
+  -- two refusals have one number
+  same-refusal : {m n : ℕ} → Refuses list text m → Refuses list text n → m ≡ n
+  same-refusal a b = reason-unique list text (refused a) (refused b)
 
-  -- the reason of what match answers
-  match-reason : (r : Matched) → Match-answers list text r → Reason (match-number r)
-  match-reason Yes a = fine (a .t) (a .good) (a .short)
-  match-reason No a = fine (a .t) (a .good) (a .short)
-  match-reason Match-not-good a = not-good a
-  match-reason Match-too-long a = too-long a
+  -- two results of match that fit its promise give the same numbers: a text is in a language or not
+  pub match-unique : {n n′ : Numbers} → Match-answers list text n → Match-answers list text n′ → n ≡ n′
+  match-unique (match-refused a) (match-refused b) = ap refusing (same-refusal a b)
+  match-unique (match-refused a) (match-answered b) = absurd (not-both a b)
+  match-unique (match-answered a) (match-refused b) = absurd (not-both b a)
+  match-unique (match-answered {matched = m} a) (match-answered {matched = n} b) =
+      let (t, p, q) = of-one a b in
+      ap answering (same-test m n (Iff·trans p (Iff·symm q)))
 
-  -- match answers of one number are the same: a text lies in a language or not
-  match-settled : (r r' : Matched) → T (eqb (match-number r) (match-number r')) → Match-answers list text r
-      → Match-answers list text r' → r ≡ r'
-  match-settled Yes Yes same a b = refl
-  match-settled No No same a b = refl
-  match-settled Yes No same a b = let (t, p, q) = of-one a b in absurd (q p)
-  match-settled No Yes same a b = let (t, p, q) = of-one a b in absurd (p q)
-  match-settled Match-not-good Match-not-good same a b = refl
-  match-settled Match-too-long Match-too-long same a b = refl
+  -- and are the same answer
+  pub match-answer-unique : (r s : Matched) → Match-answers list text (match-numbers r)
+      → Match-answers list text (match-numbers s) → r ≡ s
+  match-answer-unique r s a b = sym (matched-back r) ∙ ap matched-by (match-unique a b) ∙ matched-back s
 
-  -- two answers of match that fit its promise are the same
-  pub match-unique : (r r' : Matched) → Match-answers list text r → Match-answers list text r' → r ≡ r'
-  match-unique r r' a b = match-settled r r' (passed (match-reason r a) (match-reason r' b)) a b
+  -- two parts found by one list, or nothing, are the same
+  same-found : {a b : Answer} {P Q : Tree Leaf → Type 0} → ((t : Tree Leaf) → P t → Q t → a ≡ b) → Of-good list text P
+      → Of-good list text Q → found-numbers a ≡ found-numbers b
+  same-found same a b = let (t, p, q) = of-one a b in ap found-numbers (same t p q)
 
-  -- so match answers k exactly when what it promises of k holds
-  pub match-exactly : (r : Matched) → Match-answers list text r → (k : Matched) → (r ≡ k) ↔ Match-answers list text k
-  match-exactly r a k = (λ e. subst (λ (s : Matched). Match-answers list text s) e a, λ b. match-unique r k a b)
+  -- two results of search that fit its promise give the same numbers
+  pub search-unique-numbers : {n n′ : Numbers} → Search-answers list text n → Search-answers list text n′ → n ≡ n′
+  search-unique-numbers (search-refused a) (search-refused b) = ap refusing (same-refusal a b)
+  search-unique-numbers (search-refused a) (search-found b) = absurd (not-both a b)
+  search-unique-numbers (search-refused a) (search-nothing b) = absurd (not-both a b)
+  search-unique-numbers (search-found a) (search-refused b) = absurd (not-both b a)
+  search-unique-numbers (search-nothing a) (search-refused b) = absurd (not-both b a)
+  search-unique-numbers (search-found {start = s} {end = e} a) (search-found {start = i} {end = j} b) =
+      same-found (λ t. search-unique (Matches t) text (at s e) (at i j)) a b
+  search-unique-numbers (search-found {start = s} {end = e} a) (search-nothing b) =
+      same-found (λ t. search-unique (Matches t) text (at s e) nothing) a b
+  search-unique-numbers (search-nothing a) (search-found {start = i} {end = j} b) =
+      same-found (λ t. search-unique (Matches t) text nothing (at i j)) a b
+  search-unique-numbers (search-nothing a) (search-nothing b) = refl
 
-  -- the reason of what search answers
-  search-reason : (r : Searched) → Search-answers list text r → Reason (search-number r)
-  search-reason (Found-at s e) a = fine (a .t) (a .good) (a .short)
-  search-reason Nothing a = fine (a .t) (a .good) (a .short)
-  search-reason Search-not-good a = not-good a
-  search-reason Search-too-long a = too-long a
-
-  -- search answers of one number are the same: of all parts there is one that begins earliest and then ends latest, or
-  -- none
-  search-settled : (r r' : Searched) → T (eqb (search-number r) (search-number r')) → Search-answers list text r
-      → Search-answers list text r' → r ≡ r'
-  search-settled (Found-at s e) (Found-at i j) same a b = let (t, p, q) =
-      of-one a b in ap answer (search-unique (Matches t) text (at s e) (at i j) p q)
-  search-settled (Found-at s e) Nothing same a b = let (t, p, q) =
-      of-one a b in ap answer (search-unique (Matches t) text (at s e) nothing p q)
-  search-settled Nothing (Found-at i j) same a b = let (t, p, q) =
-      of-one a b in ap answer (search-unique (Matches t) text nothing (at i j) p q)
-  search-settled Nothing Nothing same a b = refl
-  search-settled Search-not-good Search-not-good same a b = refl
-  search-settled Search-too-long Search-too-long same a b = refl
-
-  -- two answers of search that fit its promise are the same
-  pub search-unique-answer : (r r' : Searched) → Search-answers list text r → Search-answers list text r' → r ≡ r'
-  search-unique-answer r r' a b = search-settled r r' (passed (search-reason r a) (search-reason r' b)) a b
-
-  -- so search answers k exactly when what it promises of k holds
-  pub search-exactly : (r : Searched) → Search-answers list text r → (k : Searched)
-      → (r ≡ k) ↔ Search-answers list text k
-  search-exactly r a k =
-      (λ e. subst (λ (s : Searched). Search-answers list text s) e a, λ b. search-unique-answer r k a b)
+  -- and are the same answer
+  pub search-answer-unique : (r s : Searched) → Search-answers list text (search-numbers r)
+      → Search-answers list text (search-numbers s) → r ≡ s
+  search-answer-unique r s a b = sym (searched-back r) ∙ ap searched-by (search-unique-numbers a b) ∙ searched-back s

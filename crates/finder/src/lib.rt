@@ -1,11 +1,13 @@
 // Whole-text match and search over good lists.
 mod good;
+pub mod numbers;
 mod part;
 mod text;
 
 pub use part::Part;
 pub use part::first_part;
 pub use text::text_matches;
+ghost use Rattle.finder.specs.Answer.{match-numbers, search-numbers};
 ghost use Rattle.finder.specs.Promise.{Match-answers, Search-answers};
 use tree::good::Decided;
 use tree::good::decide;
@@ -38,7 +40,7 @@ pub enum Searched {
 
 // Whether the whole text is in the language of the list's tree.
 pub fn is_match(list: &[u8], text: &[u8]) -> Matched
-    ensures { λ r. ⌜ Match-answers (now (list .entry)) (now (text .entry)) r ⌝ }
+    ensures { λ r. ⌜ Match-answers (now (list .entry)) (now (text .entry)) (match-numbers r) ⌝ }
 {
     let decided = decide(list);
     let Decided::Good {
@@ -60,7 +62,7 @@ pub fn is_match(list: &[u8], text: &[u8]) -> Matched
 
 // The part of the text that starts earliest and then ends furthest, of those in the language of the list's tree.
 pub fn search(list: &[u8], text: &[u8]) -> Searched
-    ensures { λ r. ⌜ Search-answers (now (list .entry)) (now (text .entry)) r ⌝ }
+    ensures { λ r. ⌜ Search-answers (now (list .entry)) (now (text .entry)) (search-numbers r) ⌝ }
 {
     let decided = decide(list);
     let Decided::Good {

@@ -10,51 +10,11 @@ use Rattle.reader.specs.Answer.{refusing}
 use Rattle.marks.specs.declared.Answer.{Answer}
 use Rattle.marks.specs.declared.Answer.the-variants.{Marked, NotGood, TooFewWords, NotMarks}
 use Rattle.marks.proofs.Answer.{the-type as marks-type}
-use Rattle.finder.specs.declared.Matched.{Matched}
-use Rattle.finder.specs.declared.Matched.the-variants.{Yes, No, NotGood as Match-not-good, TooLong as Match-too-long}
-use Rattle.finder.proofs.Matched.{the-type as matched-type}
-use Rattle.finder.specs.declared.Searched.{Searched}
-use Rattle.finder.specs.declared.Searched.the-variants.{
-  Found,
-  Nothing,
-  NotGood as Search-not-good,
-  TooLong as Search-too-long,
-}
-use Rattle.finder.proofs.Searched.{the-type as searched-type}
 use Rattle.picker.specs.declared.Picked.{Picked}
 use Rattle.picker.specs.declared.Picked.the-variants.{Written, NoRoom}
 use Rattle.picker.proofs.Picked.{the-type as picked-type}
 use Rattle.foamlattice.specs.Packed.{packed}
-use Rattle.foamlattice.specs.Promise.{read-packed, match-packed, search-packed, marks-packed, pick-packed}
-
--- a match's numbers, in the order of its cases
-abbrev pub match-numbers : List ℕ
-match-numbers = packed 0 1 0 0 ∷ packed 0 0 0 0 ∷ packed 10 0 0 0 ∷ packed 11 0 0 0 ∷ []
-
-match-number-at : (answer : Matched) → match-packed answer ≡ getD match-numbers (tagOf matched-type answer) 0
-match-number-at Yes = refl
-match-number-at No = refl
-match-number-at Match-not-good = refl
-match-number-at Match-too-long = refl
-
-pub told-match : (answer : Matched) (tag : ℕ) → tagOf matched-type answer ≡ tag
-    → match-packed answer ≡ getD match-numbers tag 0
-told-match answer tag e = match-number-at answer ∙ ap (λ (k : ℕ). getD match-numbers k 0) e
-
--- a search's numbers: that of a part found is its own
-abbrev pub search-numbers : Searched → List ℕ
-search-numbers answer = search-packed answer ∷ packed 0 0 0 0 ∷ packed 10 0 0 0 ∷ packed 11 0 0 0 ∷ []
-
-search-number-at : (answer : Searched)
-    → search-packed answer ≡ getD (search-numbers answer) (tagOf searched-type answer) 0
-search-number-at (Found start end) = refl
-search-number-at Nothing = refl
-search-number-at Search-not-good = refl
-search-number-at Search-too-long = refl
-
-pub told-search : (answer : Searched) (tag : ℕ) → tagOf searched-type answer ≡ tag
-    → search-packed answer ≡ getD (search-numbers answer) tag 0
-told-search answer tag e = search-number-at answer ∙ ap (λ (k : ℕ). getD (search-numbers answer) k 0) e
+use Rattle.foamlattice.specs.Promise.{read-packed, marks-packed, pick-packed}
 
 -- the numbers of a start or a step: that of marks made is their own
 abbrev pub marks-numbers : Answer → List ℕ

@@ -17,16 +17,19 @@ use Rattle.reader.specs.Answer.{Numbers, refusing, reading, answer-for, answere
 use Rattle.marks.specs.declared.Answer.{Answer}
 use Rattle.marks.specs.declared.Answer.the-variants.{Marked, NotGood, TooFewWords, NotMarks}
 use Rattle.marks.specs.Promise.{number-of}
-use Rattle.finder.specs.declared.Matched.{Matched}
-use Rattle.finder.specs.declared.Matched.the-variants.{Yes, No, NotGood as Match-not-good, TooLong as Match-too-long}
-use Rattle.finder.specs.declared.Searched.{Searched}
-use Rattle.finder.specs.declared.Searched.the-variants.{
-  Found,
-  Nothing,
-  NotGood as Search-not-good,
-  TooLong as Search-too-long,
+use Rattle.finder.specs.declared.numbers.Numbers.{Numbers as Found-numbers}
+use Rattle.finder.specs.Promise.{
+  Refuses,
+  not-good,
+  too-long,
+  Match-answers,
+  match-refused,
+  match-answered,
+  Search-answers,
+  search-refused,
+  search-found,
+  search-nothing,
 }
-use Rattle.finder.specs.Promise.{match-number, search-number, Search-answers}
 use Rattle.finder.specs.Decide.{matches}
 use Rattle.picker.specs.declared.Picked.{Picked}
 use Rattle.picker.specs.declared.Picked.the-variants.{Written, NoRoom}
@@ -35,10 +38,7 @@ use Rattle.picker.specs.Promise.{Picks}
 use Rattle.foamlattice.specs.Packed.{packed, Unpacks, unpacks}
 use Rattle.foamlattice.specs.Promise.{
   read-packed,
-  match-flag,
-  search-flag,
-  search-start,
-  search-end,
+  found-packed,
   marks-flag,
   pick-flag,
   pick-length,
@@ -103,20 +103,31 @@ answered-ranges bytes room = outcome-ranges bytes room (scanned bytes) refl
 pub read-ranges : (bytes : List ℕ) (room : ℕ) (n : Numbers) → n ≡ answered bytes room → Read-ranges n
 read-ranges bytes room n e = rw e (answered-ranges bytes room)
 
--- a part that search answers lies in a text of at most 65,536 bytes
-pub record Search-ranges (answer : Searched) : Type 0 where
-  pub start-small : search-start answer ≤ 65536
-  pub end-small : search-end answer ≤ 65536
+-- the numbers that match and search can give back: a part found lies in a text of at most 65,536 bytes
+pub record Found-ranges (n : Found-numbers) : Type 0 where
+  pub refusal-small : n .refusal ≤ 11
+  pub x-small : n .place + n .start ≤ 65536
+  pub y-small : n .end ≤ 65536
 
-pub search-ranges : (list text : List ℕ) (answer : Searched) → Search-answers list text answer → Search-ranges answer
-search-ranges list text (Found start end) right =
+refused-ranges : {list text : List ℕ} {number : ℕ} → Refuses list text number → number ≤ 11
+refused-ranges (not-good why) = omega arith
+refused-ranges (too-long a) = omega arith
+
+pub match-ranges : {list text : List ℕ} {n : Found-numbers} → Match-answers list text n → Found-ranges n
+match-ranges (match-refused r) =
+    record { refusal-small = refused-ranges r; x-small = omega arith; y-small = omega arith }
+match-ranges (match-answered a) = record { refusal-small = omega arith; x-small = omega arith; y-small = omega arith }
+
+pub search-ranges : {list text : List ℕ} {n : Found-numbers} → Search-answers list text n → Found-ranges n
+search-ranges (search-refused r) =
+    record { refusal-small = refused-ranges r; x-small = omega arith; y-small = omega arith }
+search-ranges (search-found a) =
     record {
-      start-small = omega (arith, right .short, right .holds .here .ordered, right .holds .here .inside);
-      end-small = omega (arith, right .short, right .holds .here .inside);
+      refusal-small = omega arith;
+      x-small = omega (arith, a .short, a .holds .here .ordered, a .holds .here .inside);
+      y-small = omega (arith, a .short, a .holds .here .inside);
     }
-search-ranges list text Nothing right = record { start-small = omega arith; end-small = omega arith }
-search-ranges list text Search-not-good right = record { start-small = omega arith; end-small = omega arith }
-search-ranges list text Search-too-long right = record { start-small = omega arith; end-small = omega arith }
+search-ranges (search-nothing a) = record { refusal-small = omega arith; x-small = omega arith; y-small = omega arith }
 
 -- an output has at most 1,048,575 bytes
 pub pick-length-small : (input before after : List ℕ) (answer : Picked) → Picks input before after answer
@@ -132,17 +143,9 @@ pub record Small (number flag : ℕ) : Type 0 where
 small : (number flag : ℕ) → number ≤ 13 → flag ≤ 1 → Small number flag
 small number flag n f = record { number-small = n; flag-small = f }
 
-match-small : (answer : Matched) → Small (match-number answer) (match-flag answer)
-match-small Yes = small 0 1 (omega arith) (omega arith)
-match-small No = small 0 0 (omega arith) (omega arith)
-match-small Match-not-good = small 10 0 (omega arith) (omega arith)
-match-small Match-too-long = small 11 0 (omega arith) (omega arith)
-
-search-small : (answer : Searched) → Small (search-number answer) (search-flag answer)
-search-small (Found start end) = small 0 1 (omega arith) (omega arith)
-search-small Nothing = small 0 0 (omega arith) (omega arith)
-search-small Search-not-good = small 10 0 (omega arith) (omega arith)
-search-small Search-too-long = small 11 0 (omega arith) (omega arith)
+flag-small : (flag : Bool) → cond flag 1 0 ≤ 1
+flag-small true = omega arith
+flag-small false = omega arith
 
 marks-small : (answer : Answer) → Small (number-of answer) (marks-flag answer)
 marks-small (Marked true) = small 0 1 (omega arith) (omega arith)
@@ -178,18 +181,21 @@ read-unpacks bytes room r e =
     (omega (arith, known .place-small, known .records-small)) (omega (arith, known .pieces-small)) e
 
 -- so does that of a match, of a search, of a start, of a step and of a picking
+found-unpacks : (r : ℕ) (n : Found-numbers) → Found-ranges n → r ≡ found-packed n
+    → Unpacks r (n .refusal) (cond (n .matched) 1 0) (n .place + n .start) (n .end)
+found-unpacks r n known e =
+    case-unpacks r _ _ _ _ (small _ _ (omega (arith, known .refusal-small)) (flag-small (n .matched)))
+    (omega (arith, known .x-small)) (omega (arith, known .y-small)) e
+
 pub matching-unpacks : (list text : List ℕ) (r : ℕ) (m : Matching list text r)
-    → Unpacks r (match-number (m .answer)) (match-flag (m .answer)) 0 0
-matching-unpacks list text r m = case-unpacks r _ _ 0 0 (match-small (m .answer)) (omega arith) (omega arith)
-    (m .as-number)
+    → Unpacks r (m .numbers .refusal) (cond (m .numbers .matched) 1 0) (m .numbers .place + m .numbers .start)
+    (m .numbers .end)
+matching-unpacks list text r m = found-unpacks r (m .numbers) (match-ranges (m .right)) (m .as-number)
 
 pub searching-unpacks : (list text : List ℕ) (r : ℕ) (m : Searching list text r)
-    → Unpacks r (search-number (m .answer)) (search-flag (m .answer)) (search-start (m .answer))
-    (search-end (m .answer))
-searching-unpacks list text r m =
-    let known = search-ranges list text (m .answer) (m .right) in
-    case-unpacks r _ _ _ _ (search-small (m .answer)) (omega (arith, known .start-small))
-    (omega (arith, known .end-small)) (m .as-number)
+    → Unpacks r (m .numbers .refusal) (cond (m .numbers .matched) 1 0) (m .numbers .place + m .numbers .start)
+    (m .numbers .end)
+searching-unpacks list text r m = found-unpacks r (m .numbers) (search-ranges (m .right)) (m .as-number)
 
 pub starting-unpacks : (list before after : List ℕ) (r : ℕ) (m : Starting list before after r)
     → Unpacks r (number-of (m .answer)) (marks-flag (m .answer)) 0 0

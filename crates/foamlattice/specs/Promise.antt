@@ -9,16 +9,8 @@ use Rattle.reader.specs.Answer.{Numbers}
 use Rattle.marks.specs.declared.Answer.{Answer}
 use Rattle.marks.specs.declared.Answer.the-variants.{Marked, NotGood, TooFewWords, NotMarks}
 use Rattle.marks.specs.Promise.{number-of, Starts, Steps}
-use Rattle.finder.specs.declared.Matched.{Matched}
-use Rattle.finder.specs.declared.Matched.the-variants.{Yes, No, NotGood as Match-not-good, TooLong as Match-too-long}
-use Rattle.finder.specs.declared.Searched.{Searched}
-use Rattle.finder.specs.declared.Searched.the-variants.{
-  Found,
-  Nothing,
-  NotGood as Search-not-good,
-  TooLong as Search-too-long,
-}
-use Rattle.finder.specs.Promise.{match-number, search-number, Match-answers, Search-answers}
+use Rattle.finder.specs.declared.numbers.Numbers.{Numbers as Found-numbers}
+use Rattle.finder.specs.Promise.{Match-answers, Search-answers}
 use Rattle.picker.specs.declared.Picked.{Picked}
 use Rattle.picker.specs.declared.Picked.the-variants.{Written, NoRoom}
 use Rattle.picker.specs.Promise.{Picks}
@@ -28,37 +20,10 @@ use Rattle.foamlattice.specs.Packed.{packed}
 abbrev pub read-packed : Numbers → ℕ
 read-packed n = packed (n .refusal) 0 (n .place + n .records) (n .pieces)
 
--- match: the flag is 1 for yes
-abbrev pub match-flag : Matched → ℕ
-match-flag Yes = 1
-match-flag No = 0
-match-flag Match-not-good = 0
-match-flag Match-too-long = 0
-
-abbrev pub match-packed : Matched → ℕ
-match-packed answer = packed (match-number answer) (match-flag answer) 0 0
-
--- search: the flag is 1 where a part was found; x is its start and y its end
-abbrev pub search-flag : Searched → ℕ
-search-flag (Found start end) = 1
-search-flag Nothing = 0
-search-flag Search-not-good = 0
-search-flag Search-too-long = 0
-
-abbrev pub search-start : Searched → ℕ
-search-start (Found start end) = start
-search-start Nothing = 0
-search-start Search-not-good = 0
-search-start Search-too-long = 0
-
-abbrev pub search-end : Searched → ℕ
-search-end (Found start end) = end
-search-end Nothing = 0
-search-end Search-not-good = 0
-search-end Search-too-long = 0
-
-abbrev pub search-packed : Searched → ℕ
-search-packed answer = packed (search-number answer) (search-flag answer) (search-start answer) (search-end answer)
+-- match and search: the flag is 1 for yes, or where a part was found; x is that part's start, or the place of a refusal,
+-- and y its end
+abbrev pub found-packed : Found-numbers → ℕ
+found-packed n = packed (n .refusal) (cond (n .matched) 1 0) (n .place + n .start) (n .end)
 
 -- start and step: the flag is 1 where the root's accepting state is marked
 abbrev pub marks-flag : Answer → ℕ
@@ -82,17 +47,17 @@ pick-length NoRoom = 0
 abbrev pub pick-packed : Picked → ℕ
 pick-packed answer = packed 0 (pick-flag answer) (pick-length answer) 0
 
--- the number r is the right answer of a match, packed
+-- the number r packs right numbers of a match
 pub record Matching (list text : List ℕ) (r : ℕ) : Type 0 where
-  pub answer : Matched
-  pub right : Match-answers list text answer
-  pub as-number : r ≡ match-packed answer
+  pub numbers : Found-numbers
+  pub right : Match-answers list text numbers
+  pub as-number : r ≡ found-packed numbers
 
--- the number r is the right answer of a search, packed
+-- the number r packs right numbers of a search
 pub record Searching (list text : List ℕ) (r : ℕ) : Type 0 where
-  pub answer : Searched
-  pub right : Search-answers list text answer
-  pub as-number : r ≡ search-packed answer
+  pub numbers : Found-numbers
+  pub right : Search-answers list text numbers
+  pub as-number : r ≡ found-packed numbers
 
 -- the words afterwards and the number r are those of a right start
 pub record Starting (list before after : List ℕ) (r : ℕ) : Type 0 where

@@ -5,11 +5,10 @@ use Prim.Native.Nat.{ℕ}
 use mathlib.Core.Path.{_≡_, ap, sym, _∙_}
 use mathlib.Core.List.{List}
 use Rattle.marks.specs.Unique.{starts-unique, steps-unique}
-use Rattle.finder.specs.Unique.{match-unique, search-unique-answer}
+use Rattle.finder.specs.Unique.{match-unique, search-unique-numbers}
 use Rattle.picker.specs.Promise.{picks-unique}
 use Rattle.foamlattice.specs.Promise.{
-  match-packed,
-  search-packed,
+  found-packed,
   marks-packed,
   pick-packed,
   Matching,
@@ -26,13 +25,12 @@ same-number packed-from r s a b e f same = e ∙ ap packed-from same ∙ sym f
 
 pub matching-unique : (list text : List ℕ) (r s : ℕ) → Matching list text r → Matching list text s → r ≡ s
 matching-unique list text r s m n =
-    same-number match-packed r s _ _ (m .as-number) (n .as-number)
-    (match-unique list text (m .answer) (n .answer) (m .right) (n .right))
+    same-number found-packed r s _ _ (m .as-number) (n .as-number) (match-unique list text (m .right) (n .right))
 
 pub searching-unique : (list text : List ℕ) (r s : ℕ) → Searching list text r → Searching list text s → r ≡ s
 searching-unique list text r s m n =
-    same-number search-packed r s _ _ (m .as-number) (n .as-number)
-    (search-unique-answer list text (m .answer) (n .answer) (m .right) (n .right))
+    same-number found-packed r s _ _ (m .as-number) (n .as-number)
+    (search-unique-numbers list text (m .right) (n .right))
 
 pub starting-unique : (list before after after' : List ℕ) (r s : ℕ) → Starting list before after r
     → Starting list before after' s → (r ≡ s) × (after ≡ after')

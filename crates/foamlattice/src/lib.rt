@@ -2,9 +2,10 @@
 // of which answers one number.
 mod pack;
 
-use finder::Matched;
-use finder::Searched;
 use finder::is_match;
+use finder::numbers::Numbers;
+use finder::numbers::match_numbers;
+use finder::numbers::search_numbers;
 use finder::search;
 use marks::start;
 use marks::step;
@@ -16,8 +17,10 @@ use reader::read;
 ghost use mathlib.Core.Path.{_≡_};
 ghost use lib.ListN.{length};
 ghost use Rattle.reader.specs.Answer.{answered, records-after};
+ghost use Rattle.foamlattice.specs.Bounds.{Found-ranges};
 ghost use Rattle.foamlattice.specs.Promise.{
   read-packed,
+  found-packed,
   marks-packed,
   Matching,
   Searching,
@@ -39,18 +42,27 @@ pub extern "C" fn foam_read(expression: &[u8], records: &mut [u8]) -> u64
     }
 }
 
+// What a match or a search gives back, packed.
+fn pack_found(numbers: Numbers) -> u64
+    requires { ⌜ Found-ranges numbers ⌝ }
+    ensures { λ r. ⌜ r ≡ found-packed numbers ⌝ }
+{
+    pack(
+        numbers.refusal,
+        numbers.matched,
+        numbers.place + numbers.start,
+        numbers.end,
+    )
+}
+
 // Whether the whole text is in the language of the list's tree.
 #[no_mangle]
 pub extern "C" fn foam_match(records: &[u8], text: &[u8]) -> u64
     ensures { λ r. ⌜ Matching (now (records .entry)) (now (text .entry)) r ⌝ }
 {
     let answer = is_match(records, text);
-    match answer {
-        Matched::Yes => pack(0, true, 0, 0),
-        Matched::No => pack(0, false, 0, 0),
-        Matched::NotGood => pack(10, false, 0, 0),
-        Matched::TooLong => pack(11, false, 0, 0),
-    }
+    let numbers = match_numbers(answer);
+    pack_found(numbers)
 }
 
 // The part of the text that starts earliest and then ends furthest, of those in the language of the list's tree.
@@ -59,12 +71,8 @@ pub extern "C" fn foam_search(records: &[u8], text: &[u8]) -> u64
     ensures { λ r. ⌜ Searching (now (records .entry)) (now (text .entry)) r ⌝ }
 {
     let answer = search(records, text);
-    match answer {
-        Searched::Found { start, end } => pack(0, true, start, end),
-        Searched::Nothing => pack(0, false, 0, 0),
-        Searched::NotGood => pack(10, false, 0, 0),
-        Searched::TooLong => pack(11, false, 0, 0),
-    }
+    let numbers = search_numbers(answer);
+    pack_found(numbers)
 }
 
 // What a start or a step answers, packed.

@@ -3,6 +3,7 @@
 -- Assumes nothing.
 use Prim.Native.Nat.{ℕ, _*_, _≤_}
 use mathlib.Core.Path.{_≡_, subst}
+use mathlib.Core.Bool.{Bool, true, false}
 use mathlib.Core.Logic.{_↔_, Iff·rfl, Iff·symm, Iff·trans, Iff·and}
 use mathlib.Core.List.{List}
 use lib.ListN.{length, take}
@@ -16,9 +17,9 @@ use Rattle.reader.specs.Answer.{numbers, answered, records-after}
 use Rattle.reader.specs.Kept.{Kept, kept}
 use Rattle.reader.specs.declared.answer.Answer.the-variants.{Read}
 use Rattle.finder.specs.Found.{Part, Found, Nothing-found}
+use Rattle.finder.specs.Answer.{answering, finding}
 use Rattle.finder.specs.Promise.{Of-good, Match-answers, Search-answers}
-use Rattle.finder.specs.declared.Matched.the-variants.{Yes, No}
-use Rattle.finder.specs.declared.Searched.the-variants.{Found as Found-at, Nothing}
+use Rattle.finder.specs.Refusals.{match-exactly, search-found-exactly, search-nothing-exactly}
 
 -- the text lies in the language of the expression
 abbrev pub In-expression : List ℕ → List ℕ → Type 0
@@ -74,34 +75,33 @@ module _ {bytes before after : List ℕ} {records pieces : ℕ} (accepted : Acce
     )
 
     module _ (text : List ℕ) where
-      -- match answers yes exactly when the text has at most 65,536 bytes and lies in the language of the expression
-      pub read-then-match : Match-answers (take (8 * records) after) text Yes
-          ↔ ((length text ≤ 65536) × In-expression bytes text)
-      read-then-match = Iff·trans (of-read text (λ t. Matches t text)) (Iff·and Iff·rfl (same-language text))
-
-      -- no exactly when it does not
-      pub read-then-no-match : Match-answers (take (8 * records) after) text No
-          ↔ ((length text ≤ 65536) × (In-expression bytes text → ⊥))
-      read-then-no-match =
-          Iff·trans (of-read text (λ t. Matches t text → ⊥))
+      -- match answers yes or no exactly when the text has at most 65,536 bytes and lies in the language of the expression,
+      -- or does not
+      pub read-then-match : (matched : Bool) → Match-answers (take (8 * records) after) text (answering matched)
+          ↔ ((length text ≤ 65536) × ((matched ≡ true) ↔ In-expression bytes text))
+      read-then-match matched =
+          Iff·trans (match-exactly _ text matched)
+          (Iff·trans (of-read text (λ t. (matched ≡ true) ↔ Matches t text))
           (Iff·and Iff·rfl (
-            λ never inside. never (same-language text .1 inside),
-            λ never inside. never (same-language text .0 inside),
-          ))
+            λ says. Iff·trans says (same-language text),
+            λ says. Iff·trans says (Iff·symm (same-language text)),
+          )))
 
       -- search finds the part that starts earliest and then ends furthest, of those in the language of the expression
-      pub read-then-search : (s e : ℕ) → Search-answers (take (8 * records) after) text (Found-at s e)
+      pub read-then-search : (s e : ℕ) → Search-answers (take (8 * records) after) text (finding s e)
           ↔ ((length text ≤ 65536) × Found (In-expression bytes) text s e)
       read-then-search s e =
-          Iff·trans (of-read text (λ t. Found (Matches t) text s e))
-          (Iff·and Iff·rfl (found-same text same-language s e, found-same text (λ w. Iff·symm (same-language w)) s e))
+          Iff·trans (search-found-exactly _ text s e)
+          (Iff·trans (of-read text (λ t. Found (Matches t) text s e))
+          (Iff·and Iff·rfl (found-same text same-language s e, found-same text (λ w. Iff·symm (same-language w)) s e)))
 
       -- and nothing exactly when no part is
-      pub read-then-nothing : Search-answers (take (8 * records) after) text Nothing
+      pub read-then-nothing : Search-answers (take (8 * records) after) text (answering false)
           ↔ ((length text ≤ 65536) × Nothing-found (In-expression bytes) text)
       read-then-nothing =
-          Iff·trans (of-read text (λ t. Nothing-found (Matches t) text))
+          Iff·trans (search-nothing-exactly _ text)
+          (Iff·trans (of-read text (λ t. Nothing-found (Matches t) text))
           (Iff·and Iff·rfl (
             λ none s e p. none s e (part-within text (λ w. same-language w .1) s e p),
             λ none s e p. none s e (part-within text (λ w. same-language w .0) s e p),
-          ))
+          )))

@@ -1,6 +1,5 @@
 -- `finder::is_match` meets its contract: each answer is that of the list's tree. Assumes nothing.
-use mathlib.Core.Path.{sym, _∙_}
-use mathlib.Core.Bool.{false≢true}
+use Rattle.finder.specs.Promise.{not-good, too-long, match-refused, match-answered}
 use Rattle.marks.proofs.Told.{told-good, told-not-good}
 use borrow.Author.Needs.{needs}
 use Rattle.finder.proofs.is_match.Statement.{statement}
@@ -20,12 +19,12 @@ enum-told-2 : tie.Need-enum-told-2
 enum-told-2 c = search needs
 
 returns : tie.Need-returns
-returns c = told-not-good _ (c .before .match .keys2) (c .before .before .decide .ensures)
+returns c = match-refused (not-good (told-not-good _ (c .before .match .keys2) (c .before .before .decide .ensures)))
 
 returns-2 : tie.Need-returns-2
 returns-2 c =
     let known = told-good _ (c .before .before .match .keys1) (c .before .before .before .decide .ensures) in
-    record { t = known .some; good = known .good; long = c .if1 .taken }
+    match-refused (too-long (record { t = known .some; good = known .good; long = c .if1 .taken }))
 
 matches-good-requires : tie.Need-matches-good-requires
 matches-good-requires c κs = told-good _ (c .before .before .match .keys1) (c .before .before .before .decide .ensures)
@@ -34,26 +33,23 @@ returns-3 : tie.Need-returns-3
 returns-3 c =
     let known = told-good _ (c .before .before .before .before .match .keys1)
     (c .before .before .before .before .before .decide .ensures) in
-    record {
+    match-answered (record {
       t = known .some;
       good = known .good;
       short = c .before .before .if1 .left;
-      holds =
-          c .before .matches-good .ensures (known .some) (known .good) .0 (c .if2 .taken);
-    }
+      holds = rw (c .if2 .taken) at (c .before .matches-good .ensures (known .some) (known .good));
+    })
 
 returns-4 : tie.Need-returns-4
 returns-4 c =
     let known = told-good _ (c .before .before .before .before .match .keys1)
     (c .before .before .before .before .before .decide .ensures) in
-    record {
+    match-answered (record {
       t = known .some;
       good = known .good;
       short = c .before .before .if1 .left;
-      holds =
-          λ matches. false≢true (sym (c .if2 .left) ∙ c .before .matches-good .ensures (known .some) (known .good) .1
-          matches);
-    }
+      holds = rw (c .if2 .left) at (c .before .matches-good .ensures (known .some) (known .good));
+    })
 
 pub is-match-spec : {M : Type 1} → statement M
 is-match-spec =

@@ -1,5 +1,6 @@
 -- `finder::search` meets its contract: each answer is that of the list's tree. Assumes nothing.
 use Rattle.language.specs.Language.{Matches}
+use Rattle.finder.specs.Promise.{not-good, too-long, search-refused, search-found, search-nothing}
 use Rattle.marks.proofs.Told.{told-good, told-not-good}
 use Rattle.finder.proofs.Told.{told-nothing}
 use borrow.Author.Needs.{needs}
@@ -20,12 +21,13 @@ enum-told-2 : tie.Need-enum-told-2
 enum-told-2 c = search needs
 
 returns : tie.Need-returns
-returns c = told-not-good _ (c .before .match .keys2) (c .before .before .decide .ensures)
+returns c =
+    search-refused (not-good (told-not-good _ (c .before .match .keys2) (c .before .before .decide .ensures)))
 
 returns-2 : tie.Need-returns-2
 returns-2 c =
     let known = told-good _ (c .before .before .match .keys1) (c .before .before .before .decide .ensures) in
-    record { t = known .some; good = known .good; long = c .if1 .taken }
+    search-refused (too-long (record { t = known .some; good = known .good; long = c .if1 .taken }))
 
 search-good-requires : tie.Need-search-good-requires
 search-good-requires c κs = told-good _ (c .before .before .match .keys1) (c .before .before .before .decide .ensures)
@@ -40,25 +42,25 @@ returns-3 : tie.Need-returns-3
 returns-3 c =
     let known = told-good _ (c .before .before .before .before .before .before .match .keys1)
     (c .before .before .before .before .before .before .before .decide .ensures) in
-    record {
+    search-found (record {
       t = known .some;
       good = known .good;
       short = c .before .before .before .before .if1 .left;
       holds =
           rw (c .before .part .given .1) at (c .before .before .before .search-good .ensures (known .some) (known .good));
-    }
+    })
 
 returns-4 : tie.Need-returns-4
 returns-4 c =
     let known = told-good _ (c .before .before .before .before .before .match .keys1)
     (c .before .before .before .before .before .before .decide .ensures) in
-    record {
+    search-nothing (record {
       t = known .some;
       good = known .good;
       short = c .before .before .before .if1 .left;
       holds = told-nothing (Matches (known .some)) _ (c .before .before .search-good .result) (c .before .match2 .keys2)
           (c .before .before .search-good .ensures (known .some) (known .good));
-    }
+    })
 
 pub search-spec : {M : Type 1} → statement M
 search-spec =

@@ -1,0 +1,88 @@
+-- `finder::numbers::match_numbers` meets its contract: each case's tag finds its numbers.
+use Prim.Native.Nat.{ℕ}
+use mathlib.Core.Path.{_≡_, refl, ap, sym, _∙_}
+use mathlib.Core.List.{List, [], _∷_}
+use lib.ListN.{getD}
+use denote.Enum.Declared.{tagOf}
+use borrow.Author.Needs.{needs}
+use Rattle.finder.specs.Answer.{match-numbers}
+use Rattle.finder.specs.declared.Matched.{Matched}
+use Rattle.finder.specs.declared.Matched.the-variants.{Yes, No, NotGood, TooLong}
+use Rattle.finder.proofs.Matched.{the-type}
+use Rattle.finder.proofs.numbers.match_numbers.Statement.{statement}
+use Rattle.finder.proofs.numbers.match_numbers.Tie as tie
+use Rattle.finder.proofs.numbers.match_numbers.Reads as reads
+use Rattle.finder.proofs.numbers.match_numbers.Lts as lts
+use Rattle.finder.proofs.numbers.answering.Reads as answering-reads
+use Rattle.finder.proofs.numbers.refusing.Reads as refusing-reads
+
+-- the cases in their order
+abbrev cases : List Matched
+cases = Yes ∷ No ∷ NotGood ∷ TooLong ∷ []
+
+by-tag : (answer : Matched) → answer ≡ getD cases (tagOf the-type answer) Yes
+by-tag Yes = refl
+by-tag No = refl
+by-tag NotGood = refl
+by-tag TooLong = refl
+
+told : (answer : Matched) (tag : ℕ) → tagOf the-type answer ≡ tag
+    → match-numbers answer ≡ match-numbers (getD cases tag Yes)
+told answer tag e = ap match-numbers (by-tag answer ∙ ap (λ (k : ℕ). getD cases k Yes) e)
+
+enum-told : tie.Need-enum-told
+enum-told c = search needs
+
+answering-requires : tie.Need-answering-requires
+answering-requires c κs = search needs
+
+enum-told-2 : tie.Need-enum-told-2
+enum-told-2 c = search needs
+
+answering-requires-2 : tie.Need-answering-requires-2
+answering-requires-2 c κs = search needs
+
+enum-told-3 : tie.Need-enum-told-3
+enum-told-3 c = search needs
+
+refusing-requires : tie.Need-refusing-requires
+refusing-requires c κs = search needs
+
+enum-told-4 : tie.Need-enum-told-4
+enum-told-4 c = search needs
+
+refusing-requires-2 : tie.Need-refusing-requires-2
+refusing-requires-2 c κs = search needs
+
+returns : tie.Need-returns
+returns c =
+    c .answering .ensures ∙ sym (told (c .before .before .before .args .answer) 0 (c .before .before .match .keys1))
+
+returns-2 : tie.Need-returns-2
+returns-2 c =
+    c .answering2 .ensures ∙ sym (told (c .before .before .before .args .answer) 1 (c .before .before .match .keys2))
+
+returns-3 : tie.Need-returns-3
+returns-3 c =
+    c .refusing .ensures ∙ sym (told (c .before .before .before .args .answer) 2 (c .before .before .match .keys3))
+
+returns-4 : tie.Need-returns-4
+returns-4 c =
+    c .refusing2 .ensures ∙ sym (told (c .before .before .before .args .answer) 3 (c .before .before .match .keys4))
+
+pub match-numbers-spec : {M : Type 1} → statement M
+match-numbers-spec =
+    tie.close
+    (tie.spec
+    enum-told
+    answering-requires
+    enum-told-2
+    answering-requires-2
+    enum-told-3
+    refusing-requires
+    enum-told-4
+    refusing-requires-2
+    returns
+    returns-2
+    returns-3
+    returns-4)

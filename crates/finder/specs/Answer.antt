@@ -1,0 +1,44 @@
+-- The numbers that match and search give back, for each case of their answers.
+use Prim.Native.Nat.{ℕ}
+use mathlib.Core.Bool.{Bool, true, false}
+use Rattle.finder.specs.declared.Matched.{Matched}
+use Rattle.finder.specs.declared.Matched.the-variants.{
+  Yes,
+  No,
+  NotGood as Match-not-good,
+  TooLong as Match-too-long,
+}
+use Rattle.finder.specs.declared.Searched.{Searched}
+use Rattle.finder.specs.declared.Searched.the-variants.{
+  Found,
+  Nothing,
+  NotGood as Search-not-good,
+  TooLong as Search-too-long,
+}
+use Rattle.finder.specs.declared.numbers.Numbers.{Numbers}
+
+-- a refusal gives its number and place 0
+abbrev pub refusing : (number : ℕ) → Numbers
+refusing number = record { refusal = number; place = 0; matched = false; start = 0; end = 0 }
+
+-- whether the text, or a part of it, is in the language
+abbrev pub answering : Bool → Numbers
+answering matched = record { refusal = 0; place = 0; matched = matched; start = 0; end = 0 }
+
+-- the part that was found, by its start and its end
+abbrev pub finding : (start end : ℕ) → Numbers
+finding start end = record { refusal = 0; place = 0; matched = true; start = start; end = end }
+
+-- the numbers of each answer of a match
+abbrev pub match-numbers : Matched → Numbers
+match-numbers Yes = answering true
+match-numbers No = answering false
+match-numbers Match-not-good = refusing 10
+match-numbers Match-too-long = refusing 11
+
+-- the numbers of each answer of a search
+abbrev pub search-numbers : Searched → Numbers
+search-numbers (Found start end) = finding start end
+search-numbers Nothing = answering false
+search-numbers Search-not-good = refusing 10
+search-numbers Search-too-long = refusing 11

@@ -1,0 +1,72 @@
+// The numbers that a match and a search give back.
+use crate::Matched;
+use crate::Searched;
+ghost use mathlib.Core.Path.{_≡_};
+ghost use Rattle.finder.specs.Answer.{refusing, answering, match-numbers, search-numbers};
+
+// The refusal's number, 0 for none, and its place; whether the text matches, or a part of it; that part's start and end.
+pub struct Numbers {
+    pub refusal: u8,
+    pub place: usize,
+    pub matched: bool,
+    pub start: usize,
+    pub end: usize,
+}
+
+const NOT_GOOD: u8 = 10;
+
+const TOO_LONG: u8 = 11;
+
+fn refusing(number: u8) -> Numbers
+    ensures { λ r. ⌜ r ≡ refusing number ⌝ }
+{
+    Numbers {
+        refusal: number,
+        place: 0,
+        matched: false,
+        start: 0,
+        end: 0,
+    }
+}
+
+fn answering(matched: bool) -> Numbers
+    ensures { λ r. ⌜ r ≡ answering matched ⌝ }
+{
+    Numbers {
+        refusal: 0,
+        place: 0,
+        matched,
+        start: 0,
+        end: 0,
+    }
+}
+
+// The numbers of a match's answer.
+pub fn match_numbers(answer: Matched) -> Numbers
+    ensures { λ r. ⌜ r ≡ match-numbers answer ⌝ }
+{
+    match answer {
+        Matched::Yes => answering(true),
+        Matched::No => answering(false),
+        Matched::NotGood => refusing(NOT_GOOD),
+        Matched::TooLong => refusing(TOO_LONG),
+    }
+}
+
+// The numbers of a search's answer.
+pub fn search_numbers(answer: Searched) -> Numbers
+    ensures { λ r. ⌜ r ≡ search-numbers answer ⌝ }
+{
+    match answer {
+        Searched::Found { start, end } => Numbers {
+            refusal: 0,
+            place: 0,
+            matched: true,
+            start,
+            end,
+        },
+        Searched::Nothing => answering(false),
+        Searched::NotGood => refusing(NOT_GOOD),
+        Searched::TooLong => refusing(TOO_LONG),
+    }
+}
