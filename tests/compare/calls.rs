@@ -5,7 +5,7 @@ use crate::wrapper::foamlattice::MOST_OUTPUT;
 use std::fmt::Debug;
 
 // SAFETY of every call below: each pointer and length is that of one whole slice, and what is written to is lent alone.
-extern "C" {
+unsafe extern "C" {
     fn foam_read(expression: *const u8, expression_length: usize, records: *mut u8, records_length: usize) -> u64;
     fn foam_match(records: *const u8, records_length: usize, text: *const u8, text_length: usize) -> u64;
     fn foam_search(records: *const u8, records_length: usize, text: *const u8, text_length: usize) -> u64;

@@ -6,6 +6,8 @@ use crate::wrapper::foamlattice::MOST_RECORD_BYTES;
 
 const EXPRESSIONS: &str = include_str!("../../crates/desk/stdin");
 const LEAP_DAY: &str = "02-29";
+const END_OF_FEBRUARY: [&str; 3] = ["02-28", LEAP_DAY, "03-01"];
+const NO_DATES: [&str; 7] = ["02-30", "04-31", "13-01", "00-10", "2-29", "02-299", ""];
 const DAYS: [usize; 12] = [31, 29, 31, 30, 31, 30, 31, 31, 30, 31, 30, 31];
 
 fn dates() -> impl Iterator<Item = String> {
@@ -27,6 +29,15 @@ fn loses_leap_day(tree: &Tree, bit: usize, alone: bool) -> bool {
     })
 }
 
+/// The date with one bit changed, in each of its bytes.
+fn changed(date: &str, bit: u8) -> impl Iterator<Item = Vec<u8>> + '_ {
+    (0..date.len()).map(move |at| {
+        let mut text = date.as_bytes().to_vec();
+        text[at] ^= bit;
+        text
+    })
+}
+
 /// Line 0 is the plain expression. Line n is there for the top bit 9 + 2 n. A piece below another has at least 8 nodes, so
 /// lines 1 and 2 are about the root's piece, through which all dates pass.
 pub fn compare() -> usize {
@@ -35,15 +46,21 @@ pub fn compare() -> usize {
         let tree = expected::read(e.as_bytes()).expect("a good expression");
         assert!(line == 0 || loses_leap_day(&tree, 9 + 2 * line, line > 2), "line {line} is not for its bit");
         let list = calls::read(e.as_bytes(), MOST_RECORD_BYTES).expect("a good expression");
-        for date in dates() {
+        for date in END_OF_FEBRUARY.map(String::from).into_iter().chain(dates()) {
             assert!(is_match(list.automaton(), &date), "line {line} does not match {date}");
             list.compare_text(date.as_bytes());
-            count += 1;
+            changed(&date, 1).for_each(|text| list.compare_text(&text));
+            count += 6;
         }
-        for text in ["02-30", "06-31", "13-01", "00-10", "02-2", "02-290", ""] {
+        for text in NO_DATES {
+            assert!(line > 0 || !is_match(list.automaton(), text), "the plain expression matches {text}");
             list.compare_text(text.as_bytes());
         }
+        for text in END_OF_FEBRUARY.iter().flat_map(|date| changed(date, 128)) {
+            list.compare_text(&text);
+        }
+        count += NO_DATES.len() + 15;
     }
-    assert_eq!(count, 27 * 366, "27 expressions, 366 dates");
+    assert_eq!(count, 27 * (6 * 369 + 7 + 15), "27 expressions, the same texts for each");
     count
 }

@@ -11,7 +11,7 @@ use std::thread::{sleep, spawn};
 use std::time::{Duration, Instant};
 
 // The C library's, on Linux.
-extern "C" {
+unsafe extern "C" {
     fn ioctl(descriptor: i32, request: u64, answer: *mut i32) -> i32;
     fn kill(process: i32, signal: i32) -> i32;
 }

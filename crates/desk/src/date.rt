@@ -46,3 +46,14 @@ pub fn text_of(date: usize) -> [u8; 5]
         digit(day),
     ]
 }
+
+// The date with one bit of the byte at a place changed.
+pub fn changed(date: usize, at: usize, bit: u8) -> [u8; 5]
+    ensures { λ r. ⌜ 5 ≡ length r ⌝ }
+{
+    let mut text = text_of(date);
+    if at < 5 {
+        text[at] = text[at] ^ bit;
+    }
+    text
+}

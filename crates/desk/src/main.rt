@@ -1,5 +1,5 @@
-// The desk's own trial: each line of standard input is an expression, and is tried on all 366 dates; what the first
-// picks is listed.
+// The desk's own trial: each line of standard input is an expression, and is tried on the end of February, on all 366
+// dates and on texts that are no dates; the dates that the first picks are listed.
 mod date;
 mod trial;
 

@@ -1,5 +1,6 @@
-// One expression on all dates.
+// One expression on dates and on texts that are none.
 use crate::date::FIRST;
+use crate::date::changed;
 use crate::date::next_date;
 use crate::date::text_of;
 use finder::Matched;
@@ -9,6 +10,9 @@ ghost use Prim.Native.Nat.{_+_, _≤_, _<_};
 ghost use mathlib.Core.Path.{_≡_};
 ghost use lib.ListN.{length};
 
+// How many dates there are.
+const DATES: usize = 366;
+
 fn say(text: &[u8]) {
     io::write_all(STDOUT_FILENO, text);
 }
@@ -17,17 +21,57 @@ fn say_number(number: u64) {
     io::print_decimal(STDOUT_FILENO, number);
 }
 
-// Whether the list's language has the date.
-fn picks(list: &[u8], date: usize) -> bool {
-    let text = text_of(date);
-    let matched = finder::is_match(list, &text);
+// Whether the list's language has the text.
+fn picks(list: &[u8], text: &[u8]) -> bool {
+    let matched = finder::is_match(list, text);
     let Matched::Yes = matched else {
         return false;
     };
     true
 }
 
-// How many are picked, after one more date.
+fn picks_date(list: &[u8], date: usize) -> bool {
+    let text = text_of(date);
+    picks(list, &text)
+}
+
+// Whether the list's language has the date with one bit of the byte at a place changed.
+fn picks_changed(list: &[u8], date: usize, at: usize, bit: u8) -> bool {
+    let text = changed(date, at, bit);
+    picks(list, &text)
+}
+
+// A name, and whether its text is picked.
+fn say_picked(name: &[u8], list: &[u8], text: &[u8]) {
+    say(name);
+    if picks(list, text) {
+        say(b" yes");
+    } else {
+        say(b" no");
+    }
+}
+
+// The three dates that once were told apart wrongly.
+fn say_end_of_february(list: &[u8]) {
+    say_picked(b"02-28", list, b"02-28");
+    say_picked(b", 02-29", list, b"02-29");
+    say_picked(b", 03-01", list, b"03-01");
+    say(b"\n");
+}
+
+// Texts that look like dates and are none.
+fn say_no_dates(list: &[u8]) {
+    say_picked(b"02-30", list, b"02-30");
+    say_picked(b", 04-31", list, b"04-31");
+    say_picked(b", 13-01", list, b"13-01");
+    say_picked(b", 00-10", list, b"00-10");
+    say_picked(b", 2-29", list, b"2-29");
+    say_picked(b", 02-299", list, b"02-299");
+    say_picked(b", an empty line", list, b"");
+    say(b"\n");
+}
+
+// How many are picked, after one more text.
 fn one_more_if(yes: bool, picked: u64) -> u64
     requires { ⌜ picked < 366 ⌝ }
     ensures { λ r. ⌜ r ≤ picked + 1 ⌝ }
@@ -48,7 +92,7 @@ fn pick_dates(list: &[u8], places: &mut [u64]) -> u64
     let mut date = FIRST;
     let mut k = 0;
     while k < places.len() {
-        let yes = picks(list, date);
+        let yes = picks_date(list, date);
         picked = one_more_if(yes, picked);
         places[k] = place_if(yes, picked);
         date = next_date(date);
@@ -80,21 +124,60 @@ fn list_dates(places: &[u64]) {
     }
 }
 
-// Picks the dates by a list, and says how many were picked, and the places of 29 February and 1 March.
-fn pick_by(list: &[u8], pieces: usize, listed: bool) {
-    let mut places = [0u64; 366];
+// All dates: how many are picked, and the places of 29 February and 1 March.
+fn say_dates(list: &[u8], listed: bool) {
+    let mut places = [0u64; DATES];
     let picked = pick_dates(list, &mut places);
     if listed {
         list_dates(&places);
     }
-    say_number(pieces as u64);
-    say(b" pieces, ");
     say_number(picked);
-    say(b" of 366 picked, 02-29 is ");
+    say(b" of 366 dates, 02-29 is ");
     say_number(places[59]);
     say(b", 03-01 is ");
     say_number(places[60]);
     say(b"\n");
+}
+
+// How many of the dates are picked when one bit of the byte at a place is changed in each.
+fn picked_when_changed(list: &[u8], at: usize, bit: u8) -> u64 {
+    let mut picked = 0;
+    let mut date = FIRST;
+    let mut k = 0;
+    while k < DATES {
+        let yes = picks_changed(list, date, at, bit);
+        picked = one_more_if(yes, picked);
+        date = next_date(date);
+        k += 1;
+    }
+    picked
+}
+
+fn say_changed_at(list: &[u8], at: usize, bit: u8) {
+    say_number(picked_when_changed(list, at, bit));
+    say(b" ");
+}
+
+// The dates with one bit changed: how many are picked, for each of their five bytes.
+fn say_changed(list: &[u8], bit: u8) {
+    say_changed_at(list, 0, bit);
+    say_changed_at(list, 1, bit);
+    say_changed_at(list, 2, bit);
+    say_changed_at(list, 3, bit);
+    say_changed_at(list, 4, bit);
+}
+
+// Tries a list on everything, the dates that matter most first.
+fn try_list(list: &[u8], pieces: usize, listed: bool) {
+    say_number(pieces as u64);
+    say(b" pieces\n");
+    say_end_of_february(list);
+    say_dates(list, listed);
+    say_no_dates(list);
+    say_changed(list, 1);
+    say(b"of 366 with the lowest bit of a byte changed\n");
+    say_changed(list, 128);
+    say(b"of 366 with the highest bit of a byte changed\n");
 }
 
 // How many bytes so many records have.
@@ -105,7 +188,7 @@ fn bytes_of(records: usize) -> isize {
     (8 * records) as isize
 }
 
-// Reads an expression and tries it on all dates; lists what it picks where that is asked.
+// Reads an expression and tries it; lists what dates it picks where that is asked.
 pub fn trial(expr: &[u8], listed: bool) {
     let mut list = [0u8; 15360];
     let answer = reader::read(expr, &mut list);
@@ -114,5 +197,5 @@ pub fn trial(expr: &[u8], listed: bool) {
         return;
     };
     let n = io::count(bytes_of(records), &list);
-    pick_by(&list[..n], pieces, listed);
+    try_list(&list[..n], pieces, listed);
 }

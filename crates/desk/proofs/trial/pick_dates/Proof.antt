@@ -17,8 +17,8 @@ abbrev μ-loop : tie.MeasureT-loop
 loop-holds : tie.Need-loop-holds Inv-loop μ-loop
 loop-holds c = search needs
 
-picks-requires : tie.Need-picks-requires Inv-loop μ-loop
-picks-requires c κs = search needs
+picks-date-requires : tie.Need-picks-date-requires Inv-loop μ-loop
+picks-date-requires c κs = search needs
 
 one-more-if-requires : tie.Need-one-more-if-requires Inv-loop μ-loop
 one-more-if-requires c κs = search needs
@@ -57,7 +57,7 @@ pick-dates-spec =
     Inv-loop
     μ-loop
     loop-holds
-    picks-requires
+    picks-date-requires
     one-more-if-requires
     place-if-requires
     mul-places
