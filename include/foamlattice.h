@@ -1,8 +1,12 @@
 /* Foamlattice: a proved matcher for regular expressions.
  *
  * Every function takes slices as a pointer and a length, ends and answers on all bytes and words that it can be
- * handed, and keeps nothing. A pointer is never null, also where its length is 0.
- * The pointers of one call that are written through must not overlap the others.
+ * handed, and keeps nothing between calls. It allocates nothing; what it needs it takes from the stack: 25 KB in
+ * foam_read, 125 KB in foam_match, foam_search, foam_start and foam_step, 131 KB in foam_pick, as measured.
+ *
+ * What a caller must see to, since it cannot be checked: no pointer is null, also where its length is 0; each points to
+ * as many bytes or words as its length says, words aligned as uint64_t; what is written through overlaps nothing else
+ * that is lent to the same call. The archive libfoamlattice.a is for x86-64 (Linux, System V calling convention).
  *
  * Each function answers one number:
  *   bits  0 to  7  the refusal's number, 0 where nothing is refused
@@ -27,7 +31,7 @@
 #include <stddef.h>
 #include <stdint.h>
 
-/* The most bytes that foam_pick writes. */
+/* The length of buffer that foam_pick asks for: no output is longer than this. */
 #define FOAM_MOST_OUTPUT 1048575
 
 #ifdef __cplusplus
@@ -47,11 +51,15 @@ uint64_t foam_match(const uint8_t *records, size_t records_length, const uint8_t
  * empty. Refusals as foam_match. */
 uint64_t foam_search(const uint8_t *records, size_t records_length, const uint8_t *text, size_t text_length);
 
-/* Writes the marks to start with: one word for each piece. Refusals: 10 not a good list; 12 fewer words than pieces. */
+/* Writes the marks to start with: one word for each piece. What the words held before is not read, and words past the
+ * pieces are neither read nor written. The flag is 1 where the empty text is in the language. Refusals: 10 not a good
+ * list; 12 fewer words than pieces. */
 uint64_t foam_start(const uint8_t *records, size_t records_length, uint64_t *words, size_t words_length);
 
-/* Turns the marks into those after one more byte. Refusals: 10; 12; 13 a bit past the last state is set, or the two bits
- * of a shared state differ. */
+/* Turns the marks into those after one more byte: a state is marked exactly when a path leads to it from a state that was
+ * marked, by this one byte and then any number of empty transitions. After a start and a step for each byte of a text the
+ * flag is 1 where that text is in the language. Words past the pieces are neither read nor written. Refusals: 10; 12; 13 a
+ * bit past the last state is set, or the two bits of a shared state differ. */
 uint64_t foam_step(const uint8_t *records, size_t records_length, uint64_t *words, size_t words_length, uint8_t byte);
 
 /* Writes what the program `pick` prints for an input of any length: its first line is an expression, each later one a text,

@@ -1,6 +1,7 @@
 //! Safe wrappers for the proved library: slices in, `Result` out. Add this file to a crate and link `libfoamlattice.a`.
 
-extern "C" {
+// SAFETY: these are the functions of `libfoamlattice.a`, declared as `include/foamlattice.h` has them.
+unsafe extern "C" {
     fn foam_read(expression: *const u8, expression_length: usize, records: *mut u8, records_length: usize) -> u64;
     fn foam_match(records: *const u8, records_length: usize, text: *const u8, text_length: usize) -> u64;
     fn foam_search(records: *const u8, records_length: usize, text: *const u8, text_length: usize) -> u64;
@@ -9,7 +10,7 @@ extern "C" {
     fn foam_pick(input: *const u8, input_length: usize, output: *mut u8, output_length: usize) -> u64;
 }
 
-/// Why a call was refused: the number of the table of refusals, and the place (0 unless the table names one).
+/// Why a call was refused: its number, and its place (0 unless the refusal names one). docs/REFERENCE.md has them all.
 #[derive(Clone, Copy, Debug, PartialEq, Eq)]
 pub struct Refusal {
     pub number: u8,
@@ -29,7 +30,7 @@ pub const MOST_RECORD_BYTES: usize = 15 * 128 * 8;
 /// One word for each piece that a list can have.
 pub const MOST_WORDS: usize = 128;
 
-/// The longest output of `pick`, so the shortest buffer that it takes.
+/// The shortest buffer that `pick` takes: no output is longer than this.
 pub const MOST_OUTPUT: usize = 1_048_575;
 
 struct Packed(u64);
@@ -76,14 +77,17 @@ pub fn find(records: &[u8], text: &[u8]) -> Result<Option<std::ops::Range<usize>
     packed.checked().map(|p| p.flag().then(|| p.x()..p.y()))
 }
 
-/// Marks the start in `words`, one for each piece, and answers whether the empty text is in the language.
+/// Writes the marks to start with into `words`, one for each piece, and answers whether the root's accepting state is marked:
+/// whether the empty text is in the language. Words past the pieces are neither read nor written.
 pub fn start(records: &[u8], words: &mut [u64]) -> Result<bool, Refusal> {
     // SAFETY: both slices are valid for their lengths for the call, and `words` is lent to it alone.
     let packed = Packed(unsafe { foam_start(records.as_ptr(), records.len(), words.as_mut_ptr(), words.len()) });
     packed.checked().map(|p| p.flag())
 }
 
-/// Moves the marks in `words` along one byte, and answers whether the bytes so far are in the language.
+/// Moves the marks in `words` along one byte, and answers whether the root's accepting state is marked then. Any marks are
+/// taken that are not refused; only after a [`start`] and a step for each byte of a text does that say whether the text is in
+/// the language. Words past the pieces are neither read nor written.
 pub fn step(records: &[u8], words: &mut [u64], byte: u8) -> Result<bool, Refusal> {
     // SAFETY: both slices are valid for their lengths for the call, and `words` is lent to it alone.
     let packed = Packed(unsafe { foam_step(records.as_ptr(), records.len(), words.as_mut_ptr(), words.len(), byte) });

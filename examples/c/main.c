@@ -41,7 +41,7 @@ int main(void) {
     if (flag(answer))
         printf("found %.*s from %zu to %zu\n", (int)(y(answer) - x(answer)), text + x(answer), x(answer), y(answer));
 
-    /* Step: the marks are yours to keep, and each step says whether the bytes so far match. */
+    /* Step: the marks are yours to keep, and after a start each step says whether the bytes so far match. */
     uint64_t words[MOST_WORDS];
     foam_start(buffer, length, words, MOST_WORDS);
     for (const char *at = "02-29"; *at != 0; at++) {

@@ -26,7 +26,7 @@ fn main() -> Result<(), Refusal> {
         println!("found {} from {} to {}", &text[part.clone()], part.start, part.end);
     }
 
-    // Step: the marks are yours to keep, and each step says whether the bytes so far match.
+    // Step: the marks are yours to keep, and after a start each step says whether the bytes so far match.
     let mut words = [0; MOST_WORDS];
     foamlattice::start(list, &mut words)?;
     for byte in "02-29".bytes() {
