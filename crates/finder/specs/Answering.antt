@@ -9,8 +9,7 @@ use mathlib.Core.List.{List, [], _∷_, _++_}
 use native.Mathlib.Omega.{arith}
 use lib.ListN.{length, getD}
 use Rattle.language.specs.Tree.{Tree}
-use Rattle.language.specs.Language.{Matches}
-use Rattle.tree.specs.Leaf.{Leaf}
+use Rattle.tree.specs.Leaf.{Leaf, Matches}
 use Rattle.tables.specs.Tables.{Holding, Answered}
 use Rattle.finder.specs.Found.{part, Part, part-empty, part-next, part-join}
 use Rattle.finder.specs.Progress.{better, Says, So-far, Settled, so-far-first, so-far-next, so-far-settled}

@@ -5,7 +5,8 @@ use mathlib.Core.Path.{_≡_, refl, ap}
 use mathlib.Core.Bool.{Bool, true, false, _&&_, _||_, false≢true}
 use mathlib.Core.Logic.{_↔_, Iff·trans, _⊎_, inl, inr, ⊎-elim}
 use mathlib.Core.List.{List, [], _∷_}
-use Rattle.finder.specs.Decide.{both}
+use Rattle.finder.specs.Decide.{both, Tests}
+use Rattle.language.specs.Meaning.{Meaning}
 use Rattle.language.specs.Automaton.{State, start, accepting, left, right, States, Started, Stepped, After}
 use Rattle.language.specs.Nested.{
   Nested,
@@ -49,6 +50,11 @@ or-exactly : (a b : Bool) {P Q : Type 0} → (a ≡ true) ↔ P → (b ≡ true)
 or-exactly true b p q = (λ e. inl (p .0 refl), λ s. refl)
 or-exactly false b p q = (λ e. inr (q .0 e), ⊎-elim (λ x. absurd (false≢true (p .1 x))) (q .1))
 
+-- both of two tests pass
+and-exactly : (a b : Bool) {P Q : Type 0} → (a ≡ true) ↔ P → (b ≡ true) ↔ Q → ((a && b) ≡ true) ↔ (P × Q)
+and-exactly true b p q = (λ e. (p .0 refl, q .0 e), λ (_, y). q .1 y)
+and-exactly false b p q = (λ e. absurd (false≢true e), λ (x, _). absurd (false≢true (p .1 x)))
+
 -- a test that fails decides what does not hold
 never : {P : Type 0} → (P → ⊥) → (false ≡ true) ↔ P
 never none = (λ e. absurd (false≢true e), λ p. absurd (none p))
@@ -67,27 +73,6 @@ first walk f = walk (entered (λ p. f (left p)) (f start))
 -- what a walk makes of a right child, entered where p passes
 abbrev second : (Test → Test) → Bool → Test → Test
 second walk p f = walk (entered (λ q. f (right q)) p)
-
--- one walk over the states in their order
-unfoldable pub walked : {A : Type 0} → Nested A → Test → Test
-walked (leaf a) f q = f q
-walked (catenation x y) f start = f start
-walked (catenation x y) f (left q) = first (walked x) f q
-walked (catenation x y) f (right q) = second (walked y) (first (walked x) f accepting) f q
-walked (catenation x y) f accepting = f accepting || second (walked y) (first (walked x) f accepting) f accepting
-walked (union x y) f start = f start
-walked (union x y) f (left q) = first (walked x) f q
-walked (union x y) f (right q) = second (walked y) (f start) f q
-walked (union x y) f accepting =
-    f accepting || (first (walked x) f accepting || second (walked y) (f start) f accepting)
-walked (star x) f start = f start
-walked (star x) f (left q) = entered (first (walked x) f) (first (walked x) f accepting) q
-walked (star x) f (right q) = f (right q)
-walked (star x) f accepting = f accepting || (f start || first (walked x) f accepting)
-walked (below x) f start = f start
-walked (below x) f (left q) = first (walked x) f q
-walked (below x) f (right q) = f (right q)
-walked (below x) f accepting = f accepting || first (walked x) f accepting
 
 -- the start added to a test is the start added to the set that it decides
 entered-exactly : {f : Test} {X : States} {p : Bool} {P : Type 0} → Decides f X → (p ≡ true) ↔ P
@@ -109,41 +94,71 @@ second-exactly : {walk : Test → Test} {Walk : States → States} → Follows w
     → (p ≡ true) ↔ P → Follows (second walk p) (Second Walk P)
 second-exactly follows e f X d = follows _ _ (entered-exactly (λ p. d (right p)) e)
 
--- a walk over tests decides what a walk over sets marks
-walked-exactly : {A : Type 0} (x : Nested A) → Follows (walked x) (Walked x)
-unfolding walked
-walked-exactly (leaf a) f X d q = d q
-walked-exactly (catenation x y) f X d start = d start
-walked-exactly (catenation x y) f X d (left q) = first-exactly (walked-exactly x) f X d q
-walked-exactly (catenation x y) f X d (right q) =
-    second-exactly (walked-exactly y) (first-exactly (walked-exactly x) f X d accepting) f X d q
-walked-exactly (catenation x y) f X d accepting =
-    or-exactly _ _ (d accepting) (second-exactly (walked-exactly y) (first-exactly (walked-exactly x) f X d accepting) f
-    X d accepting)
-walked-exactly (union x y) f X d start = d start
-walked-exactly (union x y) f X d (left q) = first-exactly (walked-exactly x) f X d q
-walked-exactly (union x y) f X d (right q) = second-exactly (walked-exactly y) (d start) f X d q
-walked-exactly (union x y) f X d accepting =
-    or-exactly _ _ (d accepting)
-    (or-exactly _ _ (first-exactly (walked-exactly x) f X d accepting)
-    (second-exactly (walked-exactly y) (d start) f X d accepting))
-walked-exactly (star x) f X d start = d start
-walked-exactly (star x) f X d (left q) =
-    entered-exactly (first-exactly (walked-exactly x) f X d) (first-exactly (walked-exactly x) f X d accepting) q
-walked-exactly (star x) f X d (right q) = d (right q)
-walked-exactly (star x) f X d accepting =
-    or-exactly _ _ (d accepting) (or-exactly _ _ (d start) (first-exactly (walked-exactly x) f X d accepting))
-walked-exactly (below x) f X d start = d start
-walked-exactly (below x) f X d (left q) = first-exactly (walked-exactly x) f X d q
-walked-exactly (below x) f X d (right q) = d (right q)
-walked-exactly (below x) f X d accepting =
-    or-exactly _ _ (d accepting) (first-exactly (walked-exactly x) f X d accepting)
+module _ {A : Type 0} (M : Meaning A) (tests : Tests M) where
+  -- one walk over the states in their order
+  unfoldable pub walked : Nested A → Test → Test
+  walked (leaf a) f start = f start
+  walked (leaf a) f accepting = f accepting || (tests .has-empty a && f start)
+  walked (leaf a) f (left q) = f (left q)
+  walked (leaf a) f (right q) = f (right q)
+  walked (catenation x y) f start = f start
+  walked (catenation x y) f (left q) = first (walked x) f q
+  walked (catenation x y) f (right q) = second (walked y) (first (walked x) f accepting) f q
+  walked (catenation x y) f accepting = f accepting || second (walked y) (first (walked x) f accepting) f accepting
+  walked (union x y) f start = f start
+  walked (union x y) f (left q) = first (walked x) f q
+  walked (union x y) f (right q) = second (walked y) (f start) f q
+  walked (union x y) f accepting =
+      f accepting || (first (walked x) f accepting || second (walked y) (f start) f accepting)
+  walked (star x) f start = f start
+  walked (star x) f (left q) = entered (first (walked x) f) (first (walked x) f accepting) q
+  walked (star x) f (right q) = f (right q)
+  walked (star x) f accepting = f accepting || (f start || first (walked x) f accepting)
+  walked (below x) f start = f start
+  walked (below x) f (left q) = first (walked x) f q
+  walked (below x) f (right q) = f (right q)
+  walked (below x) f accepting = f accepting || first (walked x) f accepting
 
-module _ {A : Type 0} (takes : A → ℕ → Bool) (b : ℕ) where
+  -- a walk over tests decides what a walk over sets marks
+  walked-exactly : (x : Nested A) → Follows (walked x) (Walked M x)
+  unfolding walked
+  walked-exactly (leaf a) f X d start = d start
+  walked-exactly (leaf a) f X d accepting =
+      or-exactly _ _ (d accepting) (and-exactly _ _ (tests .empty-exactly a) (d start))
+  walked-exactly (leaf a) f X d (left q) = d (left q)
+  walked-exactly (leaf a) f X d (right q) = d (right q)
+  walked-exactly (catenation x y) f X d start = d start
+  walked-exactly (catenation x y) f X d (left q) = first-exactly (walked-exactly x) f X d q
+  walked-exactly (catenation x y) f X d (right q) =
+      second-exactly (walked-exactly y) (first-exactly (walked-exactly x) f X d accepting) f X d q
+  walked-exactly (catenation x y) f X d accepting =
+      or-exactly _ _ (d accepting) (second-exactly (walked-exactly y)
+      (first-exactly (walked-exactly x) f X d accepting) f
+      X d accepting)
+  walked-exactly (union x y) f X d start = d start
+  walked-exactly (union x y) f X d (left q) = first-exactly (walked-exactly x) f X d q
+  walked-exactly (union x y) f X d (right q) = second-exactly (walked-exactly y) (d start) f X d q
+  walked-exactly (union x y) f X d accepting =
+      or-exactly _ _ (d accepting)
+      (or-exactly _ _ (first-exactly (walked-exactly x) f X d accepting)
+      (second-exactly (walked-exactly y) (d start) f X d accepting))
+  walked-exactly (star x) f X d start = d start
+  walked-exactly (star x) f X d (left q) =
+      entered-exactly (first-exactly (walked-exactly x) f X d) (first-exactly (walked-exactly x) f X d accepting) q
+  walked-exactly (star x) f X d (right q) = d (right q)
+  walked-exactly (star x) f X d accepting =
+      or-exactly _ _ (d accepting) (or-exactly _ _ (d start) (first-exactly (walked-exactly x) f X d accepting))
+  walked-exactly (below x) f X d start = d start
+  walked-exactly (below x) f X d (left q) = first-exactly (walked-exactly x) f X d q
+  walked-exactly (below x) f X d (right q) = d (right q)
+  walked-exactly (below x) f X d accepting =
+      or-exactly _ _ (d accepting) (first-exactly (walked-exactly x) f X d accepting)
+
+module _ {A : Type 0} (M : Meaning A) (tests : Tests M) (b : ℕ) where
   -- what passes after moving along the byte b
   unfoldable pub moved : Nested A → Test → Test
   moved (leaf a) f start = false
-  moved (leaf a) f accepting = f start && takes a b
+  moved (leaf a) f accepting = f start && tests .takes a b
   moved (leaf a) f (left q) = false
   moved (leaf a) f (right q) = false
   moved (catenation x y) f start = false
@@ -163,13 +178,11 @@ module _ {A : Type 0} (takes : A → ℕ → Bool) (b : ℕ) where
   moved (below x) f (left q) = moved x (λ p. f (left p)) q
   moved (below x) f (right q) = false
 
-module _ {A : Type 0} (Takes : A → ℕ → Type 0) (takes : A → ℕ → Bool) (exactly : (a : A) (b : ℕ)
-    → (takes a b ≡ true) ↔ Takes a b) (b : ℕ) where
   -- a reading transition from a state of the set leads to one that passes
-  moved-passes : {x : Nested A} {p q : State} → Reading Takes b x p q → (f : Test) → f p ≡ true
-      → moved takes b x f q ≡ true
+  moved-passes : {x : Nested A} {p q : State} → Reading M b x p q → (f : Test) → f p ≡ true
+      → moved x f q ≡ true
   unfolding moved
-  moved-passes (at-leaf {a = a} h) f e = rw (e, exactly a b .1 h)
+  moved-passes (at-leaf {a = a} h) f e = rw (e, tests .takes-exactly a b .1 h)
   moved-passes (catenation-left r) f e = moved-passes r (λ p. f (left p)) e
   moved-passes (catenation-right r) f e = moved-passes r (λ p. f (right p)) e
   moved-passes (union-left r) f e = moved-passes r (λ p. f (left p)) e
@@ -179,16 +192,16 @@ module _ {A : Type 0} (Takes : A → ℕ → Type 0) (takes : A → ℕ → Bool
 
   -- a move in a part is a move in the whole
   wider : {x z : Nested A} {X : States} {q : State} (into : State → State)
-      → ((p : State) → Reading Takes b x p q → Reading Takes b z (into p) (into q)) → Move Takes b x (λ p. X (into p)) q
-      → Move Takes b z X (into q)
+      → ((p : State) → Reading M b x p q → Reading M b z (into p) (into q)) → Move M b x (λ p. X (into p)) q
+      → Move M b z X (into q)
   wider into reading m = (into (m .0), m .1, reading (m .0) (m .2))
 
   -- what passes is reached by a reading transition from what passed
-  moved-found : (x : Nested A) (f : Test) (q : State) → moved takes b x f q ≡ true → Move Takes b x (Passing f) q
+  moved-found : (x : Nested A) (f : Test) (q : State) → moved x f q ≡ true → Move M b x (Passing f) q
   unfolding moved
   moved-found (leaf a) f start e = absurd (false≢true e)
   moved-found (leaf a) f accepting e = let (p, q) =
-      both (f start) (takes a b) e in (start, p, at-leaf (exactly a b .0 q))
+      both (f start) (tests .takes a b) e in (start, p, at-leaf (tests .takes-exactly a b .0 q))
   moved-found (leaf a) f (left q) e = absurd (false≢true e)
   moved-found (leaf a) f (right q) e = absurd (false≢true e)
   moved-found (catenation x y) f start e = absurd (false≢true e)
@@ -210,22 +223,24 @@ module _ {A : Type 0} (Takes : A → ℕ → Type 0) (takes : A → ℕ → Bool
   moved-found (below x) f (right q) e = absurd (false≢true e)
 
   -- so the test decides the move
-  moved-exactly : (x : Nested A) (f : Test) → Decides (moved takes b x f) (Move Takes b x (Passing f))
+  moved-exactly : (x : Nested A) (f : Test) → Decides (moved x f) (Move M b x (Passing f))
   moved-exactly x f q = (moved-found x f q, λ m. moved-passes (m .2) f (m .1))
 
--- two walks mark what two sweeps mark
-walks-sweep : {A : Type 0} (x : Nested A) (X : States) (q : State) → Walked x (Walked x X) q ↔ Sweep x (Sweep x X) q
-walks-sweep x X q = (
-  λ m. sweep-walked x (Sweep x X) q (walked-more x (Walked x X) (Sweep x X) (sweep-walked x X) q m),
-  sweep-within x (Sweep x X) _ (two-walks-settle x X)
-      (sweep-within x X _ (two-walks-settle x X) (λ p m. walked-keeps x _ p (walked-keeps x X p m))) q,
-)
+module _ {A : Type 0} (M : Meaning A) (tests : Tests M) (x : Nested A) where
+  -- two walks mark what two sweeps mark
+  walks-sweep : (X : States) (q : State) → Walked M x (Walked M x X) q ↔ Sweep M x (Sweep M x X) q
+  walks-sweep X q = (
+    λ m. sweep-walked M x (Sweep M x X) q (walked-more M x (Walked M x X) (Sweep M x X) (sweep-walked M x X) q m),
+    sweep-within M x (Sweep M x X) _ (two-walks-settle M x X)
+        (sweep-within M x X _ (two-walks-settle M x X) (λ p m. walked-keeps M x _ p (walked-keeps M x X p m))) q,
+  )
 
--- two walks over tests decide two sweeps
-swept-exactly : {A : Type 0} (x : Nested A) (f : Test) (X : States) → Decides f X
-    → Decides (walked x (walked x f)) (Sweep x (Sweep x X))
-swept-exactly x f X d q = Iff·trans (walked-exactly x (walked x f) (Walked x X) (walked-exactly x f X d) q)
-    (walks-sweep x X q)
+  -- two walks over tests decide two sweeps
+  swept-exactly : (f : Test) (X : States) → Decides f X
+      → Decides (walked M tests x (walked M tests x f)) (Sweep M x (Sweep M x X))
+  swept-exactly f X d q =
+      let once = walked-exactly M tests x f X d in
+      Iff·trans (walked-exactly M tests x (walked M tests x f) (Walked M x X) once q) (walks-sweep X q)
 
 -- only the start
 abbrev pub only-start : Test
@@ -246,34 +261,33 @@ decided-models : {A : Type 0} (x : Nested A) (X : States) {f : Test} {marks : St
     → Models x marks X → Models x (Passing f) X
 decided-models x X d models q has = Iff·trans (d q) (models q has)
 
--- the marks to start with, as a test
-abbrev pub start-test : {A : Type 0} → Nested A → Test
-start-test x = walked x (walked x only-start)
+module _ {A : Type 0} (M : Meaning A) (tests : Tests M) (x : Nested A) where
+  -- the marks to start with, as a test
+  abbrev pub start-test : Test
+  start-test = walked M tests x (walked M tests x only-start)
 
-module _ {A : Type 0} (takes : A → ℕ → Bool) (x : Nested A) where
   -- one byte further: move along it, then two walks
   abbrev pub step-test : ℕ → Test → Test
-  step-test b f = walked x (walked x (moved takes b x f))
+  step-test b f = walked M tests x (walked M tests x (moved M tests b x f))
 
   -- after a text
   abbrev pub after-test : List ℕ → Test → Test
   after-test [] f = f
   after-test (b ∷ w) f = after-test w (step-test b f)
 
-module _ {A : Type 0} (Takes : A → ℕ → Type 0) (takes : A → ℕ → Bool) (exactly : (a : A) (b : ℕ)
-    → (takes a b ≡ true) ↔ Takes a b) (x : Nested A) where
   -- byte by byte the test models the marks of the plain simulation
   after-models : (w : List ℕ) (f : Test) (X : States) → Models x (Passing f) X
-      → Models x (Passing (after-test takes x w f)) (After Takes (whole x) w X)
+      → Models x (Passing (after-test w f)) (After M (whole x) w X)
   after-models [] f X models = models
   after-models (b ∷ w) f X models =
-      after-models w (step-test takes x b f) (Stepped Takes (whole x) b X)
-      (decided-models x (Stepped Takes (whole x) b X) (swept-exactly x _ _ (moved-exactly Takes takes exactly b x f))
-      (sweeps-step Takes b x (Passing f) X models))
+      after-models w (step-test b f) (Stepped M (whole x) b X)
+      (decided-models x (Stepped M (whole x) b X) (swept-exactly M tests x _ _ (moved-exactly M tests b x f))
+      (sweeps-step M b x (Passing f) X models))
 
   -- the computed test is that of the plain simulation
   pub computed-models : (w : List ℕ)
-      → Models x (Passing (after-test takes x w (start-test x))) (After Takes (whole x) w (Started (whole x)))
+      → Models x (Passing (after-test w start-test)) (After M (whole x) w (Started M (whole x)))
   computed-models w =
-      after-models w (start-test x) (Started (whole x))
-      (decided-models x (Started (whole x)) (swept-exactly x only-start _ only-start-exactly) (sweeps-start x))
+      after-models w start-test (Started M (whole x))
+      (decided-models x (Started M (whole x)) (swept-exactly M tests x only-start _ only-start-exactly)
+      (sweeps-start M x))

@@ -10,8 +10,9 @@ use lib.ListN.{length, length-append}
 use lib.Dec.{eqb}
 use borrow.Author.Tests.{eqb-true, eq-eqb}
 use Rattle.language.specs.Tree.{Tree, leaf, catenation, union, star}
-use Rattle.language.specs.Language.{Repeated, none, more, Language, Is, Matches}
-use Rattle.tree.specs.Leaf.{Leaf}
+use Rattle.language.specs.Meaning.{Meaning}
+use Rattle.language.specs.Language.{Repeated, none, more, Language}
+use Rattle.tree.specs.Leaf.{Leaf, has-empty, meaning, Matches}
 
 -- some way to split the text into two passes the test
 unfoldable pub any-split : (List ℕ → List ℕ → Bool) → List ℕ → Bool
@@ -25,11 +26,11 @@ any-repeat test zero (b ∷ w) = false
 any-repeat test (suc n) [] = true
 any-repeat test (suc n) (b ∷ w) = any-split (λ u v. test (b ∷ u) && any-repeat test n v) w
 
--- the text is one byte that passes the test
-unfoldable pub one-byte : (ℕ → Bool) → List ℕ → Bool
-one-byte test [] = false
-one-byte test (b ∷ []) = test b
-one-byte test (b ∷ c ∷ w) = false
+-- the text is one byte that passes the test, or the empty text where `empty` says that this passes too
+unfoldable pub leaf-text : (ℕ → Bool) → Bool → List ℕ → Bool
+leaf-text test empty [] = empty
+leaf-text test empty (b ∷ []) = test b
+leaf-text test empty (b ∷ c ∷ w) = false
 
 -- both tests pass
 pub both : (a b : Bool) → (a && b) ≡ true → (a ≡ true) × (b ≡ true)
@@ -110,59 +111,74 @@ repeated-more : {L M : List ℕ → Type 0} → ((w : List ℕ) → L w → M w)
 repeated-more sub none = none
 repeated-more sub (more {u = u} p r) = more (sub u p) (repeated-more sub r)
 
-module _ {A : Type 0} (takes : A → ℕ → Bool) where
+-- tests that decide what the leaves mean
+pub record Tests {A : Type 0} (M : Meaning A) : Type 0 where
+  pub takes : A → ℕ → Bool
+  pub has-empty : A → Bool
+  pub takes-exactly : (a : A) (b : ℕ) → (takes a b ≡ true) ↔ M .Takes a b
+  pub empty-exactly : (a : A) → (has-empty a ≡ true) ↔ M .Has-empty a
+
+module _ {A : Type 0} (M : Meaning A) (tests : Tests M) where
   -- whether a text lies in the language of a tree
   unfoldable pub matched : Tree A → List ℕ → Bool
-  matched (leaf a) w = one-byte (takes a) w
+  matched (leaf a) w = leaf-text (tests .takes a) (tests .has-empty a) w
   matched (catenation s t) w = any-split (λ u v. matched s u && matched t v) w
   matched (union s t) w = matched s w || matched t w
   matched (star s) w = any-repeat (matched s) (length w) w
 
-module _ {A : Type 0} (Takes : A → ℕ → Type 0) (takes : A → ℕ → Bool) (exactly : (a : A) (b : ℕ)
-    → (takes a b ≡ true) ↔ Takes a b) where
-  -- a text of one byte that the leaf takes lies in its language
-  leaf-found : (a : A) (w : List ℕ) → one-byte (takes a) w ≡ true → Language Takes (leaf a) w
-  unfolding one-byte
-  leaf-found a [] e = absurd (false≢true e)
-  leaf-found a (b ∷ []) e = (b, refl, exactly a b .0 e)
+  -- a text of one byte that the leaf takes lies in its language, and so does the empty text where the leaf has it
+  leaf-found : (a : A) (w : List ℕ) → leaf-text (tests .takes a) (tests .has-empty a) w ≡ true → Language M (leaf a) w
+  unfolding leaf-text
+  leaf-found a [] e = inr (refl, tests .empty-exactly a .0 e)
+  leaf-found a (b ∷ []) e = inl (b, refl, tests .takes-exactly a b .0 e)
   leaf-found a (b ∷ c ∷ w) e = absurd (false≢true e)
 
   -- a text that passes lies in the language
-  matched-found : (t : Tree A) (w : List ℕ) → matched takes t w ≡ true → Language Takes t w
+  matched-found : (t : Tree A) (w : List ℕ) → matched t w ≡ true → Language M t w
   unfolding matched
   matched-found (leaf a) w e = leaf-found a w e
   matched-found (catenation s t) w e =
-      let r = split-found (λ u v. matched takes s u && matched takes t v) w e in
-      let (p, q) = both (matched takes s (r .head)) (matched takes t (r .tail)) (r .passes) in
+      let r = split-found (λ u v. matched s u && matched t v) w e in
+      let (p, q) = both (matched s (r .head)) (matched t (r .tail)) (r .passes) in
       (r .head, r .tail, r .joined, matched-found s (r .head) p, matched-found t (r .tail) q)
   matched-found (union s t) w e =
       ⊎-elim (λ p. inl (matched-found s w p)) (λ p. inr (matched-found t w p))
-      (either (matched takes s w) (matched takes t w) e)
-  matched-found (star s) w e = repeated-more (matched-found s) (repeat-found (matched takes s) (length w) w e)
+      (either (matched s w) (matched t w) e)
+  matched-found (star s) w e = repeated-more (matched-found s) (repeat-found (matched s) (length w) w e)
 
   -- a text of the language passes
-  matched-passes : (t : Tree A) (w : List ℕ) → Language Takes t w → matched takes t w ≡ true
-  unfolding matched one-byte
-  matched-passes (leaf a) w (b, e, h) = rw e (exactly a b .1 h)
+  matched-passes : (t : Tree A) (w : List ℕ) → Language M t w → matched t w ≡ true
+  unfolding matched leaf-text
+  matched-passes (leaf a) w (inl (b, e, h)) = rw e (tests .takes-exactly a b .1 h)
+  matched-passes (leaf a) w (inr (e, h)) = rw e (tests .empty-exactly a .1 h)
   matched-passes (catenation s t) w (u, v, e, p, q) =
-      rw e (split-passes (λ x y. matched takes s x && matched takes t y) u v
+      rw e (split-passes (λ x y. matched s x && matched t y) u v
       (rw (matched-passes s u p, matched-passes t v q)))
   matched-passes (union s t) w (inl p) = rw (matched-passes s w p)
-  matched-passes (union s t) w (inr q) = rw (matched-passes t w q) (or-true (matched takes s w))
-  matched-passes (star s) w r = repeat-passes (matched takes s) (repeated-more (matched-passes s) r) (length w)
+  matched-passes (union s t) w (inr q) = rw (matched-passes t w q) (or-true (matched s w))
+  matched-passes (star s) w r = repeat-passes (matched s) (repeated-more (matched-passes s) r) (length w)
       (omega arith)
 
   -- the test says exactly whether the text lies in the language
-  pub matched-exactly : (t : Tree A) (w : List ℕ) → (matched takes t w ≡ true) ↔ Language Takes t w
+  pub matched-exactly : (t : Tree A) (w : List ℕ) → (matched t w ≡ true) ↔ Language M t w
   matched-exactly t w = (matched-found t w, matched-passes t w)
+
+-- what a leaf of an expression's tree means, decided
+abbrev pub leaf-tests : Tests meaning
+leaf-tests = record {
+  takes = eqb;
+  has-empty = has-empty;
+  takes-exactly = λ a b. (eqb-true a b, eq-eqb a b);
+  empty-exactly = λ a. (λ e. e, λ e. e);
+}
 
 -- whether a text lies in the language of an expression's tree
 abbrev pub matches : Tree Leaf → List ℕ → Bool
-matches = matched eqb
+matches = matched meaning leaf-tests
 
 -- it says exactly that
 pub matches-exactly : (t : Tree Leaf) (w : List ℕ) → (matches t w ≡ true) ↔ Matches t w
-matches-exactly = matched-exactly Is eqb (λ a b. (eqb-true a b, eq-eqb a b))
+matches-exactly = matched-exactly meaning leaf-tests
 
 -- an answer that is yes exactly when the text lies in the language is this one
 pub matches-answer : (test : Bool) (t : Tree Leaf) (w : List ℕ) → (test ≡ true) ↔ Matches t w → test ≡ matches t w

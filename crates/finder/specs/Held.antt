@@ -9,12 +9,12 @@ use lib.ListN.{getD, drop}
 use lib.Dec.{eqb, ltb}
 use borrow.Author.Tests.{eqb-true, eq-eqb, ltb-true}
 use Rattle.language.specs.Tree.{Tree}
-use Rattle.language.specs.Language.{Is}
 use Rattle.language.specs.Automaton.{State, start, accepting, left, right, States, Started, After}
 use Rattle.language.specs.Nested.{Nested, leaf, catenation, union, star, below, whole, Has, Models}
-use Rattle.tree.specs.Leaf.{Leaf}
+use Rattle.tree.specs.Leaf.{Leaf, meaning}
 use Rattle.tree.specs.Pieces.{cut-up, stated}
 use Rattle.tables.specs.Words.{Bit, width, run, Marked, Holds, Clean-below, Clean}
+use Rattle.finder.specs.Decide.{leaf-tests}
 use Rattle.finder.specs.Computed.{Test, Passing, start-test, after-test, computed-models}
 
 -- the words hold the marks X of the tree's automaton, cut up, and no bit past the last state is set
@@ -137,15 +137,16 @@ tidy-clean (below x) ws e =
 unfoldable pub holds-after : Tree Leaf → List ℕ → List ℕ → Bool
 holds-after t text words =
     let x : Nested Leaf = cut-up t in
-    also (tidy (below x) words) (agrees x (getD words 0 0) 0 (drop 1 words) (after-test eqb x text (start-test x)))
+    also (tidy (below x) words) (agrees x (getD words 0 0) 0 (drop 1 words)
+    (after-test meaning leaf-tests x text (start-test meaning leaf-tests x)))
 
 -- they do where the test passes
 pub held-after : (t : Tree Leaf) (text words : List ℕ) → holds-after t text words ≡ true
-    → Held t words (After Is t text (Started t))
+    → Held t words (After meaning t text (Started meaning t))
 unfolding holds-after
 held-after t text words e =
     let x : Nested Leaf = cut-up t in
-    let computed = computed-models Is eqb (λ a b. (eqb-true a b, eq-eqb a b)) x text in
+    let computed = computed-models meaning leaf-tests x text in
     let same : whole x ≡ t = stated t .same-tree in
     record {
       clean = tidy-clean (below x) words (also-first _ _ e);

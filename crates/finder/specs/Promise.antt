@@ -6,8 +6,7 @@ use mathlib.Core.Logic.{_↔_}
 use mathlib.Core.List.{List}
 use lib.ListN.{length}
 use Rattle.language.specs.Tree.{Tree}
-use Rattle.language.specs.Language.{Matches}
-use Rattle.tree.specs.Leaf.{Leaf}
+use Rattle.tree.specs.Leaf.{Leaf, Matches}
 use Rattle.tree.specs.Records.{Good}
 use Rattle.marks.specs.Promise.{Not-good}
 use Rattle.finder.specs.Found.{Found, Nothing-found}

@@ -7,8 +7,7 @@ use mathlib.Core.Logic.{_↔_, Iff·trans, Iff·symm}
 use mathlib.Core.List.{List}
 use lib.Dec.{eqb}
 use Rattle.language.specs.Tree.{Tree}
-use Rattle.language.specs.Language.{Matches}
-use Rattle.tree.specs.Leaf.{Leaf}
+use Rattle.tree.specs.Leaf.{Leaf, Matches}
 use Rattle.tree.specs.Readback.{good-unique}
 use Rattle.finder.specs.Found.{Answer, at, nothing, search-unique}
 use Rattle.finder.specs.Answer.{refusing, answering, finding, match-numbers, search-numbers}

@@ -7,8 +7,7 @@ ghost use mathlib.Core.Path.{_≡_};
 ghost use mathlib.Core.Bool.{true};
 ghost use mathlib.Core.Logic.{_↔_};
 ghost use Rattle.language.specs.Tree.{Tree};
-ghost use Rattle.language.specs.Language.{Matches};
-ghost use Rattle.tree.specs.Leaf.{Leaf};
+ghost use Rattle.tree.specs.Leaf.{Leaf, Matches};
 ghost use Rattle.tables.specs.Tables.{Prepared, Ready};
 
 // Whether the text is in the language of the tree that the tables are of. Where no mark is left, none comes back: the

@@ -1,9 +1,9 @@
 -- A state of the uncut automaton and its copies in the cut one: a node's own state, and those of the stand-ins of its
 -- piece.
--- Assumes nothing.
 use Prim.Native.Nat.{ℕ}
 use mathlib.Core.Path.{_≡_, refl, ap}
 use Rattle.language.specs.Tree.{Tree}
+use Rattle.language.specs.Meaning.{Meaning}
 use Rattle.language.specs.Automaton.{State, start, accepting, left, right, States, Empty, Reads}
 use Rattle.language.specs.Nested.{Nested, leaf, catenation, union, star, below, whole, Has, origin, Reading}
 use Rattle.language.specs.Simulation.{Settled-by}
@@ -47,29 +47,32 @@ module _ {A : Type 0} where
   abbrev pub Full : Nested A → States → State → Type 0
   Full x N p = (q : State) → Copy x q p → N q
 
+module _ {A : Type 0} (M : Meaning A) where
   -- where the start lies in a settled set, all its copies do: it is passed down
-  pub start-full : (x : Nested A) (N : States) → Settled x N → N start → Full x N start
+  pub start-full : (x : Nested A) (N : States) → Settled M x N → N start → Full x N start
   start-full x N settled m start of-start = m
   start-full (below x) N settled m (left q) (in-child c) =
       start-full x _ (settled .1) (settled .0 _ _ Wire.pass-down m) q c
 
   -- what is full in a child piece is full with its stand-in, but for the start: the accepting state is passed up
-  child-full : (x : Nested A) (N : States) → Settled (below x) N → {p : State} → (p ≡ start → ⊥)
+  child-full : (x : Nested A) (N : States) → Settled M (below x) N → {p : State} → (p ≡ start → ⊥)
       → Full x (λ q. N (left q)) p → Full (below x) N p
   child-full x N settled other full start of-start = absurd (other refl)
   child-full x N settled other full accepting of-accepting = settled .0 _ _ Wire.pass-up (full accepting of-accepting)
   child-full x N settled other full (left q) (in-child c) = full q c
 
   -- no transition ends in the start
-  never-empty : {t : Tree A} {p : State} → Empty t p start → ⊥
+  never-empty : {t : Tree A} {p : State} → Empty M t p start → ⊥
   never-empty = elim [ ]
 
-  never-reads : {Takes : A → ℕ → Type 0} {b : ℕ} {t : Tree A} {p : State} → Reads Takes b t p start → ⊥
+  never-reads : {b : ℕ} {t : Tree A} {p : State} → Reads M b t p start → ⊥
   never-reads = elim [ ]
 
   -- an empty transition of the uncut automaton leads from full to full in a settled set
-  pub empty-full : (x : Nested A) (N : States) → Settled x N → {p q : State} → Empty (whole x) p q → Full x N p
+  pub empty-full : (x : Nested A) (N : States) → Settled M x N → {p q : State} → Empty M (whole x) p q → Full x N p
       → Full x N q
+  empty-full (leaf a) N s (Empty.leaf-past has) full accepting of-accepting =
+      s _ _ (Wire.leaf-past has) (full start of-start)
   empty-full (catenation x y) N s Empty.catenation-in full (left q) (Copy.catenation-left c) =
       start-full x _ (s .1) (s .0 _ _ Wire.catenation-in (full start of-start)) q c
   empty-full (catenation x y) N s Empty.catenation-over full (right q) (Copy.catenation-right c) =
@@ -106,10 +109,10 @@ module _ {A : Type 0} where
       child-full x N s (λ begins. never-empty (rw begins at e))
       (empty-full x _ (s .1) e (λ p d. full (left p) (in-child d))) q c
 
-  module _ (Takes : A → ℕ → Type 0) (b : ℕ) where
+  module _ (b : ℕ) where
     -- a transition that reads b leads from full in some marks to full in a settled set that has what these move to
-    pub reads-full : (x : Nested A) (marks N : States) → Settled x N
-        → ((p q : State) → Reading Takes b x p q → marks p → N q) → {p q : State} → Reads Takes b (whole x) p q
+    pub reads-full : (x : Nested A) (marks N : States) → Settled M x N
+        → ((p q : State) → Reading M b x p q → marks p → N q) → {p q : State} → Reads M b (whole x) p q
         → Full x marks p → Full x N q
     reads-full (leaf a) marks N s moved (Reads.at-leaf takes) full accepting of-accepting =
         moved start accepting (Reading.at-leaf takes) (full start of-start)
@@ -134,8 +137,8 @@ module _ {A : Type 0} where
         (λ p d. full (left p) (in-child d))) q c
 
     -- the other way round, each reading transition of the cut automaton is one of the uncut automaton
-    pub reading-reads : {x : Nested A} {p q : State} → Reading Takes b x p q
-        → Has x p × Reads Takes b (whole x) (origin x p) (origin x q)
+    pub reading-reads : {x : Nested A} {p q : State} → Reading M b x p q
+        → Has x p × Reads M b (whole x) (origin x p) (origin x q)
     reading-reads (Reading.at-leaf takes) = (tt, Reads.at-leaf takes)
     reading-reads (Reading.catenation-left r) = (reading-reads r .0, Reads.catenation-left (reading-reads r .1))
     reading-reads (Reading.catenation-right r) = (reading-reads r .0, Reads.catenation-right (reading-reads r .1))
@@ -146,8 +149,9 @@ module _ {A : Type 0} where
 
   -- and each other transition of the cut automaton is an empty one of the uncut automaton, or leads to a copy of the
   -- same state
-  wires-origin : (x : Nested A) (X : States) → Settled-by (Empty (whole x)) X
-      → Settled-by (Wire x) (λ q. X (origin x q))
+  wires-origin : (x : Nested A) (X : States) → Settled-by (Empty M (whole x)) X
+      → Settled-by (Wire M x) (λ q. X (origin x q))
+  wires-origin (leaf a) X closed p q (Wire.leaf-past has) = closed _ _ (Empty.leaf-past has)
   wires-origin (catenation x y) X closed p q Wire.catenation-in = closed _ _ Empty.catenation-in
   wires-origin (catenation x y) X closed p q Wire.catenation-over = closed _ _ Empty.catenation-over
   wires-origin (catenation x y) X closed p q Wire.catenation-out = closed _ _ Empty.catenation-out
@@ -163,8 +167,9 @@ module _ {A : Type 0} where
   wires-origin (below x) X closed p q Wire.pass-up = λ m. m
 
   -- so the copies of a closed set are settled
-  pub origin-settled : (x : Nested A) (X : States) → Settled-by (Empty (whole x)) X → Settled x (λ q. X (origin x q))
-  origin-settled (leaf a) X closed = tt
+  pub origin-settled : (x : Nested A) (X : States) → Settled-by (Empty M (whole x)) X
+      → Settled M x (λ q. X (origin x q))
+  origin-settled (leaf a) X closed = wires-origin (leaf a) X closed
   origin-settled (catenation x y) X closed = (
     wires-origin (catenation x y) X closed,
     origin-settled x (λ p. X (left p)) (λ p q e. closed _ _ (Empty.catenation-left e)),

@@ -1,6 +1,7 @@
 -- What the matcher is measured against: trees, their language, the automaton of document 002, and the same automaton
 -- cut into pieces.
 pub mod Tree
+pub mod Meaning
 pub mod Language
 pub mod Automaton
 pub mod Nested

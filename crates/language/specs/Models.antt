@@ -1,10 +1,10 @@
--- Marks of a cut automaton and the set of states of the uncut one that they model: when they model one, and that it is
--- one only.
--- Assumes nothing.
+-- Marks of a cut automaton and the set of states of the uncut one that they model: when they model one, and which it
+-- is.
 use Prim.Native.Nat.{ℕ}
 use mathlib.Core.Path.{_≡_, refl}
-use mathlib.Core.Logic.{_↔_, Iff·symm, Iff·trans}
+use mathlib.Core.Logic.{_↔_}
 use Rattle.language.specs.Tree.{Tree, leaf, catenation, union, star}
+use Rattle.language.specs.Meaning.{Meaning}
 use Rattle.language.specs.Automaton.{State, start, accepting, left, right, States, Empty, Reads, Started, Stepped}
 use Rattle.language.specs.Nested.{Nested, below, whole, Has, origin, Models}
 use Rattle.language.specs.Simulation.{_⊆_, closed-least}
@@ -40,16 +40,6 @@ module _ {A : Type 0} where
   pub origin-onto : (x : Nested A) (p : State) → State-of (whole x) p → (q : State) × Has x q × (origin x q ≡ p)
   origin-onto x p is = let (q, c) = copy-onto x p is in (q, copy-has c .0, copy-has c .1)
 
-  -- marks model one set only, as far as there are states
-  pub models-unique : (x : Nested A) (marks X Y : States) → Models x marks X → Models x marks Y → (q : State) → Has x q
-      → X (origin x q) ↔ Y (origin x q)
-  models-unique x marks X Y first second q has = Iff·trans (Iff·symm (first q has)) (second q has)
-
-  pub models-unique-set : (x : Nested A) (marks X Y : States) → Models x marks X → Models x marks Y → (p : State)
-      → State-of (whole x) p → X p ↔ Y p
-  models-unique-set x marks X Y first second p is = let (q, has, stands) =
-      origin-onto x p is in rw stands at (models-unique x marks X Y first second q has)
-
   -- states of the cut automaton that are one state are marked alike, where the marks model a set
   pub models-alike : (x : Nested A) (marks X : States) → Models x marks X → (p q : State) → Has x p → Has x q
       → origin x p ≡ origin x q → marks p → marks q
@@ -69,8 +59,10 @@ module _ {A : Type 0} where
     λ (q, has, stands, m). rw stands at (models q has .0 m),
   )
 
+module _ {A : Type 0} (M : Meaning A) where
   -- transitions end in states that there are
-  empty-state : {t : Tree A} {p q : State} → Empty t p q → State-of t q
+  empty-state : {t : Tree A} {p q : State} → Empty M t p q → State-of t q
+  empty-state (Empty.leaf-past has) = tt
   empty-state Empty.catenation-in = tt
   empty-state Empty.catenation-over = tt
   empty-state Empty.catenation-out = tt
@@ -88,7 +80,7 @@ module _ {A : Type 0} where
   empty-state (Empty.union-right e) = empty-state e
   empty-state (Empty.star-inside e) = empty-state e
 
-  reads-state : {Takes : A → ℕ → Type 0} {b : ℕ} {t : Tree A} {p q : State} → Reads Takes b t p q → State-of t q
+  reads-state : {b : ℕ} {t : Tree A} {p q : State} → Reads M b t p q → State-of t q
   reads-state (Reads.at-leaf takes) = tt
   reads-state (Reads.catenation-left e) = reads-state e
   reads-state (Reads.catenation-right e) = reads-state e
@@ -97,8 +89,8 @@ module _ {A : Type 0} where
   reads-state (Reads.star-inside e) = reads-state e
 
   -- so the marks of the plain simulation are states that there are
-  pub started-state : (t : Tree A) → Started t ⊆ State-of t
-  started-state t = closed-least t (λ p q e m. empty-state e) (λ p begins. rw begins tt)
+  pub started-state : (t : Tree A) → Started M t ⊆ State-of t
+  started-state t = closed-least M t (λ p q e m. empty-state e) (λ p begins. rw begins tt)
 
-  pub stepped-state : (Takes : A → ℕ → Type 0) (t : Tree A) (b : ℕ) (X : States) → Stepped Takes t b X ⊆ State-of t
-  stepped-state Takes t b X = closed-least t (λ p q e m. empty-state e) (λ q (p, m, e). reads-state e)
+  pub stepped-state : (t : Tree A) (b : ℕ) (X : States) → Stepped M t b X ⊆ State-of t
+  stepped-state t b X = closed-least M t (λ p q e m. empty-state e) (λ q (p, m, e). reads-state e)

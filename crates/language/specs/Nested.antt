@@ -1,10 +1,10 @@
 -- A tree cut into connected pieces, and the simulation of document 002 on it: moves and sweeps.
--- Assumes nothing.
 use Prim.Native.Nat.{ℕ}
 use mathlib.Core.Path.{_≡_}
 use mathlib.Core.Logic.{_⊎_, _↔_}
 use Rattle.language.specs.Tree.{Tree}
-use Rattle.language.specs.Automaton.{State, start, accepting, left, right, States, Closed}
+use Rattle.language.specs.Meaning.{Meaning}
+use Rattle.language.specs.Automaton.{State, start, accepting, left, right, States, Empty, Reads, Closed}
 
 -- a tree with some edges cut: `below x` stands for a cut edge, with a stand-in above it and the child piece x below it
 pub data Nested (A : Type 0) : Type 0 where
@@ -18,6 +18,15 @@ pub data Nested (A : Type 0) : Type 0 where
 pub data Own-leaf (A : Type 0) : Type 0 where
   given : A → Own-leaf A
   stand-in : Own-leaf A
+
+-- what holds of a given leaf as P says, and of no stand-in
+abbrev pub Of-given : {A : Type 0} → (A → Type 0) → Own-leaf A → Type 0
+Of-given P (given a) = P a
+Of-given P stand-in = ⊥
+
+-- the meaning of a piece's own leaves: a given leaf keeps its own; a stand-in takes no byte and has no empty text
+abbrev pub own-meaning : {A : Type 0} → Meaning A → Meaning (Own-leaf A)
+own-meaning M = record { Takes = λ a b. Of-given (λ c. M .Takes c b) a; Has-empty = Of-given (M .Has-empty) }
 
 -- the tree with no edge cut
 abbrev pub whole : {A : Type 0} → Nested A → Tree A
@@ -70,10 +79,10 @@ origin (below x) (right q) = right q
 abbrev pub Models : {A : Type 0} → Nested A → States → States → Type 0
 Models x marks X = (q : State) → Has x q → marks q ↔ X (origin x q)
 
-module _ {A : Type 0} (Takes : A → ℕ → Type 0) (b : ℕ) where
+module _ {A : Type 0} (M : Meaning A) (b : ℕ) where
   -- the transitions that read the byte b in the pieces: those of the leaves; a stand-in reads no byte
   pub data Reading : Nested A → State → State → Type 0 where
-    at-leaf : {a : A} → Takes a b → Reading (leaf a) start accepting
+    at-leaf : {a : A} → M .Takes a b → Reading (leaf a) start accepting
     catenation-left : {x y : Nested A} {p q : State} → Reading x p q → Reading (catenation x y) (left p) (left q)
     catenation-right : {x y : Nested A} {p q : State} → Reading y p q → Reading (catenation x y) (right p) (right q)
     union-left : {x y : Nested A} {p q : State} → Reading x p q → Reading (union x y) (left p) (left q)
@@ -94,16 +103,29 @@ Down e marks p = marks (e (left p)) ⊎ ((p ≡ start) × marks (e start))
 abbrev pub Up : (State → State) → States → States → States
 Up e child marks q = marks q ⊎ (((p : State) × (q ≡ e (left p)) × child p) ⊎ ((q ≡ e accepting) × child accepting))
 
--- go through the child pieces below x from left to right: pass a marked start down, sweep the child, pass a marked
--- accepting state up, close the piece again.
--- x stands at e in its piece, and `close` closes the piece
-abbrev pub Visit : {A : Type 0} → Nested A → (State → State) → (States → States) → States → States
-Visit (leaf a) e close marks = marks
-Visit (catenation x y) e close marks = Visit y (λ p. e (right p)) close (Visit x (λ p. e (left p)) close marks)
-Visit (union x y) e close marks = Visit y (λ p. e (right p)) close (Visit x (λ p. e (left p)) close marks)
-Visit (star x) e close marks = Visit x (λ p. e (left p)) close marks
-Visit (below x) e close marks = close (Up e (Visit x (λ p. p) (Closed (own x)) (Closed (own x) (Down e marks))) marks)
+module _ {A : Type 0} (M : Meaning A) where
+  -- the empty transitions of the top piece's own tree
+  abbrev pub Own-empty : Nested A → State → State → Type 0
+  Own-empty x = Empty (own-meaning M) (own x)
 
--- a sweep: close the top piece itself, then go through its child pieces
-abbrev pub Sweep : {A : Type 0} → Nested A → States → States
-Sweep x marks = Visit x (λ p. p) (Closed (own x)) (Closed (own x) marks)
+  -- its transitions that read the byte b
+  abbrev pub Own-reads : ℕ → Nested A → State → State → Type 0
+  Own-reads b x = Reads (own-meaning M) b (own x)
+
+  -- the marks, closed in the top piece
+  abbrev pub Own-closed : Nested A → States → States
+  Own-closed x = Closed (own-meaning M) (own x)
+
+  -- go through the child pieces below x from left to right: pass a marked start down, sweep the child, pass a marked
+  -- accepting state up, close the piece again.
+  -- x stands at e in its piece, and `close` closes the piece
+  abbrev pub Visit : Nested A → (State → State) → (States → States) → States → States
+  Visit (leaf a) e close marks = marks
+  Visit (catenation x y) e close marks = Visit y (λ p. e (right p)) close (Visit x (λ p. e (left p)) close marks)
+  Visit (union x y) e close marks = Visit y (λ p. e (right p)) close (Visit x (λ p. e (left p)) close marks)
+  Visit (star x) e close marks = Visit x (λ p. e (left p)) close marks
+  Visit (below x) e close marks = close (Up e (Visit x (λ p. p) (Own-closed x) (Own-closed x (Down e marks))) marks)
+
+  -- a sweep: close the top piece itself, then go through its child pieces
+  abbrev pub Sweep : Nested A → States → States
+  Sweep x marks = Visit x (λ p. p) (Own-closed x) (Own-closed x marks)

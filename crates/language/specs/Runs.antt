@@ -1,10 +1,10 @@
 -- What lies in the language is accepted by the plain simulation: each text has a run, and the simulation follows runs.
--- Assumes nothing.
 use Prim.Native.Nat.{ℕ}
 use mathlib.Core.Path.{refl}
 use mathlib.Core.List.{List, [], _∷_, _++_}
 use mathlib.Core.Logic.{inl, inr}
 use Rattle.language.specs.Tree.{Tree, leaf, catenation, union, star}
+use Rattle.language.specs.Meaning.{Meaning}
 use Rattle.language.specs.Language.{Language, Repeated, none, more}
 use Rattle.language.specs.Automaton.{
   State,
@@ -21,12 +21,12 @@ use Rattle.language.specs.Automaton.{
 }
 use Rattle.language.specs.Simulation.{Settled-by, closed-keeps, closed-settled}
 
-module _ {A : Type 0} (Takes : A → ℕ → Type 0) where
+module _ {A : Type 0} (M : Meaning A) where
   -- a run of the automaton: empty and reading transitions in turn, which read the text
   pub data Run (t : Tree A) : State → List ℕ → State → Type 0 where
     done : {p : State} → Run t p [] p
-    empty : {p q r : State} {w : List ℕ} → Empty t p q → Run t q w r → Run t p w r
-    reads : {b : ℕ} {p q r : State} {w : List ℕ} → Reads Takes b t p q → Run t q w r → Run t p (b ∷ w) r
+    empty : {p q r : State} {w : List ℕ} → Empty M t p q → Run t q w r → Run t p w r
+    reads : {b : ℕ} {p q r : State} {w : List ℕ} → Reads M b t p q → Run t q w r → Run t p (b ∷ w) r
 
   -- runs join
   run-then : {t : Tree A} {p q r : State} {u v : List ℕ} → Run t p u q → Run t q v r → Run t p (u ++ v) r
@@ -35,15 +35,15 @@ module _ {A : Type 0} (Takes : A → ℕ → Type 0) where
   run-then (reads e run) rest = reads e (run-then run rest)
 
   -- a run goes on by an empty transition
-  run-out : {t : Tree A} {p q r : State} {w : List ℕ} → Run t p w q → Empty t q r → Run t p w r
+  run-out : {t : Tree A} {p q r : State} {w : List ℕ} → Run t p w q → Empty M t q r → Run t p w r
   run-out done e = empty e done
   run-out (empty d run) e = empty d (run-out run e)
   run-out (reads d run) e = reads d (run-out run e)
 
   -- s stands at e in t: its transitions are transitions of t
   record Within (s t : Tree A) (e : State → State) : Type 0 where
-    empties : (p q : State) → Empty s p q → Empty t (e p) (e q)
-    readings : (b : ℕ) (p q : State) → Reads Takes b s p q → Reads Takes b t (e p) (e q)
+    empties : (p q : State) → Empty M s p q → Empty M t (e p) (e q)
+    readings : (b : ℕ) (p q : State) → Reads M b s p q → Reads M b t (e p) (e q)
 
   -- so its runs are runs of t
   run-within : {s t : Tree A} {e : State → State} {p q : State} {w : List ℕ} → Within s t e → Run s p w q
@@ -69,13 +69,13 @@ module _ {A : Type 0} (Takes : A → ℕ → Type 0) where
   in-star s = record { empties = λ p q. Empty.star-inside; readings = λ b p q. Reads.star-inside }
 
   -- through a child: in, a run of the child, out
-  through : {s t : Tree A} {e : State → State} {p q : State} {w : List ℕ} → Within s t e → Empty t p (e start)
-      → Run s start w accepting → Empty t (e accepting) q → Run t p w q
+  through : {s t : Tree A} {e : State → State} {p q : State} {w : List ℕ} → Within s t e → Empty M t p (e start)
+      → Run s start w accepting → Empty M t (e accepting) q → Run t p w q
   through i enter run leave = empty enter (run-out (run-within i run) leave)
 
   -- round a star: from where one can enter or leave it, a run for each text joined
-  round : (s : Tree A) → ((w : List ℕ) → Language Takes s w → Run s start w accepting) → (p : State) →
-      Empty (star s) p (left start) → Empty (star s) p accepting → {w : List ℕ} → Repeated (Language Takes s) w
+  round : (s : Tree A) → ((w : List ℕ) → Language M s w → Run s start w accepting) → (p : State) →
+      Empty M (star s) p (left start) → Empty M (star s) p accepting → {w : List ℕ} → Repeated (Language M s) w
       → Run (star s) p w accepting
   round s runs p enter leave none = empty leave done
   round s runs p enter leave (more {u} l rest) =
@@ -83,8 +83,9 @@ module _ {A : Type 0} (Takes : A → ℕ → Type 0) where
       (round s runs (left accepting) Empty.star-back Empty.star-out rest)
 
   -- each text of the language has a run from the start to the accepting state
-  pub language-run : (t : Tree A) (w : List ℕ) → Language Takes t w → Run t start w accepting
-  language-run (leaf a) w l = rw (l .1) (reads (Reads.at-leaf (l .2)) done)
+  pub language-run : (t : Tree A) (w : List ℕ) → Language M t w → Run t start w accepting
+  language-run (leaf a) w (inl (b, one, takes)) = rw one (reads (Reads.at-leaf takes) done)
+  language-run (leaf a) w (inr (nothing, has)) = rw nothing (empty (Empty.leaf-past has) done)
   language-run (catenation s t) w (u, v, joined, first, second) =
       rw joined (run-then
       (through (in-catenation-left s t) Empty.catenation-in (language-run s u first) Empty.catenation-over)
@@ -96,13 +97,13 @@ module _ {A : Type 0} (Takes : A → ℕ → Type 0) where
   language-run (star s) w l = round s (language-run s) start Empty.star-in Empty.star-past l
 
   -- a run from marks that are closed is followed by the simulation
-  pub run-after : {t : Tree A} {p q : State} {w : List ℕ} {X : States} → Settled-by (Empty t) X → X p → Run t p w q
-      → After Takes t w X q
+  pub run-after : {t : Tree A} {p q : State} {w : List ℕ} {X : States} → Settled-by (Empty M t) X → X p → Run t p w q
+      → After M t w X q
   run-after settled x done = x
   run-after settled x (empty {p} {q} e run) = run-after settled (settled p q e x) run
   run-after {t} {X} settled x (reads {b} {p} {q} e run) =
-      run-after (closed-settled t _) (closed-keeps t (Moved Takes t b X) q (p, x, e)) run
+      run-after (closed-settled M t _) (closed-keeps M t (Moved M t b X) q (p, x, e)) run
 
   -- what lies in the language is accepted: follow its run from the closed start
-  pub language-accepted : (t : Tree A) (w : List ℕ) → Language Takes t w → Accepts Takes t w
-  language-accepted t w l = run-after (closed-settled t _) (closed-keeps t _ start refl) (language-run t w l)
+  pub language-accepted : (t : Tree A) (w : List ℕ) → Language M t w → Accepts M t w
+  language-accepted t w l = run-after (closed-settled M t _) (closed-keeps M t _ start refl) (language-run t w l)

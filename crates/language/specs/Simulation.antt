@@ -1,10 +1,10 @@
 -- The plain simulation as a function of its marks: more marks give more, the same marks give the same, and no mark
 -- gives none.
--- Assumes nothing.
 use Prim.Native.Nat.{ℕ}
 use mathlib.Core.List.{List, [], _∷_}
 use mathlib.Core.Logic.{_↔_}
 use Rattle.language.specs.Tree.{Tree}
+use Rattle.language.specs.Meaning.{Meaning}
 use Rattle.language.specs.Automaton.{State, States, Empty, Path-of, here, step, Closed, Stepped, After}
 
 -- each state of X is one of Y
@@ -26,38 +26,38 @@ pub then : {R : State → State → Type 0} {p q r : State} → Path-of R p q �
 then here rest = rest
 then (step r path) rest = step r (then path rest)
 
-module _ {A : Type 0} (t : Tree A) where
+module _ {A : Type 0} (M : Meaning A) (t : Tree A) where
   -- closing loses no mark
-  pub closed-keeps : (X : States) → X ⊆ Closed t X
+  pub closed-keeps : (X : States) → X ⊆ Closed M t X
   closed-keeps X p x = (p, x, here)
 
   -- what is closed is settled: a path goes one step further
-  pub closed-settled : (X : States) → Settled-by (Empty t) (Closed t X)
+  pub closed-settled : (X : States) → Settled-by (Empty M t) (Closed M t X)
   closed-settled X p q e c = (c .0, c .1, then (c .2) (step e here))
 
   -- closing is the least: it stays within each settled set
-  pub closed-least : {X Y : States} → Settled-by (Empty t) Y → X ⊆ Y → Closed t X ⊆ Y
+  pub closed-least : {X Y : States} → Settled-by (Empty M t) Y → X ⊆ Y → Closed M t X ⊆ Y
   closed-least settled within p c = along settled (c .0) p (c .2) (within (c .0) (c .1))
 
   -- more marks close to more
-  pub closed-more : {X Y : States} → X ⊆ Y → Closed t X ⊆ Closed t Y
+  pub closed-more : {X Y : States} → X ⊆ Y → Closed M t X ⊆ Closed M t Y
   closed-more more p c = (c .0, more (c .0) (c .1), c .2)
 
-module _ {A : Type 0} (Takes : A → ℕ → Type 0) (t : Tree A) where
+module _ {A : Type 0} (M : Meaning A) (t : Tree A) where
   -- more marks step to more
-  pub stepped-more : (b : ℕ) {X Y : States} → X ⊆ Y → Stepped Takes t b X ⊆ Stepped Takes t b Y
-  stepped-more b more = closed-more t (λ p m. (m .0, more (m .0) (m .1), m .2))
+  pub stepped-more : (b : ℕ) {X Y : States} → X ⊆ Y → Stepped M t b X ⊆ Stepped M t b Y
+  stepped-more b more = closed-more M t (λ p m. (m .0, more (m .0) (m .1), m .2))
 
   -- more marks come to more after a text
-  pub after-more : (w : List ℕ) {X Y : States} → X ⊆ Y → After Takes t w X ⊆ After Takes t w Y
+  pub after-more : (w : List ℕ) {X Y : States} → X ⊆ Y → After M t w X ⊆ After M t w Y
   after-more [] more = more
   after-more (b ∷ w) more = after-more w (stepped-more b more)
 
   -- the same marks come to the same after a text
   pub after-same : (w : List ℕ) {X Y : States} → ((p : State) → X p ↔ Y p) → (p : State)
-      → After Takes t w X p ↔ After Takes t w Y p
+      → After M t w X p ↔ After M t w Y p
   after-same w same p = (after-more w (λ q. same q .0) p, after-more w (λ q. same q .1) p)
 
   -- no mark stays no mark
-  pub none-left : (b : ℕ) {X : States} → ((p : State) → X p → ⊥) → (p : State) → Stepped Takes t b X p → ⊥
+  pub none-left : (b : ℕ) {X : States} → ((p : State) → X p → ⊥) → (p : State) → Stepped M t b X p → ⊥
   none-left b none p c = none (c .1 .0) (c .1 .1)

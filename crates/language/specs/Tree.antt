@@ -1,5 +1,4 @@
--- The tree of an expression. A leaf holds an A: a character, or later a class of bytes.
--- Assumes nothing.
+-- The tree of an expression. Which leaves there are is left open: a leaf holds an A, and Meaning.antt says what it means.
 use Prim.Native.Nat.{ℕ, _+_}
 
 pub data Tree (A : Type 0) : Type 0 where

@@ -10,7 +10,6 @@ use native.Mathlib.Numerals.{add-one}
 use lib.ListN.{length, getD, take, drop, set, replicate, length-append, length-drop, length-set}
 use lib.Seq.{getD-take, getD-drop, ext-getD, length-take-le, take-at, drop-at, drop-cons, set-at, append-snoc, take-suc}
 use Rattle.language.specs.Tree.{Tree}
-use Rattle.language.specs.Language.{Is}
 use Rattle.language.specs.Automaton.{State, States, accepting, start, Started, Stepped, After}
 use Rattle.language.specs.Nested.{Nested, leaf, catenation, union, star, below, whole, origin, Models}
 use Rattle.language.specs.Same.{Agree, models-same}
@@ -18,7 +17,7 @@ use Rattle.language.specs.Simulation.{_⊆_, stepped-more}
 use Rattle.language.specs.Acceptance.{accepts-exactly}
 use Rattle.language.specs.Models.{State-of, alike-models, models-alike, models-origins}
 use Rattle.language.specs.Along.{reached-state}
-use Rattle.tree.specs.Leaf.{Leaf}
+use Rattle.tree.specs.Leaf.{Leaf, meaning}
 use Rattle.tree.specs.Records.{Good}
 use Rattle.tree.specs.Nesting.{Small, Every-below}
 use Rattle.tree.specs.Pieces.{cut-up, stated}
@@ -101,13 +100,13 @@ narrow t = omega (arith, width-own (cut-up t), stated t .every-small .0 .few-own
 
 -- the marks to start with, and whether the accepting state is among them
 pub record Begun (t : Tree Leaf) (before after : List ℕ) (yes' : Bool) : Type 0 where
-  pub hold : Hold t (Started t) before after
-  pub answer : (yes' ≡ true) ↔ Started t accepting
+  pub hold : Hold t (Started meaning t) before after
+  pub answer : (yes' ≡ true) ↔ Started meaning t accepting
 
 -- the marks after one more byte, from the set that the words held before, and whether the accepting state is among them
 pub record Advanced (t : Tree Leaf) (byte : ℕ) (before after : List ℕ) (yes' : Bool) : Type 0 where
-  pub hold : Hold t (Stepped Is t byte (Set-of (cut-up t) before)) before after
-  pub answer : (yes' ≡ true) ↔ Stepped Is t byte (Set-of (cut-up t) before) accepting
+  pub hold : Hold t (Stepped meaning t byte (Set-of (cut-up t) before)) before after
+  pub answer : (yes' ≡ true) ↔ Stepped meaning t byte (Set-of (cut-up t) before) accepting
 
 -- the tables are those of a tree of which the words are marks, but for agreement
 pub record Running (reach labels runs stands tops : List ℕ) (count : ℕ) (words : List ℕ) : Type 0 where
@@ -216,9 +215,9 @@ module _ {t : Tree Leaf} {reach labels runs stands tops : List ℕ} {count : ℕ
       let same : take count after ≡ take count closed = ap (take count) put
       ∙ take-at (take count closed) (drop count lent) count front in
       let agree : Agree x (Holds x after) (Holds x closed) = same-front x count after closed prepared-count same in
-      let models : Models x (Holds x after) (Started t) =
-      subst (λ (s : Tree Leaf). Models x (Holds x after) (Started s)) (stated t .same-tree)
-      (models-same x (Started (whole x)) agree
+      let models : Models x (Holds x after) (Started meaning t) =
+      subst (λ (s : Tree Leaf). Models x (Holds x after) (Started meaning s)) (stated t .same-tree)
+      (models-same x (Started meaning (whole x)) agree
       (closed-start reach runs stands tops count x marked closed twice on (start-holds x marked starts)))
       in
       record {
@@ -230,7 +229,7 @@ module _ {t : Tree Leaf} {reach labels runs stands tops : List ℕ} {count : ℕ
           same-length = ap length put ∙ length-append (take count closed) (drop count lent)
               ∙ omega (arith, front, length-drop count lent);
         };
-        answer = answer-told after (Started t) yes' models told;
+        answer = answer-told after (Started meaning t) yes' models told;
       }
 
   -- words that were moved are the run of the pieces
@@ -255,8 +254,9 @@ module _ {t : Tree Leaf} {reach labels runs stands tops : List ℕ} {count : ℕ
       let tables : Pieces = record { labels = labels; runs = runs; stands = stands; tops = tops } in
       let room : 1 + run x ≤ count = omega (arith, prepared-count) in
       let on = moved-run went (marks .clean) in
-      let models : Models x (Holds x after) (Stepped Is t byte (Set-of x before)) =
-      subst (λ (s : Tree Leaf). Models x (Holds x after) (Stepped Is s byte (Set-of x before))) (stated t .same-tree)
+      let models : Models x (Holds x after) (Stepped meaning t byte (Set-of x before)) =
+      subst (λ (s : Tree Leaf). Models x (Holds x after) (Stepped meaning s byte (Set-of x before)))
+      (stated t .same-tree)
       (closed-step reach runs stands tops count x moved after twice on byte (Holds x before) (Set-of x before)
       (alike-models x (Holds x before) (marks .agreeing))
       (moved-keeps went tables x refl (prepared .planned) (prepared .reached) room (narrow t) (all-narrow t)
@@ -272,14 +272,15 @@ module _ {t : Tree Leaf} {reach labels runs stands tops : List ℕ} {count : ℕ
               (twice .others ∙ ext-drop count moved before (moved-length went) (moved-others went));
           same-length = long ∙ moved-length went;
         };
-        answer = answer-told after (Stepped Is t byte (Set-of x before)) yes' models told;
+        answer = answer-told after (Stepped meaning t byte (Set-of x before)) yes' models told;
       }
 
 -- words that hold the marks after a text are marks
 pub holding-marks : {t : Tree Leaf} {w words : List ℕ} → Holding t w words → Marks-of t words
 holding-marks {t} {w} {words} holding = record {
   clean = holding .clean;
-  agreeing = models-alike (cut-up t) (Holds (cut-up t) words) (After Is t w (Started t)) (holding .modelled);
+  agreeing = models-alike (cut-up t) (Holds (cut-up t) words) (After meaning t w (Started meaning t))
+      (holding .modelled);
 }
 
 -- after the start the words hold the marks after the empty text
@@ -289,7 +290,7 @@ answered-first {t} begins =
     record {
       holding = holding-first (begins .hold .marks) (begins .hold .clean);
       answer =
-          Iff·trans (begins .answer) (accepts-exactly Is t []);
+          Iff·trans (begins .answer) (accepts-exactly meaning t []);
     }
 
 -- words of which the first are put in the place of others answer the same
@@ -303,7 +304,7 @@ answered-copy {t} {w = w} {after = after} {count = count} from to prepared enoug
     in
     record {
       holding = record {
-        modelled = models-same x (After Is t w (Started t))
+        modelled = models-same x (After meaning t w (Started meaning t))
             (same-front x count after from (prepared-count prepared) same) (answered .holding .modelled);
         clean = same-clean x count after from (prepared-count prepared) same (answered .holding .clean);
       };
@@ -315,12 +316,12 @@ pub answered-next : {t : Tree Leaf} {w before after : List ℕ} {b : ℕ} {yes' 
     → Advanced t b before after yes' → Answered t (w ++ (b ∷ [])) after yes'
 answered-next {t} {w} {before} {after} {b} {yes'} holding went =
     let x = cut-up t in
-    let X = After Is t w (Started t) in
+    let X = After meaning t w (Started meaning t) in
     let states : X ⊆ State-of (whole x) = subst (λ (s : Tree Leaf). X ⊆ State-of s) (sym (stated t .same-tree))
-    (reached-state Is t w) in
+    (reached-state meaning t w) in
     let same : (p : State) → X p ↔ Set-of x before p = models-origins x (Holds x before) X (holding .modelled) states in
-    let stepped : (p : State) → Stepped Is t b (Set-of x before) p ↔ Stepped Is t b X p =
-    λ p. (stepped-more Is t b (λ q. same q .1) p, stepped-more Is t b (λ q. same q .0) p) in
+    let stepped : (p : State) → Stepped meaning t b (Set-of x before) p ↔ Stepped meaning t b X p =
+    λ p. (stepped-more meaning t b (λ q. same q .1) p, stepped-more meaning t b (λ q. same q .0) p) in
     let held : Holding t (w ++ (b ∷ [])) after =
     holding-next holding (λ q has. Iff·trans (went .hold .marks q has) (stepped (origin x q)))
     (went .hold .clean) in

@@ -9,7 +9,6 @@ use native.Mathlib.Omega.{arith}
 use lib.ListN.{length, getD, drop, set}
 use lib.Seq.{getD-drop, drop-drop}
 use Rattle.language.specs.Tree.{Tree}
-use Rattle.language.specs.Language.{Is}
 use Rattle.language.specs.Automaton.{State, start, accepting, left, right, Reads}
 use Rattle.language.specs.Nested.{
   Nested,
@@ -18,17 +17,18 @@ use Rattle.language.specs.Nested.{
   union,
   star,
   below,
-  own,
   Has,
   Reading,
   Move,
   Own-leaf,
   stand-in,
   given,
+  Own-reads,
+  own-meaning,
 }
-use Rattle.tree.specs.Leaf.{Leaf}
+use Rattle.tree.specs.Leaf.{Leaf, meaning}
 use Rattle.tables.specs.Words.{Bit, width, run, Own, number, Marked, Holds, Clean-below, Clean}
-use Rattle.tables.specs.Plan.{row, takes, Is-own, Moves, Pieces, Piece-at, Children-at, Planned}
+use Rattle.tables.specs.Plan.{row, takes, Moves, Pieces, Piece-at, Children-at, Planned}
 use Rattle.marks.specs.Rows.{Rows, rows-set-at}
 use Rattle.marks.specs.Swept.{Narrow-below}
 use mathlib.Core.Logic.{Iff·trans as iff-trans}
@@ -50,105 +50,111 @@ neither f g = (λ a. absurd (f a), λ b. absurd (g b))
 module _ (b : ℕ) where
   -- where a transition that reads comes from, by where it leads: into the first part of a catenation
   module _ {s t : Tree (Own-leaf Leaf)} where
-    reads-catenation-left : (p : State) {q : State} → Reads Is-own b (Tree.catenation s t) p (left q)
-        → (r : State) × (p ≡ left r) × Reads Is-own b s r q
+    reads-catenation-left : (p : State) {q : State} → Reads (own-meaning meaning) b (Tree.catenation s t) p (left q)
+        → (r : State) × (p ≡ left r) × Reads (own-meaning meaning) b s r q
     reads-catenation-left p (Reads.catenation-left {p = r} e) = (r, refl, e)
 
     -- into the second part of a catenation
-    reads-catenation-right : (p : State) {q : State} → Reads Is-own b (Tree.catenation s t) p (right q)
-        → (r : State) × (p ≡ right r) × Reads Is-own b t r q
+    reads-catenation-right : (p : State) {q : State} → Reads (own-meaning meaning) b (Tree.catenation s t) p (right q)
+        → (r : State) × (p ≡ right r) × Reads (own-meaning meaning) b t r q
     reads-catenation-right p (Reads.catenation-right {p = r} e) = (r, refl, e)
 
     -- into the first part of a union
-    reads-union-left : (p : State) {q : State} → Reads Is-own b (Tree.union s t) p (left q) → (r : State) × (p ≡ left r)
-        × Reads Is-own b s r q
+    reads-union-left : (p : State) {q : State} → Reads (own-meaning meaning) b (Tree.union s t) p (left q)
+        → (r : State) × (p ≡ left r)
+        × Reads (own-meaning meaning) b s r q
     reads-union-left p (Reads.union-left {p = r} e) = (r, refl, e)
 
     -- into the second part of a union
-    reads-union-right : (p : State) {q : State} → Reads Is-own b (Tree.union s t) p (right q)
-        → (r : State) × (p ≡ right r) × Reads Is-own b t r q
+    reads-union-right : (p : State) {q : State} → Reads (own-meaning meaning) b (Tree.union s t) p (right q)
+        → (r : State) × (p ≡ right r) × Reads (own-meaning meaning) b t r q
     reads-union-right p (Reads.union-right {p = r} e) = (r, refl, e)
 
   -- into a star's operand
-  reads-star : {s : Tree (Own-leaf Leaf)} (p : State) {q : State} → Reads Is-own b (Tree.star s) p (left q)
-      → (r : State) × (p ≡ left r) × Reads Is-own b s r q
+  reads-star : {s : Tree (Own-leaf Leaf)} (p : State) {q : State}
+      → Reads (own-meaning meaning) b (Tree.star s) p (left q)
+      → (r : State) × (p ≡ left r) × Reads (own-meaning meaning) b s r q
   reads-star p (Reads.star-inside {p = r} e) = (r, refl, e)
 
   module _ {x y : Nested Leaf} where
     -- the same in all pieces: into the first part of a catenation
-    in-catenation-left : (p : State) {q : State} → Reading Is b (catenation x y) p (left q) → (r : State) × (p ≡ left r)
-        × Reading Is b x r q
+    in-catenation-left : (p : State) {q : State} → Reading meaning b (catenation x y) p (left q) → (r : State)
+        × (p ≡ left r)
+        × Reading meaning b x r q
     in-catenation-left p (Reading.catenation-left {p = r} e) = (r, refl, e)
 
     -- into the second part of a catenation
-    in-catenation-right : (p : State) {q : State} → Reading Is b (catenation x y) p (right q)
-        → (r : State) × (p ≡ right r) × Reading Is b y r q
+    in-catenation-right : (p : State) {q : State} → Reading meaning b (catenation x y) p (right q)
+        → (r : State) × (p ≡ right r) × Reading meaning b y r q
     in-catenation-right p (Reading.catenation-right {p = r} e) = (r, refl, e)
 
     -- into the first part of a union
-    in-union-left : (p : State) {q : State} → Reading Is b (union x y) p (left q) → (r : State) × (p ≡ left r)
-        × Reading Is b x r q
+    in-union-left : (p : State) {q : State} → Reading meaning b (union x y) p (left q) → (r : State) × (p ≡ left r)
+        × Reading meaning b x r q
     in-union-left p (Reading.union-left {p = r} e) = (r, refl, e)
 
     -- into the second part of a union
-    in-union-right : (p : State) {q : State} → Reading Is b (union x y) p (right q) → (r : State) × (p ≡ right r)
-        × Reading Is b y r q
+    in-union-right : (p : State) {q : State} → Reading meaning b (union x y) p (right q) → (r : State) × (p ≡ right r)
+        × Reading meaning b y r q
     in-union-right p (Reading.union-right {p = r} e) = (r, refl, e)
 
   -- into a star's operand
-  in-star : {x : Nested Leaf} (p : State) {q : State} → Reading Is b (star x) p (left q) → (r : State) × (p ≡ left r)
-      × Reading Is b x r q
+  in-star : {x : Nested Leaf} (p : State) {q : State} → Reading meaning b (star x) p (left q) → (r : State)
+      × (p ≡ left r)
+      × Reading meaning b x r q
   in-star p (Reading.star-inside {p = r} e) = (r, refl, e)
 
   -- into a child piece
-  in-below : {x : Nested Leaf} (p : State) {q : State} → Reading Is b (below x) p (left q) → (r : State) × (p ≡ left r)
-      × Reading Is b x r q
+  in-below : {x : Nested Leaf} (p : State) {q : State} → Reading meaning b (below x) p (left q) → (r : State)
+      × (p ≡ left r)
+      × Reading meaning b x r q
   in-below p (Reading.in-child {p = r} e) = (r, refl, e)
 
   -- none leads to a start
-  no-start : {t : Tree (Own-leaf Leaf)} {p : State} → Reads Is-own b t p start → ⊥
+  no-start : {t : Tree (Own-leaf Leaf)} {p : State} → Reads (own-meaning meaning) b t p start → ⊥
   no-start = elim [ ]
 
   -- none to the accepting state of a catenation
-  no-catenation : {s t : Tree (Own-leaf Leaf)} {p : State} → Reads Is-own b (Tree.catenation s t) p accepting → ⊥
+  no-catenation : {s t : Tree (Own-leaf Leaf)} {p : State} → Reads (own-meaning meaning) b
+      (Tree.catenation s t) p accepting → ⊥
   no-catenation = elim [ ]
 
   -- none to that of a union
-  no-union : {s t : Tree (Own-leaf Leaf)} {p : State} → Reads Is-own b (Tree.union s t) p accepting → ⊥
+  no-union : {s t : Tree (Own-leaf Leaf)} {p : State} → Reads (own-meaning meaning) b (Tree.union s t) p accepting → ⊥
   no-union = elim [ ]
 
   -- none to that of a star
-  no-star : {s : Tree (Own-leaf Leaf)} {p : State} → Reads Is-own b (Tree.star s) p accepting → ⊥
+  no-star : {s : Tree (Own-leaf Leaf)} {p : State} → Reads (own-meaning meaning) b (Tree.star s) p accepting → ⊥
   no-star = elim [ ]
 
   -- a stand-in reads no byte
-  no-stand-in : {p : State} → Reads Is-own b (Tree.leaf stand-in) p accepting → ⊥
+  no-stand-in : {p : State} → Reads (own-meaning meaning) b (Tree.leaf stand-in) p accepting → ⊥
   no-stand-in (Reads.at-leaf e) = e
 
   -- the same in all pieces: none to a start
-  in-no-start : {x : Nested Leaf} {p : State} → Reading Is b x p start → ⊥
+  in-no-start : {x : Nested Leaf} {p : State} → Reading meaning b x p start → ⊥
   in-no-start = elim [ ]
 
   -- none to the accepting state of a catenation
-  in-no-catenation : {x y : Nested Leaf} {p : State} → Reading Is b (catenation x y) p accepting → ⊥
+  in-no-catenation : {x y : Nested Leaf} {p : State} → Reading meaning b (catenation x y) p accepting → ⊥
   in-no-catenation = elim [ ]
 
   -- none to that of a union
-  in-no-union : {x y : Nested Leaf} {p : State} → Reading Is b (union x y) p accepting → ⊥
+  in-no-union : {x y : Nested Leaf} {p : State} → Reading meaning b (union x y) p accepting → ⊥
   in-no-union = elim [ ]
 
   -- none to that of a star
-  in-no-star : {x : Nested Leaf} {p : State} → Reading Is b (star x) p accepting → ⊥
+  in-no-star : {x : Nested Leaf} {p : State} → Reading meaning b (star x) p accepting → ⊥
   in-no-star = elim [ ]
 
   -- none to that of a stand-in
-  in-no-below : {x : Nested Leaf} {p : State} → Reading Is b (below x) p accepting → ⊥
+  in-no-below : {x : Nested Leaf} {p : State} → Reading meaning b (below x) p accepting → ⊥
   in-no-below = elim [ ]
 
   -- in a part of the piece, whose states are numbered from i, the bits of w′ are those of w moved along b
   record Shifts (x : Nested Leaf) (i w w′ : ℕ) : Type 0 where
     exactly : (q : State) → Own x q
-        → Bit w′ (i + number x q) ↔ ((p : State) × (Own x p × Bit w (i + number x p)) × Reads Is-own b (own x) p q)
+        → Bit w′ (i + number x q) ↔ ((p : State) × (Own x p × Bit w (i + number x p)) × Own-reads meaning b x p q)
 
   -- a bit by an equal number
   at : (w : ℕ) {i j : ℕ} → i ≡ j → Bit w i → Bit w j
@@ -169,8 +175,8 @@ module _ (b : ℕ) where
   -- in a part x of a node z, at e, whose numbers in z are k more
   part : (z x : Nested Leaf) (e : State → State) (k : ℕ) → ((q : State) → number z (e q) ≡ k + number x q)
       → ((q : State) → Own z (e q) ↔ Own x q)
-      → ((p q : State) → Reads Is-own b (own x) p q → Reads Is-own b (own z) (e p) (e q))
-      → ((p q : State) → Reads Is-own b (own z) p (e q) → (r : State) × (p ≡ e r) × Reads Is-own b (own x) r q)
+      → ((p q : State) → Own-reads meaning b x p q → Own-reads meaning b z (e p) (e q))
+      → ((p q : State) → Own-reads meaning b z p (e q) → (r : State) × (p ≡ e r) × Own-reads meaning b x r q)
       → {i w w′ : ℕ} → Shifts z i w w′ → Shifts x (i + k) w w′
   part z x e k numbered owned into back {i} {w} {w′} whole = record {
     exactly = λ q o. (
@@ -228,21 +234,22 @@ module _ (b : ℕ) where
   unmarked-start {x} {i} {w} {w′} s c = no-start (s .exactly start tt .0 (at w′ (sym (add-zero i)) c) .2)
 
   -- nor the accepting state of a node that is no leaf
-  unmarked-end : {x : Nested Leaf} {i w w′ : ℕ} → ((p : State) → Reads Is-own b (own x) p accepting → ⊥)
+  unmarked-end : {x : Nested Leaf} {i w w′ : ℕ} → ((p : State) → Own-reads meaning b x p accepting → ⊥)
       → Shifts x i w w′ → Bit w′ (i + number x accepting) → ⊥
   unmarked-end never s c = let m = s .exactly accepting tt .0 c in never (m .0) (m .2)
 
   -- at a leaf it comes from the leaf's start
-  reads-leaf : {a : ℕ} {p : State} → Reads Is-own b (Tree.leaf (given a)) p accepting → (p ≡ start) × (a ≡ b)
+  reads-leaf : {a : ℕ} {p : State} → Reads (own-meaning meaning) b (Tree.leaf (given a)) p accepting → (p ≡ start)
+      × (a ≡ b)
   reads-leaf (Reads.at-leaf e) = (refl, e)
 
   -- the same in all pieces: at a leaf it comes from the leaf's start
-  in-leaf : {a : ℕ} {p : State} → Reading Is b (leaf a) p accepting → (p ≡ start) × (a ≡ b)
+  in-leaf : {a : ℕ} {p : State} → Reading meaning b (leaf a) p accepting → (p ≡ start) × (a ≡ b)
   in-leaf (Reading.at-leaf e) = (refl, e)
 
   -- at a leaf
   leaf-moved : (a i w w′ : ℕ) (ws : List ℕ) → Shifts (leaf a) i w w′
-      → Bit w′ (i + 1) ↔ Move Is b (leaf a) (Marked (leaf a) w i ws) accepting
+      → Bit w′ (i + 1) ↔ Move meaning b (leaf a) (Marked (leaf a) w i ws) accepting
   leaf-moved a i w w′ ws s = (
     λ c. let m = s .exactly accepting tt .0 c in (
       start,
@@ -259,7 +266,7 @@ module _ (b : ℕ) where
   -- in every piece: the bits of a part are those of its piece, and a child piece has its own word
   marked-moved : (x : Nested Leaf) (i w w′ : ℕ) (ws ws′ : List ℕ) → Shifts x i w w′ → Below-moved x ws ws′ → (q : State)
       → Has x q
-      → Marked x w′ i ws′ q ↔ Move Is b x (Marked x w i ws) q
+      → Marked x w′ i ws′ q ↔ Move meaning b x (Marked x w i ws) q
   marked-moved (leaf a) i w w′ ws ws′ s u start h = neither (unmarked-start s) (λ m. in-no-start (m .2))
   marked-moved (leaf a) i w w′ ws ws′ s u accepting h = leaf-moved a i w w′ ws s
   marked-moved (catenation x y) i w w′ ws ws′ s u start h = neither (unmarked-start s) (λ m. in-no-start (m .2))
@@ -326,7 +333,7 @@ moved-more {labels} {before} {after} {b} {n} {w} h so-far moves =
 
 -- the marks that the words hold are moved along b, and no bit past a last state is set
 pub record Marks-moved (x : Nested Leaf) (b : ℕ) (before after : List ℕ) : Type 0 where
-  pub holds : (q : State) → Has x q → Holds x after q ↔ Move Is b x (Holds x before) q
+  pub holds : (q : State) → Has x q → Holds x after q ↔ Move meaning b x (Holds x before) q
   pub clean : Clean x after
 
 -- the first n words are moved along b; the others are as before

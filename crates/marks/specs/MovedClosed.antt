@@ -6,12 +6,11 @@ use mathlib.Core.Path.{_≡_, sym, subst}
 use mathlib.Core.List.{List}
 use native.Mathlib.Omega.{arith}
 use lib.ListN.{length, getD, set}
-use Rattle.language.specs.Language.{Is}
 use Rattle.language.specs.Automaton.{States}
 use Rattle.language.specs.Nested.{Nested, Has, Move}
 use Rattle.language.specs.Settled.{Settled}
 use Rattle.language.specs.Same.{More-in}
-use Rattle.tree.specs.Leaf.{Leaf}
+use Rattle.tree.specs.Leaf.{Leaf, meaning}
 use Rattle.tables.specs.Words.{width, run, number, Holds, Clean}
 use Rattle.tables.specs.Plan.{row, takes, Moves, Pieces, Planned, Reaches, Each, Closes}
 use Rattle.marks.specs.Bits.{bit-zero}
@@ -104,12 +103,12 @@ module _ {reach labels before after : List ℕ} {b n : ℕ} (went : Moved-closed
     alone = went .moves .marks tables x same planned room narrow narrow-below clean
 
     -- each moved mark is there
-    pub moved-keeps : More-in (Has x) (Move Is b x (Holds x before)) (Holds x after)
+    pub moved-keeps : More-in (Has x) (Move meaning b x (Holds x before)) (Holds x after)
     moved-keeps q has m = closed-keeps (went .closes) x reached room narrow narrow-below (alone .clean) q has
         (alone .holds q has .1 m)
 
     -- the marks lie within each settled set that has the moved ones
-    pub moved-within : (Z : States) → Settled x Z → More-in (Has x) (Move Is b x (Holds x before)) Z
+    pub moved-within : (Z : States) → Settled meaning x Z → More-in (Has x) (Move meaning b x (Holds x before)) Z
         → More-in (Has x) (Holds x after) Z
     moved-within Z settled within =
         closed-within (went .closes) x reached room narrow narrow-below (alone .clean) Z settled

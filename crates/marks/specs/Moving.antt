@@ -10,11 +10,11 @@ use native.Mathlib.Omega.{arith}
 use lib.Bits.{bitOr, bitAnd}
 use lib.Pow.{pow-mono}
 use lib.ListN.{getD}
-use Rattle.language.specs.Automaton.{State, Reads}
-use Rattle.language.specs.Nested.{Nested, own}
-use Rattle.tree.specs.Leaf.{Leaf}
+use Rattle.language.specs.Automaton.{State}
+use Rattle.language.specs.Nested.{Nested, Own-reads}
+use Rattle.tree.specs.Leaf.{Leaf, meaning}
 use Rattle.tables.specs.Words.{Bit, width, Own, number}
-use Rattle.tables.specs.Plan.{row, takes, Is-own, Moves}
+use Rattle.tables.specs.Plan.{row, takes, Moves}
 use Rattle.tables.specs.Tables.{Noted}
 use Rattle.marks.specs.Bits.{bit-zero, bit-and, bit-with, bit-below, bit-low, bit-suc, below-of-bits}
 use Rattle.marks.specs.LowestBit.{Lowest}
@@ -108,7 +108,7 @@ record Comes (x : Nested Leaf) (b w j : ℕ) : Type 0 where
   from-own : Own x from
   marked : Bit w (number x from)
   numbered : number x to ≡ j
-  reads : Reads Is-own b (own x) from to
+  reads : Own-reads meaning b x from to
 
 -- that state is one of the piece
 comes-below : {x : Nested Leaf} {b w j : ℕ} → Comes x b w j → j < width x
@@ -116,12 +116,12 @@ comes-below {x} {b} m = omega (arith, number-below x (m .to) (reads-on b x (m .r
 
 -- so one leads to the state of that number
 comes-to : {x : Nested Leaf} {b w : ℕ} (q : State) → Own x q → Comes x b w (number x q)
-    → (p : State) × Own x p × Bit w (number x p) × Reads Is-own b (own x) p q
+    → (p : State) × Own x p × Bit w (number x p) × Own-reads meaning b x p q
 comes-to {x} {b} q o m = (
   m .from,
   m .from-own,
   m .marked,
-  subst (λ (s : State). Reads Is-own b (own x) (m .from) s)
+  subst (λ (s : State). Own-reads meaning b x (m .from) s)
       (number-injective x (m .to) q (reads-on b x (m .reads) .to-own) o (m .numbered)) (m .reads),
 )
 
@@ -163,7 +163,7 @@ moves-by-picking labels piece b w r x narrow labelled small picked =
           reads = t .1;
         }
 
-    forth : (q : State) → Own x q → (p : State) × Own x p × Bit w (number x p) × Reads Is-own b (own x) p q
+    forth : (q : State) → Own x q → (p : State) × Own x p × Bit w (number x p) × Own-reads meaning b x p q
         → Bit (r * 2) (number x q)
     forth q o m =
         let s = reads-on b x (m .3) in

@@ -7,10 +7,9 @@ use mathlib.Core.Logic.{_↔_}
 use mathlib.Core.List.{List}
 use lib.ListN.{length, drop}
 use Rattle.language.specs.Tree.{Tree}
-use Rattle.language.specs.Language.{Is}
 use Rattle.language.specs.Automaton.{States, accepting, Started, Stepped}
 use Rattle.language.specs.Nested.{Models}
-use Rattle.tree.specs.Leaf.{Leaf}
+use Rattle.tree.specs.Leaf.{Leaf, meaning}
 use Rattle.tree.specs.Records.{Good, piece-count}
 use Rattle.tables.specs.Words.{Holds, Clean, Agreeing, Set-of}
 use Rattle.tree.specs.Pieces.{cut-up}
@@ -64,7 +63,7 @@ Not-marks list words = (t : Tree Leaf) × Good list t × (piece-count t ≤ leng
 
 -- what start answers, and the words afterwards: the closing of the root's start
 abbrev pub Starts : (list before after : List ℕ) → Answer → Type 0
-Starts list before after (Marked yes') = Made list (λ t. Started t) before after yes'
+Starts list before after (Marked yes') = Made list (λ t. Started meaning t) before after yes'
 Starts list before after NotGood = Refused before after (Not-good list)
 Starts list before after TooFewWords = Refused before after (Too-few list before)
 Starts list before after NotMarks = ⊥
@@ -73,7 +72,7 @@ Starts list before after NotMarks = ⊥
 -- byte and then any
 -- number of empty transitions leads to
 pub record Steps-on (list : List ℕ) (byte : ℕ) (before after : List ℕ) (yes' : Bool) : Type 0 where
-  pub made : Made list (λ t. Stepped Is t byte (Set-of (cut-up t) before)) before after yes'
+  pub made : Made list (λ t. Stepped meaning t byte (Set-of (cut-up t) before)) before after yes'
   pub from-marks : Marks-of (made .t) before
 
 abbrev pub Steps : (list : List ℕ) (byte : ℕ) (before after : List ℕ) → Answer → Type 0

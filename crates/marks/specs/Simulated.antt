@@ -8,13 +8,12 @@ use mathlib.Core.List.{List, _∷_}
 use lib.ListN.{getD, drop}
 use lib.Seq.{getD-drop}
 use lib.Pow.{pow-pos, pow-lt}
-use Rattle.language.specs.Language.{Is}
-use Rattle.language.specs.Automaton.{State, start, accepting, States, Empty, Path-of, Started, Stepped}
-use Rattle.language.specs.Nested.{Nested, whole, own as own-tree, Has, Models, Move}
+use Rattle.language.specs.Automaton.{State, start, accepting, States, Path-of, Started, Stepped}
+use Rattle.language.specs.Nested.{Nested, whole, Has, Models, Move, Own-empty}
 use Rattle.language.specs.Same.{More-in, Agree, sweep-same, models-same}
 use Rattle.language.specs.Settled.{Settled}
 use Rattle.language.specs.Sweeps.{sweeps-start, sweeps-step-closed}
-use Rattle.tree.specs.Leaf.{Leaf}
+use Rattle.tree.specs.Leaf.{Leaf, meaning}
 use Rattle.tables.specs.Words.{Bit, width, run, number, Holds, Clean}
 use Rattle.tables.specs.Plan.{Planned, Each, Reaches}
 use Rattle.marks.specs.Numbers.{width-two, number-injective}
@@ -93,7 +92,7 @@ module _ (x : Nested Leaf) (words : List ℕ) (marked : Start-marked x words) wh
         (bit-power 0 (number x p) .0 (subst (λ (w : ℕ). Bit w (number x p)) (marked .first) b)) in
         inr (
           subst (λ (s : State). Bit (getD words 0 0) (number x s)) same b,
-          subst (λ (s : State). Path-of (Empty (own-tree x)) s q) same way,
+          subst (λ (s : State). Path-of (Own-empty meaning x) s q) same way,
         );
   }
 
@@ -107,18 +106,21 @@ module _ (reach runs stands tops : List ℕ) (count : ℕ) (x : Nested Leaf) (be
     (closed : Closed-twice reach runs stands tops count before after)
     (on : Run-of reach runs stands tops count x before) where
   -- from the root's start, the closing is the start of the plain simulation
-  pub closed-start : Agree x (Holds x before) (λ q. q ≡ start) → Models x (Holds x after) (Started (whole x))
+  pub closed-start : Agree x (Holds x before) (λ q. q ≡ start) → Models x (Holds x after) (Started meaning (whole x))
   closed-start begins =
-      models-same x (Started (whole x))
-      (λ q h. Iff·trans (closed .marks x on q h) (sweep-same x (sweep-same x begins) q h)) (sweeps-start x)
+      models-same x (Started meaning (whole x))
+      (λ q h. Iff·trans (closed .marks x on q h) (sweep-same meaning x (sweep-same meaning x begins) q h))
+      (sweeps-start meaning x)
 
   -- after a move along the byte b, with some of the closing done already, the closing is a step of the plain simulation
-  pub closed-step : (b : ℕ) (marks X : States) → Models x marks X → More-in (Has x) (Move Is b x marks) (Holds x before)
-      → ((Z : States) → Settled x Z → More-in (Has x) (Move Is b x marks) Z → More-in (Has x) (Holds x before) Z)
-      → Models x (Holds x after) (Stepped Is (whole x) b X)
+  pub closed-step : (b : ℕ) (marks X : States) → Models x marks X
+      → More-in (Has x) (Move meaning b x marks) (Holds x before)
+      → ((Z : States) → Settled meaning x Z → More-in (Has x) (Move meaning b x marks) Z
+      → More-in (Has x) (Holds x before) Z)
+      → Models x (Holds x after) (Stepped meaning (whole x) b X)
   closed-step b marks X models more within =
-      models-same x (Stepped Is (whole x) b X) (closed .marks x on)
-      (sweeps-step-closed Is b x marks X (Holds x before) models more within)
+      models-same x (Stepped meaning (whole x) b X) (closed .marks x on)
+      (sweeps-step-closed meaning b x marks X (Holds x before) models more within)
 
 -- the bit of the top piece's last state says whether the accepting state is in the set that the words hold
 pub accepting-bit : (x : Nested Leaf) (words : List ℕ) (X : States) → Models x (Holds x words) X

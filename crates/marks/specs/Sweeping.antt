@@ -22,7 +22,7 @@ use lib.Seq.{
 use Rattle.language.specs.Automaton.{start}
 use Rattle.language.specs.Nested.{Nested}
 use Rattle.language.specs.Settled.{Settled}
-use Rattle.tree.specs.Leaf.{Leaf}
+use Rattle.tree.specs.Leaf.{Leaf, meaning}
 use Rattle.tables.specs.Words.{Bit, width, run, Holds, Clean}
 use Rattle.tables.specs.Plan.{Closes}
 use Rattle.marks.specs.Numbers.{width-two, number-onto}
@@ -326,7 +326,7 @@ module _ (reach runs stands tops : List ℕ) (k : ℕ) where
     -- what going through a child piece has to tell
     pub record Went (after : List ℕ) (settled' : Bool) (x : Nested Leaf) (c : Child) : Type 0 where
       pub visited : Visited x c words after
-      pub rests : settled' ≡ true → Settled (c .tree) (Holds (c .tree) (part c after))
+      pub rests : settled' ≡ true → Settled meaning (c .tree) (Holds (c .tree) (part c after))
 
     -- a child piece at rest is passed over
     pub passed-over : (from to : ℕ)
@@ -412,7 +412,7 @@ module _ (reach runs stands tops : List ℕ) (k : ℕ) where
           (sweeping .each x begun-sweepable own-begun) past
 
       -- and settled, where no start waits that is marked now
-      pub sweep-settled : settled ≡ true → Apart (getD words 0 0) waiting → Settled x (Holds x words)
+      pub sweep-settled : settled ≡ true → Apart (getD words 0 0) waiting → Settled meaning x (Holds x words)
       sweep-settled = all-settled reach runs stands tops x k (set entry 0 closed) begun-sweepable words at waiting
           settled (sweeping .each x begun-sweepable own-begun) past
 
@@ -430,7 +430,7 @@ module _ (reach runs stands tops : List ℕ) (k : ℕ) where
       idle-done = swept reach runs stands tops x k entry closed can own-closed words (ended .at) (ended .waiting)
           settled (ended .way) (ended .past)
 
-      pub idle-settled : settled ≡ true → Settled x (Holds x words)
+      pub idle-settled : settled ≡ true → Settled meaning x (Holds x words)
       idle-settled e = all-settled reach runs stands tops x k (set entry 0 closed) begun-sweepable words (ended .at)
           (ended .waiting) settled (ended .way) (ended .past) e
           (λ i b. absurd (bit-zero i (subst (λ (w : ℕ). Bit w i) unmarked b)))

@@ -9,13 +9,12 @@ use mathlib.Core.List.{List, [], _∷_, _++_}
 use native.Mathlib.Omega.{arith}
 use lib.ListN.{getD}
 use Rattle.language.specs.Tree.{Tree}
-use Rattle.language.specs.Language.{Is, Matches}
 use Rattle.language.specs.Automaton.{State, accepting, States, Started, Stepped, After}
 use Rattle.language.specs.Nested.{Nested, Models}
 use Rattle.language.specs.Acceptance.{accepts-exactly}
 use Rattle.language.specs.Models.{origin-onto}
 use Rattle.language.specs.Along.{after-step, reached-state, none-longer}
-use Rattle.tree.specs.Leaf.{Leaf}
+use Rattle.tree.specs.Leaf.{Leaf, meaning, Matches}
 use Rattle.tree.specs.Records.{piece-count}
 use Rattle.tree.specs.Pieces.{cut-up, stated}
 use Rattle.tables.specs.Words.{Bit, width, run, Holds, Clean}
@@ -30,14 +29,15 @@ all-words t = stated t .all-pieces
 
 module _ {t : Tree Leaf} {w words : List ℕ} (holding : Holding t w words) where
   -- where the words of the pieces are 0, no state is marked after the text
-  none-marked : All-zero (piece-count t) words → (p : State) → After Is t w (Started t) p → ⊥
+  none-marked : All-zero (piece-count t) words → (p : State) → After meaning t w (Started meaning t) p → ⊥
   none-marked zeros p reached =
-      let (q, has, stands) = origin-onto (cut-up t) p (rw (stated t .same-tree) (reached-state Is t w p reached)) in
+      let (q, has, stands) = origin-onto (cut-up t) p
+      (rw (stated t .same-tree) (reached-state meaning t w p reached)) in
       zero-holds (cut-up t) words (rw (all-words t) zeros) q has (holding .modelled q has .1 (rw stands reached))
 
   -- and no text that begins with it is in the language
   pub nothing-left : All-zero (piece-count t) words → (v : List ℕ) → Matches t (w ++ v) → ⊥
-  nothing-left zeros v = none-longer Is t w v (none-marked zeros)
+  nothing-left zeros v = none-longer meaning t w v (none-marked zeros)
 
   -- the last state of piece 0 is the root's accepting state: it is marked exactly when the text is in the language
   pub accepting-answer : Bit (getD words 0 0) (width (cut-up t) - 1) ↔ Matches t w
@@ -46,20 +46,21 @@ module _ {t : Tree Leaf} {w words : List ℕ} (holding : Holding t w words) wher
       iff-trans (bit-at (getD words 0 0) (omega (arith, number-accepting x)))
       (iff-trans (held-at words (sym (own-spot x accepting tt)))
       (iff-trans (holds-held x words accepting tt .1, holds-held x words accepting tt .0)
-      (iff-trans (holding .modelled accepting tt) (accepts-exactly Is t w))))
+      (iff-trans (holding .modelled accepting tt) (accepts-exactly meaning t w))))
 
   -- after one byte more they hold what a step with it marks
   pub holding-next : {b : ℕ} {later : List ℕ}
-      → Models (cut-up t) (Holds (cut-up t) later) (Stepped Is t b (After Is t w (Started t))) → Clean (cut-up t) later
+      → Models (cut-up t) (Holds (cut-up t) later) (Stepped meaning t b (After meaning t w (Started meaning t)))
+      → Clean (cut-up t) later
       → Holding t (w ++ (b ∷ [])) later
   holding-next {b} {later} models clean =
       record {
         modelled = subst (λ (X : States). Models (cut-up t) (Holds (cut-up t) later) X)
-            (sym (after-step Is t w b (Started t))) models;
+            (sym (after-step meaning t w b (Started meaning t))) models;
         clean = clean;
       }
 
 -- before the first byte they hold what the start marks
-pub holding-first : {t : Tree Leaf} {words : List ℕ} → Models (cut-up t) (Holds (cut-up t) words) (Started t)
+pub holding-first : {t : Tree Leaf} {words : List ℕ} → Models (cut-up t) (Holds (cut-up t) words) (Started meaning t)
     → Clean (cut-up t) words → Holding t [] words
 holding-first models clean = record { modelled = models; clean = clean }

@@ -3,6 +3,7 @@
 -- Assumes nothing.
 use Prim.Native.Nat.{ℕ, _+_, _^_, _<_}
 use mathlib.Core.Path.{_≡_, refl, sym, ap, _∙_, subst}
+use mathlib.Core.Bool.{Bool, true, false, cond, false≢true}
 use mathlib.Core.Logic.{_⊎_, inl, inr, _↔_, ⊎-elim}
 use mathlib.Core.List.{[], _∷_, _++_}
 use native.Mathlib.Nat.{one-mul}
@@ -11,8 +12,8 @@ use lib.Bits.{bitOr, or-shifted-r}
 use lib.Pow.{pow-lt}
 use lib.ListN.{length, getD}
 use Rattle.language.specs.Automaton.{State, start, accepting, left, right, Empty}
-use Rattle.language.specs.Nested.{Nested, leaf, catenation, union, star, below, own}
-use Rattle.tree.specs.Leaf.{Leaf}
+use Rattle.language.specs.Nested.{Nested, leaf, catenation, union, star, below, Own-empty}
+use Rattle.tree.specs.Leaf.{Leaf, meaning, has-empty}
 use Rattle.tables.specs.Words.{Bit, width, Own, number}
 use Rattle.tables.specs.Plan.{nexts}
 use Rattle.marks.specs.Bits.{bit-zero, bit-power, bit-or}
@@ -31,6 +32,11 @@ two-bits a b j h = (
     joined : bitOr (2 ^ a) (2 ^ b) ≡ 2 ^ a + 2 ^ b
     joined = ap (bitOr (2 ^ a)) (sym (one-mul (2 ^ b))) ∙ or-shifted-r 1 b (2 ^ a) (pow-lt h)
         ∙ omega (arith, one-mul (2 ^ b))
+
+-- a word of one bit, or of none, as a test says
+if-bit : (test : Bool) (n j : ℕ) → Bit (cond test (2 ^ n) 0) j ↔ ((test ≡ true) × (j ≡ n))
+if-bit true n j = (λ c. (refl, bit-power n j .0 c), λ (_, e). bit-power n j .1 e)
+if-bit false n j = (λ c. absurd (bit-zero j c), λ (e, _). absurd (false≢true e))
 
 -- one word for each state
 pub length-nexts : (x : Nested Leaf) (i exit : ℕ) → length (nexts x i exit) ≡ width x
@@ -71,7 +77,8 @@ module _ (s e : ℕ) (x : Nested Leaf) (i m : ℕ) where
 
 -- a transition out of a state of x, or, where that is the accepting state, a bit of the word that it has around x
 abbrev Out : Nested Leaf → ℕ → ℕ → State → ℕ → Type 0
-Out x i exit p j = ((q : State) × Own x q × (i + number x q ≡ j) × Empty (own x) p q) ⊎ ((p ≡ accepting) × Bit exit j)
+Out x i exit p j = ((q : State) × Own x q × (i + number x q ≡ j) × Own-empty meaning x p q)
+    ⊎ ((p ≡ accepting) × Bit exit j)
 
 -- equal words have the same bits
 same-bit : {v w : ℕ} (j : ℕ) → v ≡ w → Bit v j → Bit w j
@@ -80,7 +87,9 @@ same-bit j e b = subst (λ (v : ℕ). Bit v j) e b
 -- each bit is a transition
 out : (x : Nested Leaf) (i exit : ℕ) (p : State) → Own x p → (j : ℕ) → Bit (getD (nexts x i exit) (number x p) 0) j
     → Out x i exit p j
-out (leaf a) i exit start o j b = absurd (bit-zero j b)
+out (leaf a) i exit start o j b =
+    let (has, e) = if-bit (has-empty a) (i + 1) j .0 b in
+    inl (accepting, tt, omega (arith, e), Empty.leaf-past has)
 out (leaf a) i exit accepting o j b = inr (refl, b)
 out (catenation x y) i exit start o j b =
     inl (left start, tt, omega (arith, bit-power (i + 1) j .0 b), Empty.catenation-in)
@@ -92,7 +101,8 @@ out (catenation x y) i exit (left p) o j b =
       right start,
       tt,
       omega (arith, bit-power _ j .0 (g .1)),
-      subst (λ (r : State). Empty (own (catenation x y)) (left r) (right start)) (sym (g .0)) Empty.catenation-over,
+      subst (λ (r : State). Own-empty meaning (catenation x y) (left r) (right start))
+          (sym (g .0)) Empty.catenation-over,
     ))
     (out x (i + 1) (2 ^ (i + (1 + width x))) p o j (same-bit j (left-word _ exit x y _ _ _ _ p o) b))
 out (catenation x y) i exit (right p) o j b =
@@ -102,7 +112,7 @@ out (catenation x y) i exit (right p) o j b =
       accepting,
       tt,
       omega (arith, bit-power _ j .0 (g .1)),
-      subst (λ (r : State). Empty (own (catenation x y)) (right r) accepting) (sym (g .0)) Empty.catenation-out,
+      subst (λ (r : State). Own-empty meaning (catenation x y) (right r) accepting) (sym (g .0)) Empty.catenation-out,
     ))
     (out y (i + (1 + width x)) (2 ^ (i + (1 + width x + width y))) p o j
     (same-bit j (right-word _ exit x y _ _ _ _ p o) b))
@@ -119,7 +129,7 @@ out (union x y) i exit (left p) o j b =
       accepting,
       tt,
       omega (arith, bit-power _ j .0 (g .1)),
-      subst (λ (r : State). Empty (own (union x y)) (left r) accepting) (sym (g .0)) Empty.union-out-left,
+      subst (λ (r : State). Own-empty meaning (union x y) (left r) accepting) (sym (g .0)) Empty.union-out-left,
     ))
     (out x (i + 1) (2 ^ (i + (1 + width x + width y))) p o j (same-bit j (left-word _ exit x y _ _ _ _ p o) b))
 out (union x y) i exit (right p) o j b =
@@ -129,7 +139,7 @@ out (union x y) i exit (right p) o j b =
       accepting,
       tt,
       omega (arith, bit-power _ j .0 (g .1)),
-      subst (λ (r : State). Empty (own (union x y)) (right r) accepting) (sym (g .0)) Empty.union-out-right,
+      subst (λ (r : State). Own-empty meaning (union x y) (right r) accepting) (sym (g .0)) Empty.union-out-right,
     ))
     (out y (i + (1 + width x)) (2 ^ (i + (1 + width x + width y))) p o j
     (same-bit j (right-word _ exit x y _ _ _ _ p o) b))
@@ -147,13 +157,13 @@ out (star x) i exit (left p) o j b =
       left start,
       tt,
       omega (arith, e),
-      subst (λ (r : State). Empty (own (star x)) (left r) (left start)) (sym (g .0)) Empty.star-back,
+      subst (λ (r : State). Own-empty meaning (star x) (left r) (left start)) (sym (g .0)) Empty.star-back,
     ))
     (λ e. inl (
       accepting,
       tt,
       omega (arith, e),
-      subst (λ (r : State). Empty (own (star x)) (left r) accepting) (sym (g .0)) Empty.star-out,
+      subst (λ (r : State). Own-empty meaning (star x) (left r) accepting) (sym (g .0)) Empty.star-out,
     ))
     (two-bits (i + 1) (i + (1 + width x)) j (omega (arith, width-two x)) .0 (g .1)))
     (out x (i + 1) (2 ^ (i + 1) + 2 ^ (i + (1 + width x))) p o j (same-bit j (inside-word _ exit x _ _ p o) b))
@@ -169,9 +179,10 @@ exit-word (star x) i exit = last-word _ exit x _ _
 exit-word (below x) i exit = refl
 
 -- each transition is a bit
-bit : (x : Nested Leaf) (i exit : ℕ) {p q : State} → Empty (own x) p q → Own x p → Own x q → (j : ℕ)
+bit : (x : Nested Leaf) (i exit : ℕ) {p q : State} → Own-empty meaning x p q → Own x p → Own x q → (j : ℕ)
     → i + number x q ≡ j
     → Bit (getD (nexts x i exit) (number x p) 0) j
+bit (leaf a) i exit (Empty.leaf-past has) o o′ j h = if-bit (has-empty a) (i + 1) j .1 (has, omega arith)
 bit (catenation x y) i exit Empty.catenation-in o o′ j h = bit-power _ j .1 (omega arith)
 bit (catenation x y) i exit Empty.catenation-over o o′ j h =
     same-bit j (sym (left-word _ exit x y _ _ _ _ accepting tt ∙ exit-word x _ _))
@@ -209,9 +220,11 @@ bit (star x) i exit Empty.star-out o o′ j h =
     (two-bits (i + 1) (i + (1 + width x)) j (omega (arith, width-two x)) .1 (inr (omega arith)))
 bit (star x) i exit (Empty.star-inside {p = p} e) o o′ j h =
     same-bit j (sym (inside-word _ exit x _ _ p o)) (bit x (i + 1) _ e o o′ j (omega arith))
+bit (below x) i exit (Empty.leaf-past has) o o′ j h = absurd has
 
 -- the ends of a transition are states of the piece
-pub transition-own : (x : Nested Leaf) {p q : State} → Empty (own x) p q → Own x p × Own x q
+pub transition-own : (x : Nested Leaf) {p q : State} → Own-empty meaning x p q → Own x p × Own x q
+transition-own (leaf a) (Empty.leaf-past has) = (tt, tt)
 transition-own (catenation x y) Empty.catenation-in = (tt, tt)
 transition-own (catenation x y) Empty.catenation-over = (tt, tt)
 transition-own (catenation x y) Empty.catenation-out = (tt, tt)
@@ -228,10 +241,11 @@ transition-own (star x) Empty.star-past = (tt, tt)
 transition-own (star x) Empty.star-back = (tt, tt)
 transition-own (star x) Empty.star-out = (tt, tt)
 transition-own (star x) (Empty.star-inside e) = transition-own x e
+transition-own (below x) (Empty.leaf-past has) = absurd has
 
 -- bit j of the word of p is set exactly for a transition from p to the state numbered j
 pub nexts-bits : (x : Nested Leaf) (p : State) → Own x p → (j : ℕ)
-    → Bit (getD (nexts x 0 0) (number x p) 0) j ↔ ((q : State) × Own x q × (number x q ≡ j) × Empty (own x) p q)
+    → Bit (getD (nexts x 0 0) (number x p) 0) j ↔ ((q : State) × Own x q × (number x q ≡ j) × Own-empty meaning x p q)
 nexts-bits x p o j = (
   λ b. ⊎-elim (λ g. (g .0, g .1, omega (arith, g .2), g .3)) (λ g. absurd (bit-zero j (g .1))) (out x 0 0 p o j b),
   λ g. bit x 0 0 (g .3) o (g .1) j (omega (arith, g .2)),

@@ -11,9 +11,8 @@ use mathlib.Core.List.{List, _++_}
 use lib.Dec.{T, eqb, eqb-refl}
 use lib.ListN.{length, take, take-append-drop}
 use Rattle.language.specs.Tree.{Tree}
-use Rattle.language.specs.Language.{Is}
 use Rattle.language.specs.Automaton.{accepting, States, Started, Stepped}
-use Rattle.tree.specs.Leaf.{Leaf}
+use Rattle.tree.specs.Leaf.{Leaf, meaning}
 use Rattle.tree.specs.Records.{Good, piece-count}
 use Rattle.tree.specs.Readback.{good-unique}
 use Rattle.tables.specs.Words.{run, Set-of}
@@ -174,14 +173,14 @@ module _ (list before : List ℕ) where
 
 -- what start promises, in these words: nothing is asked of the words lent
 starts-answers : (list before after : List ℕ) (r : Answer) → Starts list before after r
-    → Answers list before (λ t. Started t) (λ t. Unit {0}) after r
+    → Answers list before (λ t. Started meaning t) (λ t. Unit {0}) after r
 starts-answers list before after (Marked yes') s = record { made = s; fine = tt }
 starts-answers list before after NotGood s = s
 starts-answers list before after TooFewWords s = s
 
 -- what step promises: the words lent are marks
 steps-answers : (list : List ℕ) (byte : ℕ) (before after : List ℕ) (r : Answer) → Steps list byte before after r
-    → Answers list before (λ t. Stepped Is t byte (Set-of (cut-up t) before)) (λ t. Marks-of t before) after r
+    → Answers list before (λ t. Stepped meaning t byte (Set-of (cut-up t) before)) (λ t. Marks-of t before) after r
 steps-answers list byte before after (Marked yes') s = record { made = s .made; fine = s .from-marks }
 steps-answers list byte before after NotGood s = s
 steps-answers list byte before after TooFewWords s = s

@@ -7,7 +7,7 @@ ghost use Prim.Native.Nat.{ℕ, _+_, _*_, _≤_, _<_};
 ghost use lib.ListN.{length};
 ghost use Rattle.language.specs.Nested.{Nested};
 ghost use Rattle.language.specs.Settled.{Settled};
-ghost use Rattle.tree.specs.Leaf.{Leaf};
+ghost use Rattle.tree.specs.Leaf.{Leaf, meaning};
 ghost use Rattle.tables.specs.Words.{Bit, Holds};
 ghost use Rattle.marks.specs.Bits.{Told};
 ghost use Rattle.marks.specs.Swept.{passed, Ready, Sweepable, Swept, At-rest, Missed, Apart};
@@ -116,7 +116,7 @@ pub fn sweep(
     ensures { λ r.
         ⌜ ((x : Nested Leaf)
         → Sweepable (now (reach .entry)) (now (runs .entry)) (now (stands .entry)) (now (tops .entry)) x piece
-        (now (words .entry)) → r ≡ true → Settled x (Holds x (now (words .exit)))) ⌝ }
+        (now (words .entry)) → r ≡ true → Settled meaning x (Holds x (now (words .exit)))) ⌝ }
 {
     words[0] = close_from(reach, piece, words[0], 0);
     let mut settled = true;

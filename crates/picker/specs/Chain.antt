@@ -8,8 +8,7 @@ use mathlib.Core.Logic.{_↔_, Iff·rfl, Iff·symm, Iff·trans, Iff·and}
 use mathlib.Core.List.{List}
 use lib.ListN.{length, take}
 use Rattle.language.specs.Tree.{Tree}
-use Rattle.language.specs.Language.{Matches}
-use Rattle.tree.specs.Leaf.{Leaf}
+use Rattle.tree.specs.Leaf.{Leaf, Matches}
 use Rattle.tree.specs.Readback.{good-unique}
 use Rattle.reader.specs.Grammar.{Written}
 use Rattle.reader.specs.Agree.{scanned-exactly, grammar-unique}

@@ -8,16 +8,15 @@ use mathlib.Core.List.{List, [], _∷_}
 use lib.Dec.{eqb}
 use borrow.Author.Tests.{eqb-true}
 use Rattle.language.specs.Tree.{Tree, nodes}
-use Rattle.language.specs.Language.{Is, Matches}
 use Rattle.language.specs.Automaton.{Started, After, Accepts}
 use Rattle.language.specs.Acceptance.{accepts-exactly}
-use Rattle.tree.specs.Leaf.{Leaf}
+use Rattle.tree.specs.Leaf.{Leaf, meaning, Matches}
 use Rattle.tree.specs.Records.{piece-count}
 use Rattle.tree.specs.Pieces.{cut-up}
 use Rattle.reader.specs.Text.{bytes}
 use Rattle.reader.specs.Scanner.{Outcome, tree, refused, scan, scanned}
 use Rattle.finder.specs.Found.{Answer, at, nothing, Answers}
-use Rattle.finder.specs.Decide.{any-split, any-repeat, one-byte, matched, matches, matches-exactly}
+use Rattle.finder.specs.Decide.{any-split, any-repeat, leaf-text, matched, matches, matches-exactly}
 use Rattle.finder.specs.Searched.{latest-end, answer-from, searched, searched-exactly}
 use Rattle.finder.specs.Computed.{walked, moved}
 use Rattle.finder.specs.Held.{
@@ -60,7 +59,7 @@ abbrev pub Holds : Row → Type 0
 Holds (refuses expression number place) = scanned expression ≡ refused number place
 Holds (reads expression records pieces) = Read expression (λ t. (nodes t ≡ records) × (piece-count t ≡ pieces))
 Holds (marks expression text words answer) =
-    Read expression (λ t. Held t words (After Is t text (Started t)) × ((answer ≡ true) ↔ Accepts Is t text))
+    Read expression (λ t. Held t words (After meaning t text (Started meaning t)) × ((answer ≡ true) ↔ Accepts meaning t text))
 Holds (answers expression text answer) = Read expression (λ t. (answer ≡ true) ↔ Matches t text)
 Holds (finds expression text answer) = Read expression (λ t. Answers (Matches t) text answer)
 
@@ -166,7 +165,7 @@ row-holds (marks expression text words answer) e =
     tree-holds expression _ _
     (λ t h. (
       held-after t text words (also-first _ _ h),
-      Iff·trans (match-holds t text answer (also-second _ _ h)) (Iff·symm (accepts-exactly Is t text)),
+      Iff·trans (match-holds t text answer (also-second _ _ h)) (Iff·symm (accepts-exactly meaning t text)),
     ))
     (scanned expression) refl e
 row-holds (answers expression text answer) e =
@@ -190,6 +189,6 @@ rows-hold (row ∷ rows) e = (row-holds row (also-first _ _ e), rows-hold rows (
 
 -- every row of the table holds
 pub edges-hold : Every Holds edges
-unfolding rows-test row-test is-refusal is-tree same-answer scan scanned any-split any-repeat one-byte matched
+unfolding rows-test row-test is-refusal is-tree same-answer scan scanned any-split any-repeat leaf-text matched
     latest-end answer-from walked moved also ends agrees tidy holds-after cut-up
 edges-hold = rows-hold edges refl

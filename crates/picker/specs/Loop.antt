@@ -8,8 +8,7 @@ use mathlib.Core.List.{List, [], _++_, append-assoc}
 use native.Mathlib.Omega.{arith}
 use lib.ListN.{length, take, drop}
 use Rattle.language.specs.Tree.{Tree}
-use Rattle.language.specs.Language.{Matches}
-use Rattle.tree.specs.Leaf.{Leaf}
+use Rattle.tree.specs.Leaf.{Leaf, Matches}
 use Rattle.finder.specs.Found.{part}
 use Rattle.finder.specs.Decide.{matches, matches-answer}
 use Rattle.picker.specs.Lines.{lines}

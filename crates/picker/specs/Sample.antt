@@ -5,7 +5,7 @@ use mathlib.Core.Path.{_≡_, refl}
 use mathlib.Core.List.{List, [], _∷_}
 use Rattle.reader.specs.Text.{bytes}
 use Rattle.reader.specs.Scanner.{scan, scanned}
-use Rattle.finder.specs.Decide.{any-split, any-repeat, one-byte, matched}
+use Rattle.finder.specs.Decide.{any-split, any-repeat, leaf-text, matched}
 use Rattle.picker.specs.Edges.{Every}
 use Rattle.picker.specs.Lines.{lines}
 use Rattle.picker.specs.Digits.{digits, digits-within}
@@ -45,5 +45,5 @@ runs =
 
 -- every run prints so
 pub runs-print : Every Prints runs
-unfolding scan scanned any-split any-repeat one-byte matched lines digits digits-within text-lines output
+unfolding scan scanned any-split any-repeat leaf-text matched lines digits digits-within text-lines output
 runs-print = (refl, (refl, (refl, (refl, (refl, (refl, (refl, (refl, tt))))))))

@@ -4,19 +4,20 @@
 -- Assumes nothing.
 use Prim.Native.Nat.{ℕ, _+_, _*_, _-_, _^_, _<_}
 use mathlib.Core.Path.{_≡_}
+use mathlib.Core.Bool.{cond}
 use mathlib.Core.Logic.{_↔_}
 use mathlib.Core.List.{List, [], _∷_, _++_}
 use lib.ListN.{getD, take, drop}
-use Rattle.language.specs.Automaton.{State, Empty, Reads, Path-of}
-use Rattle.language.specs.Nested.{Nested, leaf, catenation, union, star, below, own, Own-leaf, given, stand-in}
-use Rattle.tree.specs.Leaf.{Leaf}
+use Rattle.language.specs.Automaton.{State, Path-of}
+use Rattle.language.specs.Nested.{Nested, leaf, catenation, union, star, below, Own-empty, Own-reads}
+use Rattle.tree.specs.Leaf.{Leaf, has-empty, meaning}
 use Rattle.tables.specs.Words.{Bit, width, run, Own, number}
 
 -- the words of the empty transitions: one for each state of x's own part of its piece, numbered from i, in the order of
 -- the numbers.
 -- Bit j is set for a transition to state j. `exit` is the word of x's accepting state
 abbrev pub nexts : Nested Leaf → ℕ → ℕ → List ℕ
-nexts (leaf a) i exit = 0 ∷ exit ∷ []
+nexts (leaf a) i exit = cond (has-empty a) (2 ^ (i + 1)) 0 ∷ exit ∷ []
 nexts (catenation x y) i exit =
     (2 ^ (i + 1)) ∷ (nexts x (i + 1) (2 ^ (i + (1 + width x)))
     ++ nexts y (i + (1 + width x)) (2 ^ (i + (1 + width x + width y))) ++ (exit ∷ []))
@@ -78,7 +79,7 @@ Nexts x words = words ≡ nexts x 0 0
 -- reach from it
 pub record Reaches (x : Nested Leaf) (words : List ℕ) : Type 0 where
   pub exactly : (p q : State) → Own x p → Own x q → Bit (getD words (number x p) 0) (number x q)
-      ↔ Path-of (Empty (own x)) p q
+      ↔ Path-of (Own-empty meaning x) p q
   pub clean : (i : ℕ) → i < width x → getD words i 0 < 2 ^ width x
 
 -- in a table, the row of each child piece below x is as P says of the piece; the child pieces are numbered from new
@@ -97,16 +98,11 @@ Each P table x = P x (row table 0 (width x)) × Each-below P table x 1
 -- w
 pub record Closes (x : Nested Leaf) (w r : ℕ) : Type 0 where
   pub exactly : (q : State) → Own x q
-      → Bit r (number x q) ↔ ((p : State) × Own x p × Bit w (number x p) × Path-of (Empty (own x)) p q)
+      → Bit r (number x q) ↔ ((p : State) × Own x p × Bit w (number x p) × Path-of (Own-empty meaning x) p q)
   pub clean : r < 2 ^ width x
-
--- a leaf of a piece's own tree reads the byte that it is; a stand-in reads none
-abbrev pub Is-own : Own-leaf Leaf → ℕ → Type 0
-Is-own (given a) b = a ≡ b
-Is-own stand-in b = ⊥
 
 -- r is the word w of x's top piece, moved along the byte b
 pub record Moves (x : Nested Leaf) (b w r : ℕ) : Type 0 where
   pub exactly : (q : State) → Own x q
-      → Bit r (number x q) ↔ ((p : State) × Own x p × Bit w (number x p) × Reads Is-own b (own x) p q)
+      → Bit r (number x q) ↔ ((p : State) × Own x p × Bit w (number x p) × Own-reads meaning b x p q)
   pub clean : r < 2 ^ width x

@@ -7,10 +7,9 @@ use mathlib.Core.Logic.{_↔_}
 use mathlib.Core.List.{List}
 use lib.ListN.{length, getD}
 use Rattle.language.specs.Tree.{Tree}
-use Rattle.language.specs.Language.{Is, Matches}
 use Rattle.language.specs.Automaton.{Started, After}
 use Rattle.language.specs.Nested.{Models}
-use Rattle.tree.specs.Leaf.{Leaf}
+use Rattle.tree.specs.Leaf.{Leaf, meaning, Matches}
 use Rattle.tree.specs.Records.{piece-count}
 use Rattle.tree.specs.Pieces.{cut-up}
 use Rattle.tables.specs.Words.{Bit, Holds, Clean}
@@ -43,7 +42,7 @@ pub record Ready (reach labels runs stands tops : List ℕ) (count : ℕ) : Type
 
 -- the words hold the marks of the plain simulation after the text w, and no bit past a last state
 pub record Holding (t : Tree Leaf) (w words : List ℕ) : Type 0 where
-  pub modelled : Models (cut-up t) (Holds (cut-up t) words) (After Is t w (Started t))
+  pub modelled : Models (cut-up t) (Holds (cut-up t) words) (After meaning t w (Started meaning t))
   pub clean : Clean (cut-up t) words
 
 -- the words hold the marks after the text w, and `yes` says whether w is in the language

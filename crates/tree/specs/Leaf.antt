@@ -1,6 +1,24 @@
--- What a leaf of a tree holds: for the records of today, its character.
--- Assumes nothing.
+-- What a leaf of a tree holds, and what it means: all other crates reach a leaf's meaning through this file.
 use Prim.Native.Nat.{ℕ}
+use mathlib.Core.Path.{_≡_}
+use mathlib.Core.Bool.{Bool, true, false}
+use mathlib.Core.List.{List}
+use Rattle.language.specs.Tree.{Tree}
+use Rattle.language.specs.Meaning.{Meaning}
+use Rattle.language.specs.Language.{Language}
 
+-- a leaf holds its character
 abbrev pub Leaf : Type 0
 Leaf = ℕ
+
+-- whether a leaf has the empty text: a character has not
+abbrev pub has-empty : Leaf → Bool
+has-empty c = false
+
+-- a character takes the byte that it is
+abbrev pub meaning : Meaning Leaf
+meaning = record { Takes = λ c b. c ≡ b; Has-empty = λ a. has-empty a ≡ true }
+
+-- the text w lies in the language of the expression's tree t
+abbrev pub Matches : Tree Leaf → List ℕ → Type 0
+Matches t w = Language meaning t w

@@ -1,5 +1,5 @@
 -- `finder::search` meets its contract: each answer is that of the list's tree. Assumes nothing.
-use Rattle.language.specs.Language.{Matches}
+use Rattle.tree.specs.Leaf.{Matches}
 use Rattle.finder.specs.Promise.{not-good, too-long, search-refused, search-found, search-nothing}
 use Rattle.marks.proofs.Told.{told-good, told-not-good}
 use Rattle.finder.proofs.Told.{told-nothing}

@@ -12,9 +12,8 @@ use lib.ListN.{length, take, drop, take-append-drop}
 use lib.Seq.{take-all}
 use Rattle.finder.specs.Taken.{take-next}
 use Rattle.marks.specs.Texts.{nothing-left}
-use Rattle.language.specs.Language.{Matches}
 use Rattle.language.specs.Tree.{Tree}
-use Rattle.tree.specs.Leaf.{Leaf}
+use Rattle.tree.specs.Leaf.{Leaf, Matches}
 use Rattle.tables.specs.Tables.{Prepared, Ready, Answered}
 use Rattle.marks.specs.Inner.{running, holding-marks, answered-first, answered-next}
 use Rattle.finder.proofs.text.text_matches.Statement.{statement}
