@@ -4,7 +4,7 @@ use crate::part::Part;
 ghost use Rattle.reader.specs.Grammar.{joined};
 ghost use Rattle.reader.specs.Reading.{Scratch-room, Part-answer};
 
-// Spells a catenation from a place on.
+// Reads a catenation from a place on.
 pub fn catenation(expr: &[u8], at: usize, depth: usize, labels: &mut [u16], count: usize) -> Part
     requires { ⌜ Scratch-room (now expr) at depth count (now labels) ⌝ }
     ensures { λ r. ⌜ Part-answer joined (now (expr .entry)) at depth count (now (labels .entry)) (now (labels .exit)) r ⌝ }

@@ -39,7 +39,7 @@ fn leaf(byte: u8, next: usize, labels: &mut [u16], count: usize) -> Part
     }
 }
 
-// Spells the character at a place: 3 where a `|`, `*` or `)` stands there, 7 at a `\` that is last or not before a
+// Reads the character at a place: 3 where a `|`, `*` or `)` stands there, 7 at a `\` that is last or not before a
 // special byte.
 pub fn character(expr: &[u8], at: usize, labels: &mut [u16], count: usize) -> Part
     requires within { ⌜ at < length (now expr) ⌝ }

@@ -1,4 +1,4 @@
-// Spells an expression into tree records, or refuses it by number and place.
+// Reads an expression into tree records, or refuses it by number and place.
 mod answer;
 mod catenation;
 mod character;
@@ -17,7 +17,7 @@ ghost use mathlib.Core.Path.{_≡_};
 ghost use lib.ListN.{length};
 ghost use Rattle.reader.specs.Answer.{numbers, answered, records-after};
 
-// Spells an expression and writes its tree's records. The labels are collected apart, so that nothing is written before
+// Reads an expression and writes its tree's records. The labels are collected apart, so that nothing is written before
 // the answer is sure.
 pub fn read(expr: &[u8], records: &mut [u8]) -> Answer
     ensures answer { λ r. ⌜ numbers r ≡ answered (now (expr .entry)) (length (now (records .entry))) ⌝ }

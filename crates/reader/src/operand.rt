@@ -6,7 +6,7 @@ use crate::union::union;
 ghost use Rattle.reader.specs.Grammar.{starred};
 ghost use Rattle.reader.specs.Reading.{Scratch-room, Part-answer};
 
-// Spells the operand at a place: 3 where none stands there, 4 and 6 at a `(`, and 7.
+// Reads the operand at a place: 3 where none stands there, 4 and 6 at a `(`, and 7.
 pub fn operand(expr: &[u8], at: usize, depth: usize, labels: &mut [u16], count: usize) -> Part
     requires { ⌜ Scratch-room (now expr) at depth count (now labels) ⌝ }
     ensures { λ r. ⌜ Part-answer starred (now (expr .entry)) at depth count (now (labels .entry)) (now (labels .exit)) r ⌝ }

@@ -4,7 +4,7 @@ ghost use Prim.Native.Nat.{_+_, _≤_};
 ghost use lib.ListN.{length};
 ghost use Rattle.reader.specs.Reading.{Stars-answer};
 
-// Spells every `*` from a place on, and writes a label for each.
+// Reads every `*` from a place on, and writes a label for each.
 pub fn stars(expr: &[u8], at: usize, labels: &mut [u16], count: usize) -> Part
     requires within { ⌜ at ≤ length (now expr) ⌝ }
     requires room { ⌜ count + length (now expr) ≤ length (now labels) + at ⌝ }
