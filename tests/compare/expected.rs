@@ -1,4 +1,4 @@
-//! The statement of what to build, implemented another way: a reader with an operator stack, the parts of a text that lie
+//! What docs/REFERENCE.md says, implemented another way: a reader with an operator stack, the parts of a text that lie
 //! in a language by sets of ends over the tree, the fewest pieces by dynamic programming, marks by a plain search over the
 //! uncut automaton.
 

@@ -1,4 +1,4 @@
-//! The program `pick` and the library's call of it, against the output as the statement describes it.
+//! The program `pick` and the library's call of it, against the output as docs/REFERENCE.md describes it.
 
 use crate::generate::{self, Random};
 use crate::wrapper::foamlattice::MOST_OUTPUT;
@@ -109,7 +109,7 @@ fn long_input(r: &mut Random, length: usize) -> Vec<u8> {
     input
 }
 
-/// The sample of the statement, inputs with no line or one, expressions refused for their size, and both sides of 65,536
+/// The sample of the reference, inputs with no line or one, expressions refused for their size, and both sides of 65,536
 /// bytes.
 fn edges() -> Vec<Vec<u8>> {
     let mut inputs: Vec<Vec<u8>> = vec![b"02-2(8|9)\n02-28\n02-29\n03-01\n".to_vec()];

@@ -1,4 +1,4 @@
-//! The safe Rust wrapper on edges of the statement: what it makes of answers, of refusals and of their places.
+//! The safe Rust wrapper on edges of docs/REFERENCE.md: what it makes of answers, of refusals and of their places.
 
 #[path = "../../rust/foamlattice.rs"]
 pub mod foamlattice;
