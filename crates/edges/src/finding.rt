@@ -3,29 +3,38 @@ use crate::reading::list_of;
 use crate::say::say;
 use crate::say::say_number;
 use crate::say::say_refused;
+use crate::say::say_yes;
 use finder::Matched;
 use finder::Searched;
+use finder::numbers::match_numbers;
+use finder::numbers::search_numbers;
 
 fn say_matched(matched: Matched) {
-    match matched {
-        Matched::Yes => say(b"yes"),
-        Matched::No => say(b"no"),
-        Matched::NotGood => say_refused(10, 0),
-        Matched::TooLong => say_refused(11, 0),
+    let numbers = match_numbers(matched);
+    if numbers.refusal != 0 {
+        say_refused(numbers.refusal, numbers.place);
+        return;
     }
+    say_yes(numbers.matched);
+}
+
+fn say_part(start: usize, end: usize) {
+    say(b"start ");
+    say_number(start as u64);
+    say(b", end ");
+    say_number(end as u64);
 }
 
 fn say_searched(searched: Searched) {
-    match searched {
-        Searched::Found { start, end } => {
-            say(b"start ");
-            say_number(start as u64);
-            say(b", end ");
-            say_number(end as u64);
-        }
-        Searched::Nothing => say(b"nothing"),
-        Searched::NotGood => say_refused(10, 0),
-        Searched::TooLong => say_refused(11, 0),
+    let numbers = search_numbers(searched);
+    if numbers.refusal != 0 {
+        say_refused(numbers.refusal, numbers.place);
+        return;
+    }
+    if numbers.matched {
+        say_part(numbers.start, numbers.end);
+    } else {
+        say(b"nothing");
     }
 }
 

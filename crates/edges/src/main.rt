@@ -11,13 +11,16 @@ use finding::search_list;
 use finding::search_named;
 use finding::search_shown;
 use marking::marks_after;
-use marking::say_step;
-use marking::step_from;
+use marking::marks_in_one_word;
+use marking::marks_in_three_words;
+use marking::step_from_one;
+use marking::step_from_two;
+use marking::step_list;
 use reading::list_shown;
-use reading::read_into;
+use reading::read_into_enough;
+use reading::read_into_too_few;
 use reading::read_named;
 use reading::read_shown;
-use say::say;
 
 // P1 to P6, and the fault that is met first.
 fn faults() {
@@ -46,21 +49,19 @@ fn letters() {
     read_named(b"1025 letters", &letters);
 }
 
+// The shortest buffer that 897 letters fit into, and one that is a byte shorter.
 fn buffers() {
     let letters = [b'a'; 897];
-    let mut enough = [0u8; 14344];
-    read_into(b"897 letters into 14344 bytes", &letters, &mut enough);
-    let mut short = [0u8; 14343];
-    read_into(b"897 letters into 14343 bytes", &letters, &mut short);
+    read_into_enough(b"897 letters into 14344 bytes", &letters);
+    read_into_too_few(b"897 letters into 14343 bytes", &letters);
 }
 
 // P7: the marks of one piece, step by step.
 fn one_piece() {
-    let mut words = [0u64; 1];
-    marks_after(b"a*b", &mut words, b"", 1);
-    marks_after(b"a*b", &mut words, b"a", 1);
-    marks_after(b"a*b", &mut words, b"ab", 1);
-    marks_after(b"a*b", &mut words, b"aba", 1);
+    marks_after(b"a*b", b"", 1);
+    marks_after(b"a*b", b"a", 1);
+    marks_after(b"a*b", b"ab", 1);
+    marks_after(b"a*b", b"aba", 1);
 }
 
 // P8 to P10.
@@ -120,12 +121,11 @@ const FULL: [u8; 143] =
     *b"aaaaaaaa|bbbbbbbb|cccccccc|dddddddd|eeeeeeee|ffffffff|gggggggg|hhhhhhhh|iiiiiiii|jjjjjjjj|kkkkkkkk|llllllll|mmmmmmmm|nnnnnnnn|oooooooo|pppppppp";
 
 fn full_piece() {
-    let mut words = [0u64; 17];
     read_shown(&FULL);
-    marks_after(&FULL, &mut words, b"", 1);
-    marks_after(&FULL, &mut words, b"aaaaaaaa", 1);
-    marks_after(&FULL, &mut words, b"pppppppp", 1);
-    marks_after(&FULL, &mut words, b"ppppppp", 1);
+    marks_after(&FULL, b"", 1);
+    marks_after(&FULL, b"aaaaaaaa", 1);
+    marks_after(&FULL, b"pppppppp", 1);
+    marks_after(&FULL, b"ppppppp", 1);
 }
 
 // 128 pieces, each below the one before it.
@@ -139,71 +139,76 @@ fn most_pieces() {
 
 // A piece and one below it: the start, a step in the lower one, the way up, and the end.
 fn two_pieces() {
-    let mut words = [0u64; 2];
-    marks_after(b"abcdefghi", &mut words, b"", 2);
-    marks_after(b"abcdefghi", &mut words, b"a", 2);
-    marks_after(b"abcdefghi", &mut words, b"abcdefgh", 2);
-    marks_after(b"abcdefghi", &mut words, b"abcdefghi", 2);
+    marks_after(b"abcdefghi", b"", 2);
+    marks_after(b"abcdefghi", b"a", 2);
+    marks_after(b"abcdefghi", b"abcdefgh", 2);
+    marks_after(b"abcdefghi", b"abcdefghi", 2);
 }
 
 // A word too few is refused, and a word too many is left as it was.
 fn counts_of_words() {
-    let mut few = [7u64; 1];
-    marks_after(b"abcdefghi", &mut few, b"", 1);
-    marks_after(b"abcdefghi", &mut few, b"a", 1);
-    let mut many = [7u64; 3];
-    marks_after(b"abcdefghi", &mut many, b"", 3);
+    marks_in_one_word(b"abcdefghi", b"");
+    marks_in_one_word(b"abcdefghi", b"a");
+    marks_in_three_words(b"abcdefghi", b"");
 }
 
 // The last state's bit and the first bit past it.
 fn last_bits() {
-    step_from(b"a*b", &mut [55]);
-    step_from(b"a*b", &mut [128]);
-    step_from(b"a*b", &mut [256]);
-    step_from(b"abcdefghi", &mut [0, 1073741824]);
+    step_from_one(b"a*b", 55);
+    step_from_one(b"a*b", 128);
+    step_from_one(b"a*b", 256);
+    step_from_two(b"abcdefghi", 0, 1073741824);
 }
 
 // The two bits of a shared state: both set, and one of them.
 fn shared_bits() {
-    step_from(b"abcdefghi", &mut [3, 255]);
-    step_from(b"abcdefghi", &mut [2, 0]);
-    step_from(b"abcdefghi", &mut [0, 1]);
-    step_from(b"abcdefghi", &mut [4, 536870912]);
-    step_from(b"abcdefghi", &mut [4, 0]);
-    step_from(b"abcdefghi", &mut [0, 536870912]);
+    step_from_two(b"abcdefghi", 3, 255);
+    step_from_two(b"abcdefghi", 2, 0);
+    step_from_two(b"abcdefghi", 0, 1);
+    step_from_two(b"abcdefghi", 4, 536870912);
+    step_from_two(b"abcdefghi", 4, 0);
+    step_from_two(b"abcdefghi", 0, 536870912);
 }
 
 // The records of `a*b`, and a byte more.
 const RECORDS: [u8; 33] =
     *b"\x01\x61\xff\xff\xff\xff\x00\x00\x04\x00\x00\x00\xff\xff\x00\x00\x01\x62\xff\xff\xff\xff\x00\x00\x02\x00\x01\x00\x02\x00\x00\x00\x00";
 
-// Lists that are not good: bytes and records cut off or added, and a byte changed.
+// Lists that are not good: bytes and records cut off or added.
 fn damaged() {
-    let mut list = RECORDS;
     list_shown(b"a*b");
-    match_list(b"the records of a*b on b", &list[..32], b"b");
-    match_list(b"a byte less", &list[..31], b"b");
-    match_list(b"a byte more", &list, b"b");
-    match_list(b"a record less", &list[..24], b"b");
-    match_list(b"no record", &list[..0], b"b");
-    list[30] = 1;
-    match_list(b"the last record in piece 1", &list[..32], b"b");
-    search_list(b"a search by it", &list[..32], b"b");
-    say(b"a step by it from");
-    say_step(&list[..32], &mut [256]);
+    match_list(b"the records of a*b on b", &RECORDS[..32], b"b");
+    match_list(b"a byte less", &RECORDS[..31], b"b");
+    match_list(b"a byte more", &RECORDS, b"b");
+    match_list(b"a record less", &RECORDS[..24], b"b");
+    match_list(b"no record", b"", b"b");
+}
+
+// The records of `a*b`, with the last one in piece 1.
+const OTHER_PIECE: [u8; 32] =
+    *b"\x01\x61\xff\xff\xff\xff\x00\x00\x04\x00\x00\x00\xff\xff\x00\x00\x01\x62\xff\xff\xff\xff\x00\x00\x02\x00\x01\x00\x02\x00\x01\x00";
+
+fn other_piece() {
+    match_list(b"the last record in piece 1", &OTHER_PIECE, b"b");
+    search_list(b"a search by it", &OTHER_PIECE, b"b");
+    step_list(b"a step by it from", &OTHER_PIECE, 256);
 }
 
 // Texts of 65,536 bytes and of one byte more.
 fn long_texts() {
-    let mut text = [b'a'; 65537];
+    let text = [b'a'; 65537];
     match_named(b"(a|b)* on 65536 letters", b"(a|b)*", &text[..65536]);
     match_named(b"(a|b)* on 65537 letters", b"(a|b)*", &text);
     search_named(b"(a|b)* in 65536 letters", b"(a|b)*", &text[..65536]);
     search_named(b"(a|b)* in 65537 letters", b"(a|b)*", &text);
     match_list(b"no record on 65537 letters", b"", &text);
+}
+
+fn last_byte() {
+    let mut text = [b'a'; 65536];
     text[65535] = b'c';
-    match_named(b"(a|b)* on 65535 letters and c", b"(a|b)*", &text[..65536]);
-    search_named(b"c in 65535 letters and c", b"c", &text[..65536]);
+    match_named(b"(a|b)* on 65535 letters and c", b"(a|b)*", &text);
+    search_named(b"c in 65535 letters and c", b"c", &text);
 }
 
 // The earliest start and then the furthest end; an empty part, which is found at the start if anywhere.
@@ -233,6 +238,8 @@ fn main() {
     last_bits();
     shared_bits();
     damaged();
+    other_piece();
     long_texts();
+    last_byte();
     parts();
 }

@@ -53,8 +53,8 @@ fn say_walk(list: &[u8], words: &mut [u64], text: &[u8], shown: usize) {
     say(b"\n");
 }
 
-// A line of its own: the marks after a text, in this many words, of which the first are shown.
-pub fn marks_after(expr: &[u8], words: &mut [u64], text: &[u8], shown: usize) {
+// A line of its own: the marks after a text, in these words, of which the first are shown.
+fn marks_in(expr: &[u8], words: &mut [u64], text: &[u8], shown: usize) {
     say(expr);
     say(b" after ");
     say(text);
@@ -65,8 +65,24 @@ pub fn marks_after(expr: &[u8], words: &mut [u64], text: &[u8], shown: usize) {
     say_walk(&list[..n], words, text, shown);
 }
 
+// The marks after a text, in as many words as there can be pieces.
+pub fn marks_after(expr: &[u8], text: &[u8], shown: usize) {
+    let mut words = [0u64; 128];
+    marks_in(expr, &mut words, text, shown);
+}
+
+pub fn marks_in_one_word(expr: &[u8], text: &[u8]) {
+    let mut words = [7u64; 1];
+    marks_in(expr, &mut words, text, 1);
+}
+
+pub fn marks_in_three_words(expr: &[u8], text: &[u8]) {
+    let mut words = [7u64; 3];
+    marks_in(expr, &mut words, text, 3);
+}
+
 // The rest of a line: what a step along `a` from these marks answers, and the marks then.
-pub fn say_step(list: &[u8], words: &mut [u64]) {
+fn say_step(list: &[u8], words: &mut [u64]) {
     say_words(words, words.len());
     say(b": ");
     let answer = marks::step(list, words, b'a');
@@ -77,11 +93,25 @@ pub fn say_step(list: &[u8], words: &mut [u64]) {
 }
 
 // A line of its own: a step along `a` from these marks.
-pub fn step_from(expr: &[u8], words: &mut [u64]) {
+fn step_from(expr: &[u8], words: &mut [u64]) {
     say(expr);
     say(b" stepped along a from");
     let mut list = [0u8; 15360];
     let bytes = list_of(expr, &mut list);
     let n = io::count(bytes, &list);
     say_step(&list[..n], words);
+}
+
+pub fn step_from_one(expr: &[u8], word: u64) {
+    step_from(expr, &mut [word]);
+}
+
+pub fn step_from_two(expr: &[u8], first: u64, second: u64) {
+    step_from(expr, &mut [first, second]);
+}
+
+// A line of its own: a step by a list, from a single word.
+pub fn step_list(name: &[u8], list: &[u8], word: u64) {
+    say(name);
+    say_step(list, &mut [word]);
 }

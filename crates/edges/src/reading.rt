@@ -18,11 +18,21 @@ fn say_answer(answer: Answer) {
 }
 
 // A line of its own: the name, and what reading the expression into these bytes answers.
-pub fn read_into(name: &[u8], expr: &[u8], list: &mut [u8]) {
+fn read_into(name: &[u8], expr: &[u8], list: &mut [u8]) {
     say(name);
     say(b": ");
     say_answer(reader::read(expr, list));
     say(b"\n");
+}
+
+pub fn read_into_enough(name: &[u8], expr: &[u8]) {
+    let mut list = [0u8; 14344];
+    read_into(name, expr, &mut list);
+}
+
+pub fn read_into_too_few(name: &[u8], expr: &[u8]) {
+    let mut list = [0u8; 14343];
+    read_into(name, expr, &mut list);
 }
 
 pub fn read_named(name: &[u8], expr: &[u8]) {
