@@ -12,7 +12,7 @@ use borrow.Author.Tests.{eqb-true, eq-eqb}
 use Rattle.language.specs.Tree.{Tree, leaf, catenation, union, star}
 use Rattle.language.specs.Meaning.{Meaning}
 use Rattle.language.specs.Language.{Repeated, none, more, Language}
-use Rattle.tree.specs.Leaf.{Leaf, has-empty, meaning, Matches}
+use Rattle.tree.specs.Leaf.{Leaf, character, has-empty, meaning, Matches}
 
 -- some way to split the text into two passes the test
 unfoldable pub any-split : (List ℕ → List ℕ → Bool) → List ℕ → Bool
@@ -163,12 +163,20 @@ module _ {A : Type 0} (M : Meaning A) (tests : Tests M) where
   pub matched-exactly : (t : Tree A) (w : List ℕ) → (matched t w ≡ true) ↔ Language M t w
   matched-exactly t w = (matched-found t w, matched-passes t w)
 
+-- whether a leaf of an expression's tree takes the byte
+abbrev pub takes-byte : Leaf → ℕ → Bool
+takes-byte (character c) b = eqb c b
+
+-- it says exactly that
+pub takes-exactly : (a : Leaf) (b : ℕ) → (takes-byte a b ≡ true) ↔ meaning .Takes a b
+takes-exactly (character c) b = (eqb-true c b, eq-eqb c b)
+
 -- what a leaf of an expression's tree means, decided
 abbrev pub leaf-tests : Tests meaning
 leaf-tests = record {
-  takes = eqb;
+  takes = takes-byte;
   has-empty = has-empty;
-  takes-exactly = λ a b. (eqb-true a b, eq-eqb a b);
+  takes-exactly = takes-exactly;
   empty-exactly = λ a. (λ e. e, λ e. e);
 }
 

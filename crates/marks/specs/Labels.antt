@@ -7,7 +7,7 @@ use native.Mathlib.Omega.{arith}
 use lib.ListN.{length, getD}
 use Rattle.language.specs.Automaton.{State, start, accepting, left, right, Reads}
 use Rattle.language.specs.Nested.{Nested, leaf, catenation, union, star, below, given, Own-reads}
-use Rattle.tree.specs.Leaf.{Leaf, meaning}
+use Rattle.tree.specs.Leaf.{Leaf, character, meaning}
 use Rattle.tables.specs.Words.{width, Own, number}
 use Rattle.tables.specs.Plan.{takes}
 use Rattle.marks.specs.Parts.{one-length, one-inside, one-end, two-length, two-left, two-right, two-end}
@@ -56,7 +56,7 @@ module _ (b : ℕ) where
 
   -- so each transition that reads b does
   pub reads-on : (x : Nested Leaf) {p q : State} → Own-reads meaning b x p q → Reads-on x p q
-  reads-on (leaf a) (Reads.at-leaf e) =
+  reads-on (leaf (character a)) (Reads.at-leaf e) =
       record { from-own = tt; to-own = tt; next = refl; label = ap (λ (n : ℕ). n + 1) e }
   reads-on (catenation x y) (Reads.catenation-left {p = p} r) = let s = reads-on x r in
       record {
@@ -103,7 +103,8 @@ module _ (b : ℕ) where
   -- from a state with b's label a transition that reads b leads
   pub reads-from : (x : Nested Leaf) (p : State) → Own x p → getD (takes x) (number x p) 0 ≡ b + 1
       → (q : State) × Own-reads meaning b x p q
-  reads-from (leaf a) start o e = (accepting, Reads.at-leaf {a = given a} (omega arith))
+  reads-from (leaf (character a)) start o e =
+      (accepting, Reads.at-leaf {a = given (character a)} (omega arith))
   reads-from (leaf a) accepting o e = absurd (omega arith)
   reads-from (catenation x y) start o e = absurd (omega arith)
   reads-from (catenation x y) accepting o e = absurd (omega (arith, end-label x y))

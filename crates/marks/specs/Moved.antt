@@ -239,16 +239,16 @@ module _ (b : ℕ) where
   unmarked-end never s c = let m = s .exactly accepting tt .0 c in never (m .0) (m .2)
 
   -- at a leaf it comes from the leaf's start
-  reads-leaf : {a : ℕ} {p : State} → Reads (own-meaning meaning) b (Tree.leaf (given a)) p accepting → (p ≡ start)
-      × (a ≡ b)
+  reads-leaf : {a : Leaf} {p : State} → Reads (own-meaning meaning) b (Tree.leaf (given a)) p accepting
+      → (p ≡ start) × meaning .Takes a b
   reads-leaf (Reads.at-leaf e) = (refl, e)
 
   -- the same in all pieces: at a leaf it comes from the leaf's start
-  in-leaf : {a : ℕ} {p : State} → Reading meaning b (leaf a) p accepting → (p ≡ start) × (a ≡ b)
+  in-leaf : {a : Leaf} {p : State} → Reading meaning b (leaf a) p accepting → (p ≡ start) × meaning .Takes a b
   in-leaf (Reading.at-leaf e) = (refl, e)
 
   -- at a leaf
-  leaf-moved : (a i w w′ : ℕ) (ws : List ℕ) → Shifts (leaf a) i w w′
+  leaf-moved : (a : Leaf) (i w w′ : ℕ) (ws : List ℕ) → Shifts (leaf a) i w w′
       → Bit w′ (i + 1) ↔ Move meaning b (leaf a) (Marked (leaf a) w i ws) accepting
   leaf-moved a i w w′ ws s = (
     λ c. let m = s .exactly accepting tt .0 c in (

@@ -8,7 +8,7 @@ use native.Mathlib.Omega.{arith}
 use lib.ListN.{length}
 use lib.Dec.{ltb}
 use Rattle.language.specs.Tree.{Tree, leaf, star}
-use Rattle.tree.specs.Leaf.{Leaf}
+use Rattle.tree.specs.Leaf.{Leaf, character}
 use Rattle.reader.specs.Bytes.{Sign, opening, closing, bar, asterisk, backslash, plain, sign-of, special}
 use Rattle.reader.specs.Scanner.{
   Outcome,
@@ -73,7 +73,7 @@ module _ (end place : ℕ) (h : place ≤ end) (on : Onward) (fits : (phase : Ph
   operand-fits bar b before groups o = omega arith
   operand-fits asterisk b before groups o = omega arith
   operand-fits backslash b before groups o = fits (escaping place) before groups h o
-  operand-fits plain b before groups o = fits (after (leaf b)) before groups tt o
+  operand-fits plain b before groups o = fits (after (leaf (character b))) before groups tt o
 
   -- at a `)` after an operand
   closed-fits : (t : Tree Leaf) (before : Before) (groups : List Group) → Open-before end groups
@@ -96,7 +96,8 @@ module _ (end place : ℕ) (h : place ≤ end) (on : Onward) (fits : (phase : Ph
       → Tree-or-fault end (byte-at b place phase on before groups)
   byte-fits b due before groups m o = operand-fits (sign-of b) b before groups o
   byte-fits b (escaping begin) before groups m o =
-      picked-fits (special (sign-of b)) _ (refused 7 begin) (fits (after (leaf b)) before groups tt o) (omega arith)
+      picked-fits (special (sign-of b)) _ (refused 7 begin) (fits (after (leaf (character b))) before groups tt o)
+      (omega arith)
   byte-fits b (after t) before groups m o = follow-fits (sign-of b) b t before groups o
 
 -- at the end in each phase

@@ -5,7 +5,7 @@ use mathlib.Core.Path.{_≡_}
 use mathlib.Core.Bool.{true}
 use mathlib.Core.List.{List, [], _∷_}
 use Rattle.language.specs.Tree.{Tree, leaf, catenation, union, star}
-use Rattle.tree.specs.Leaf.{Leaf}
+use Rattle.tree.specs.Leaf.{Leaf, character}
 use Rattle.reader.specs.Bytes.{Sign, plain, sign-of, special}
 
 -- what is read: an operand, operands with stars, a catenation of these, a union of those
@@ -15,9 +15,9 @@ pub data Level : Type 0 where
 -- `Spells depth level bytes rest t`: with `depth` groups open, the bytes begin with a written t of this level, and
 -- `rest` follows it
 pub data Spells : ℕ → Level → List ℕ → List ℕ → Tree Leaf → Type 0 where
-  itself : {depth b : ℕ} {rest : List ℕ} → sign-of b ≡ plain → Spells depth single (b ∷ rest) rest (leaf b)
+  itself : {depth b : ℕ} {rest : List ℕ} → sign-of b ≡ plain → Spells depth single (b ∷ rest) rest (leaf (character b))
   escaped : {depth b : ℕ} {rest : List ℕ} → special (sign-of b) ≡ true
-      → Spells depth single (92 ∷ b ∷ rest) rest (leaf b)
+      → Spells depth single (92 ∷ b ∷ rest) rest (leaf (character b))
   group : {depth : ℕ} {bytes rest : List ℕ} {t : Tree Leaf} → depth < 32 → Spells (depth + 1) united bytes (41 ∷ rest) t
       → Spells depth single (40 ∷ bytes) rest t
   no-star : {depth : ℕ} {bytes rest : List ℕ} {t : Tree Leaf} → Spells depth single bytes rest t

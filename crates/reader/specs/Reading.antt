@@ -10,7 +10,7 @@ use mathlib.Core.List.{List, [], _∷_, _++_, append-assoc}
 use lib.ListN.{length, take, getD, set}
 use lib.Seq.{take-suc-set}
 use Rattle.language.specs.Tree.{Tree, leaf, catenation, union, star}
-use Rattle.tree.specs.Leaf.{Leaf}
+use Rattle.tree.specs.Leaf.{Leaf, character}
 use Rattle.tree.specs.Records.{labels, label-of}
 use Rattle.reader.specs.Bytes.{sign-of}
 use Rattle.reader.specs.Grammar.{Level, starred, joined, united}
@@ -98,14 +98,14 @@ both later middle front s t n v e f h = one-more later _ n v f h ∙ simp (e, ap
 
 -- a character was read, and its label is the last one
 pub character-read : {bytes : List ℕ} {at count : ℕ} (earlier : List ℕ) {later : List ℕ} {answer : Part} (next b : ℕ)
-    → ((depth : ℕ) → Leads starred bytes depth at (leaf b) next) → at < next → next ≤ length bytes
+    → ((depth : ℕ) → Leads starred bytes depth at (leaf (character b)) next) → at < next → next ≤ length bytes
     → count < length earlier → answer ≡ Read next (count + 1) → later ≡ set earlier count (label-of 1 b)
     → Character-answer bytes at count earlier later answer
 character-read {count = count} earlier next b leads further within room answered written =
     rw (answered, written)
     (record {
       went = λ depth. record {
-        read = leaf b;
+        read = leaf (character b);
         leads = leads depth;
         written = one-more earlier _ count (label-of 1 b) refl room;
         further = further;

@@ -7,7 +7,7 @@ use mathlib.Core.List.{List, [], _∷_}
 use lib.ListN.{length}
 use lib.Dec.{ltb}
 use Rattle.language.specs.Tree.{Tree, leaf, catenation, union, star}
-use Rattle.tree.specs.Leaf.{Leaf}
+use Rattle.tree.specs.Leaf.{Leaf, character}
 use Rattle.reader.specs.Bytes.{Sign, opening, closing, bar, asterisk, backslash, plain, sign-of, special}
 
 -- what scanning gives: the expression's tree, or the first fault by number and place
@@ -71,7 +71,7 @@ operand closing b place on before groups = refused 3 place
 operand bar b place on before groups = refused 3 place
 operand asterisk b place on before groups = refused 3 place
 operand backslash b place on before groups = on (escaping place) before groups
-operand plain b place on before groups = on (after (leaf b)) before groups
+operand plain b place on before groups = on (after (leaf (character b))) before groups
 
 -- a `)` after an operand: 5 with no group open
 abbrev pub closed : Tree Leaf → ℕ → Onward → Before → List Group → Outcome
@@ -91,7 +91,7 @@ follow plain b t place on before groups = operand plain b place on (next-factor 
 abbrev pub byte-at : ℕ → ℕ → Phase → Onward → Before → List Group → Outcome
 byte-at b place due on before groups = operand (sign-of b) b place on before groups
 byte-at b place (escaping begin) on before groups =
-    cond (special (sign-of b)) (on (after (leaf b)) before groups) (refused 7 begin)
+    cond (special (sign-of b)) (on (after (leaf (character b))) before groups) (refused 7 begin)
 byte-at b place (after t) on before groups = follow (sign-of b) b t place on before groups
 
 -- the end of the expression: 3 where an operand is due, 7 after a `\`, 4 with a group open

@@ -12,7 +12,7 @@ use lib.ListN.{length}
 use lib.Dec.{ltb}
 use borrow.Author.Tests.{ltb-true}
 use Rattle.language.specs.Tree.{Tree, leaf, star}
-use Rattle.tree.specs.Leaf.{Leaf}
+use Rattle.tree.specs.Leaf.{Leaf, character}
 use Rattle.reader.specs.Bytes.{Sign, opening, closing, bar, asterisk, backslash, plain, sign-of, special}
 use Rattle.reader.specs.Signs.{Means, sign-means}
 use Rattle.reader.specs.Scanner.{
@@ -154,12 +154,12 @@ module _ {whole rest : List ℕ} {before : Before} {groups : List Group} where
 
   -- a special byte after a `\`
   takes-special : {b place : ℕ} → special (sign-of b) ≡ true → Read-so-far whole (b ∷ rest) (escaping place) before groups
-      → Read-so-far whole rest (after (leaf b)) before groups
+      → Read-so-far whole rest (after (leaf (character b))) before groups
   takes-special p (at-escape around w) = past-operand around w (no-star (escaped p))
 
   -- a byte that stands for itself
   takes-plain : {b : ℕ} → sign-of b ≡ plain → Read-so-far whole (b ∷ rest) due before groups
-      → Read-so-far whole rest (after (leaf b)) before groups
+      → Read-so-far whole rest (after (leaf (character b))) before groups
   takes-plain p (at-operand around w) = past-operand around w (no-star (itself p))
 
 -- a refusal is no tree
@@ -186,7 +186,8 @@ module _ (whole rest : List ℕ) (t : Tree Leaf) (on : Onward)
   operand-sound bar b place before groups p m st e = no-tree e
   operand-sound asterisk b place before groups p m st e = no-tree e
   operand-sound backslash b place before groups p m st e = sound (escaping place) before groups (escapes (rw m at st)) e
-  operand-sound plain b place before groups p m st e = sound (after (leaf b)) before groups (takes-plain p st) e
+  operand-sound plain b place before groups p m st e =
+      sound (after (leaf (character b))) before groups (takes-plain p st) e
 
   -- at a `)` after an operand
   closed-sound : (s : Tree Leaf) (place : ℕ) (before : Before) (groups : List Group)
@@ -215,7 +216,8 @@ module _ (whole rest : List ℕ) (t : Tree Leaf) (on : Onward)
       → Read-so-far whole (b ∷ rest) phase before groups → byte-at b place phase on before groups ≡ tree t → Written whole t
   byte-sound b place due before groups st e = operand-sound (sign-of b) b place before groups refl (sign-means b) st e
   byte-sound b place (escaping begin) before groups st e =
-      only-true (special (sign-of b)) _ 7 begin (λ p. sound (after (leaf b)) before groups (takes-special p st)) e
+      only-true (special (sign-of b)) _ 7 begin
+      (λ p. sound (after (leaf (character b))) before groups (takes-special p st)) e
   byte-sound b place (after s) before groups st e = follow-sound (sign-of b) b s place before groups refl (sign-means b)
       st e
 

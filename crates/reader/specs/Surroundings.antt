@@ -12,7 +12,7 @@ use lib.ListN.{length, drop, getD}
 use lib.Seq.{drop-cons, drop-length}
 use borrow.Author.Tests.{lt-ltb, le-ltb}
 use Rattle.language.specs.Tree.{Tree, leaf, catenation, union, star}
-use Rattle.tree.specs.Leaf.{Leaf}
+use Rattle.tree.specs.Leaf.{Leaf, character}
 use Rattle.reader.specs.Bytes.{Sign, opening, closing, bar, asterisk, backslash, plain, sign-of, special}
 use Rattle.reader.specs.Signs.{Means, sign-means}
 use Rattle.reader.specs.Scanner.{
@@ -147,18 +147,18 @@ module _ (bytes : List ℕ) where
 
   -- a plain byte stands for itself
   pub leads-plain : (depth at : ℕ) → at < length bytes → sign-of (byte at) ≡ plain
-      → Leads starred bytes depth at (leaf (byte at)) (at + 1)
+      → Leads starred bytes depth at (leaf (character (byte at))) (at + 1)
   leads-plain depth at h e = record { onward = λ before groups d. at-due at before groups h e }
 
   -- a special byte after a `\` stands for itself
   pub leads-escaped : (depth at : ℕ) → at + 1 < length bytes → byte at ≡ 92 → special (sign-of (byte (at + 1))) ≡ true
-      → Leads starred bytes depth at (leaf (byte (at + 1))) (at + 1 + 1)
+      → Leads starred bytes depth at (leaf (character (byte (at + 1)))) (at + 1 + 1)
   leads-escaped depth at h e s =
       record {
         onward = λ before groups d.
             at-due at before groups (omega arith) (ap sign-of e) ∙ from-byte (at + 1) (escaping at) before groups h
             ∙ ap (λ (b : Bool).
-            cond b (from bytes (at + 1 + 1) (after (leaf (byte (at + 1)))) before groups) (refused 7 at)) s;
+            cond b (from bytes (at + 1 + 1) (after (leaf (character (byte (at + 1))))) before groups) (refused 7 at)) s;
       }
 
   -- every other byte after a `\`, and the end, is a fault
@@ -169,7 +169,7 @@ module _ (bytes : List ℕ) where
         onward = λ before groups d.
             at-due at before groups (omega arith) (ap sign-of e) ∙ from-byte (at + 1) (escaping at) before groups h
             ∙ ap (λ (b : Bool).
-            cond b (from bytes (at + 1 + 1) (after (leaf (byte (at + 1)))) before groups) (refused 7 at)) s;
+            cond b (from bytes (at + 1 + 1) (after (leaf (character (byte (at + 1))))) before groups) (refused 7 at)) s;
       }
 
   pub fails-last : (depth at : ℕ) → at + 1 ≡ length bytes → byte at ≡ 92 → Fails starred bytes depth at 7 at

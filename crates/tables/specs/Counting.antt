@@ -10,7 +10,7 @@ use lib.Dec.{eqb}
 use lib.ListN.{length, getD, set}
 use lib.Seq.{getD-set-same, getD-set-other}
 use Rattle.language.specs.Nested.{Nested, leaf, catenation, union, star, below}
-use Rattle.tree.specs.Leaf.{Leaf}
+use Rattle.tree.specs.Leaf.{Leaf, character}
 use Rattle.tables.specs.Words.{run}
 use Rattle.tables.specs.Standing.{
   size,
@@ -88,7 +88,7 @@ module _ {list counts : List ℕ} {j : ℕ} (counted : Counted list counts j) wh
 module _ {list counts : List ℕ} {node : ℕ} (counted : Counted list counts node) where
   -- there are none below a leaf
   pub runs-leaf : kind-of list node ≡ 1 → Runs list node 0
-  runs-leaf kind (spot (leaf a) f p n i) h plain e = refl
+  runs-leaf kind (spot (leaf (character a)) f p n i) h plain e = refl
   runs-leaf kind (spot (catenation x y) f p n i) h plain e =
       absurd (omega (arith, catenation-shows h node e .kind-byte))
   runs-leaf kind (spot (union x y) f p n i) h plain e = absurd (omega (arith, union-shows h node e .kind-byte))
@@ -100,7 +100,7 @@ module _ {list counts : List ℕ} {node : ℕ} (counted : Counted list counts no
 
   -- below a star there are those that its operand adds
   pub runs-star : kind-of list node ≡ 4 → Runs list node (adds list counts (left-of list node) (own-piece list node))
-  runs-star kind (spot (leaf a) f p n i) h plain e = absurd (omega (arith, leaf-shows h node e .kind-byte))
+  runs-star kind (spot (leaf (character a)) f p n i) h plain e = absurd (omega (arith, leaf-shows h node e .kind-byte))
   runs-star kind (spot (catenation x y) f p n i) h plain e =
       absurd (omega (arith, catenation-shows h node e .kind-byte))
   runs-star kind (spot (union x y) f p n i) h plain e = absurd (omega (arith, union-shows h node e .kind-byte))
@@ -114,7 +114,7 @@ module _ {list counts : List ℕ} {node : ℕ} (counted : Counted list counts no
       → Runs list node
       (adds list counts (left-of list node) (own-piece list node) + adds list counts (right-of list node)
       (own-piece list node))
-  runs-two kind other (spot (leaf a) f p n i) h plain e = absurd (kind (leaf-shows h node e .kind-byte))
+  runs-two kind other (spot (leaf (character a)) f p n i) h plain e = absurd (kind (leaf-shows h node e .kind-byte))
   runs-two kind other (spot (catenation x y) f p n i) h plain e =
       let shown = catenation-shows h node e in
       omega (
@@ -154,7 +154,7 @@ pub left-listed : {list : List ℕ} {node : ℕ} → Node list node → (kind-of
 left-listed {list} {node} h kind = kid-listed h _ (low (h .at) (h .fine) (h .plain) (h .is-root))
   where
     low : (s : Spot) → Fine list s → Plain (tree s) → node + 1 ≡ first s + size (tree s) → left-of list node < node
-    low (spot (leaf a) f p n i) g plain e = absurd (kind (leaf-shows g node e .kind-byte))
+    low (spot (leaf (character a)) f p n i) g plain e = absurd (kind (leaf-shows g node e .kind-byte))
     low (spot (catenation x y) f p n i) g plain e = omega (arith, catenation-shows g node e .left-word, size-positive x)
     low (spot (union x y) f p n i) g plain e = omega (arith, union-shows g node e .left-word, size-positive x)
     low (spot (star x) f p n i) g plain e = omega (arith, star-shows g node e .left-word, size-positive x)
@@ -166,7 +166,7 @@ pub right-listed : {list : List ℕ} {node : ℕ} → Node list node → (kind-o
 right-listed {list} {node} h kind other = kid-listed h _ (low (h .at) (h .fine) (h .plain) (h .is-root))
   where
     low : (s : Spot) → Fine list s → Plain (tree s) → node + 1 ≡ first s + size (tree s) → right-of list node < node
-    low (spot (leaf a) f p n i) g plain e = absurd (kind (leaf-shows g node e .kind-byte))
+    low (spot (leaf (character a)) f p n i) g plain e = absurd (kind (leaf-shows g node e .kind-byte))
     low (spot (catenation x y) f p n i) g plain e =
         omega (arith, catenation-shows g node e .right-word, size-positive x, size-positive y)
     low (spot (union x y) f p n i) g plain e =

@@ -10,7 +10,7 @@ use lib.Seq.{getD-set-same, getD-set-other, drop-cons}
 use Rattle.language.specs.Nested.{Nested, leaf, catenation, union, star, below}
 use Rattle.tree.specs.Leaf.{Leaf}
 use Rattle.tables.specs.Words.{width}
-use Rattle.tables.specs.Plan.{nexts, takes}
+use Rattle.tables.specs.Plan.{nexts, takes, leaf-next}
 
 -- the list l stands in the table from the entry `at` on
 pub data Lies (table : List ℕ) : ℕ → List ℕ → Type 0 where
@@ -51,7 +51,7 @@ lies-row {table} {at} (entry {v = v} {l = l} e h) fits =
 
 -- the words of the empty transitions but for that of the accepting state
 abbrev pub fronts : Nested Leaf → ℕ → List ℕ
-fronts (leaf a) i = 0 ∷ []
+fronts (leaf a) i = leaf-next a i ∷ []
 fronts (catenation x y) i =
     (2 ^ (i + 1)) ∷ (nexts x (i + 1) (2 ^ (i + (1 + width x)))
     ++ nexts y (i + (1 + width x)) (2 ^ (i + (1 + width x + width y))))

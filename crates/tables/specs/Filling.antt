@@ -11,7 +11,7 @@ use borrow.Author.Tests.{eq-eqb, ne-eqb}
 use lib.ListN.{length, getD, set, length-append, length-set}
 use lib.Seq.{getD-set-same, getD-set-other}
 use Rattle.language.specs.Nested.{Nested, leaf, catenation, union, star, below}
-use Rattle.tree.specs.Leaf.{Leaf}
+use Rattle.tree.specs.Leaf.{Leaf, character}
 use Rattle.tables.specs.Words.{width, run}
 use Rattle.tables.specs.Plan
 use Rattle.tables.specs.Plan.{takes}
@@ -137,12 +137,12 @@ plain-no-stand-in : {u : Spot} {k : ℕ} → Plain (tree u) → Stand-in u k →
 plain-no-stand-in plain stand-in = plain
 
 -- no stand-in is at or below a leaf
-no-stand-in-at-leaf : {a f p n i : ℕ} {u : Spot} {k : ℕ} → In (spot (leaf a) f p n i) u → Stand-in u k → ⊥
+no-stand-in-at-leaf : {a f p n i : ℕ} {u : Spot} {k : ℕ} → In (spot (leaf (character a)) f p n i) u → Stand-in u k → ⊥
 no-stand-in-at-leaf here m = plain-no-stand-in tt m
 
 -- a leaf's part
-pub fill-leaf : {list : List ℕ} {a f p n i : ℕ} → Fine list (spot (leaf a) f p n i) → (t : Tables) → Room t
-    → Filled (spot (leaf a) f p n i) t (two-entries t (64 * p + i) (a + 1)) (i + 2)
+pub fill-leaf : {list : List ℕ} {a f p n i : ℕ} → Fine list (spot (leaf (character a)) f p n i) → (t : Tables) → Room t
+    → Filled (spot (leaf (character a)) f p n i) t (two-entries t (64 * p + i) (a + 1)) (i + 2)
 fill-leaf {a = a} {p = p} {i = i} h t room =
     let r = room .of-nexts in
     let q = room .of-labels in

@@ -10,14 +10,18 @@ use mathlib.Core.List.{List, [], _∷_, _++_}
 use lib.ListN.{getD, take, drop}
 use Rattle.language.specs.Automaton.{State, Path-of}
 use Rattle.language.specs.Nested.{Nested, leaf, catenation, union, star, below, Own-empty, Own-reads}
-use Rattle.tree.specs.Leaf.{Leaf, has-empty, meaning}
+use Rattle.tree.specs.Leaf.{Leaf, character, has-empty, meaning}
 use Rattle.tables.specs.Words.{Bit, width, run, Own, number}
+
+-- the word of a leaf's start, numbered i: the bit of its accepting state, where the leaf has the empty text
+abbrev pub leaf-next : Leaf → ℕ → ℕ
+leaf-next a i = cond (has-empty a) (2 ^ (i + 1)) 0
 
 -- the words of the empty transitions: one for each state of x's own part of its piece, numbered from i, in the order of
 -- the numbers.
 -- Bit j is set for a transition to state j. `exit` is the word of x's accepting state
 abbrev pub nexts : Nested Leaf → ℕ → ℕ → List ℕ
-nexts (leaf a) i exit = cond (has-empty a) (2 ^ (i + 1)) 0 ∷ exit ∷ []
+nexts (leaf a) i exit = leaf-next a i ∷ exit ∷ []
 nexts (catenation x y) i exit =
     (2 ^ (i + 1)) ∷ (nexts x (i + 1) (2 ^ (i + (1 + width x)))
     ++ nexts y (i + (1 + width x)) (2 ^ (i + (1 + width x + width y))) ++ (exit ∷ []))
@@ -28,10 +32,13 @@ nexts (star x) i exit =
     (2 ^ (i + 1) + 2 ^ (i + (1 + width x))) ∷ (nexts x (i + 1) (2 ^ (i + 1) + 2 ^ (i + (1 + width x))) ++ (exit ∷ []))
 nexts (below x) i exit = 0 ∷ exit ∷ []
 
--- the labels of the states: at a leaf's start one more than its character, else 0, which equals no byte's label: a
--- stand-in reads no byte
+-- the label of a leaf's start: one more than its character
+abbrev pub start-label : Leaf → ℕ
+start-label (character c) = c + 1
+
+-- the labels of the states: a leaf's at its start, else 0, which equals no byte's label: a stand-in reads no byte
 abbrev pub takes : Nested Leaf → List ℕ
-takes (leaf a) = (a + 1) ∷ 0 ∷ []
+takes (leaf a) = start-label a ∷ 0 ∷ []
 takes (catenation x y) = 0 ∷ (takes x ++ takes y ++ (0 ∷ []))
 takes (union x y) = 0 ∷ (takes x ++ takes y ++ (0 ∷ []))
 takes (star x) = 0 ∷ (takes x ++ (0 ∷ []))

@@ -10,7 +10,7 @@ use lib.Seq.{getD-append-add}
 use Rattle.language.specs.Tree.{nodes}
 use Rattle.language.specs.Nested.{Nested, leaf, catenation, union, star, below, whole}
 use Rattle.tree.specs.Leaf.{Leaf}
-use Rattle.tree.specs.Records.{record-of}
+use Rattle.tree.specs.Records.{record-of, leaf-kind, leaf-character}
 use Rattle.tree.specs.Stored.{stored}
 use Rattle.tables.specs.Words.{width, run}
 
@@ -20,7 +20,7 @@ size x = nodes (whole x)
 
 -- the record of x's root
 abbrev pub root-record : Nested Leaf → (first piece new : ℕ) → List ℕ
-root-record (leaf a) f p n = record-of 1 a 65535 65535 p
+root-record (leaf a) f p n = record-of (leaf-kind a) (leaf-character a) 65535 65535 p
 root-record (catenation x y) f p n = record-of 2 0 (f + size x - 1) (f + size x + size y - 1) p
 root-record (union x y) f p n = record-of 3 0 (f + size x - 1) (f + size x + size y - 1) p
 root-record (star x) f p n = record-of 4 0 (f + size x - 1) 65535 p
@@ -318,7 +318,7 @@ root-shows {list} {s = spot x f p n i} w r kind character left right own at e sm
 
 module _ {list : List ℕ} {f p n i : ℕ} where
   -- what the record of a node shows, by the node's kind
-  pub leaf-shows : {a : ℕ} → Fine list (spot (leaf a) f p n i) → (r : ℕ) → r + 1 ≡ f + 1
+  pub leaf-shows : {a : ℕ} → Fine list (spot (leaf (Leaf.character a)) f p n i) → (r : ℕ) → r + 1 ≡ f + 1
       → Shows list r 1 a 65535 65535 p
   leaf-shows h r at = root-shows (h .written) r _ _ _ _ _ at refl (omega arith) (omega arith) (omega arith)
 
@@ -337,7 +337,7 @@ module _ {list : List ℕ} {f p n i : ℕ} where
 -- the piece that a node's record shows is the node's
 pub piece-shows : {list : List ℕ} {f p n i : ℕ} (x : Nested Leaf) → Plain x → Fine list (spot x f p n i) → (r : ℕ)
     → r + 1 ≡ f + size x → word list (8 * r + 6) ≡ p
-piece-shows (leaf a) plain h r at = leaf-shows h r at .piece-word
+piece-shows (leaf (Leaf.character a)) plain h r at = leaf-shows h r at .piece-word
 piece-shows (catenation x y) plain h r at = catenation-shows h r at .piece-word
 piece-shows (union x y) plain h r at = union-shows h r at .piece-word
 piece-shows (star x) plain h r at = star-shows h r at .piece-word

@@ -6,7 +6,7 @@ use mathlib.Core.List.{List}
 use native.Mathlib.Omega.{arith}
 use lib.ListN.{length, getD, set}
 use Rattle.language.specs.Nested.{Nested, leaf, catenation, union, star, below}
-use Rattle.tree.specs.Leaf.{Leaf}
+use Rattle.tree.specs.Leaf.{Leaf, character}
 use Rattle.tables.specs.Entries.{wide, thrice}
 use Rattle.tables.specs.Standing.{
   size,
@@ -102,7 +102,8 @@ below-differs h node e same = omega (arith, below-shows h node e, h .later)
 pub visit-stand : {list : List ℕ} {node piece at : ℕ} {s : Spot} → Sits list node piece at s
     → (own-piece list node ≡ piece → ⊥) → (t : Tables) → Room t
     → Filled s t (stand-entries t (64 * piece + at) (own-piece list node) at node) (at + 2)
-visit-stand (sits {x = leaf a} h e) other t room = absurd (other (piece-shows (leaf a) tt h _ e))
+visit-stand (sits {x = leaf (character a)} h e) other t room =
+    absurd (other (piece-shows (leaf (character a)) tt h _ e))
 visit-stand (sits {x = catenation x y} h e) other t room = absurd (other (piece-shows (catenation x y) tt h _ e))
 visit-stand (sits {x = union x y} h e) other t room = absurd (other (piece-shows (union x y) tt h _ e))
 visit-stand (sits {x = star x} h e) other t room = absurd (other (piece-shows (star x) tt h _ e))
@@ -112,7 +113,8 @@ visit-stand {list} {node} {piece} {at} (sits {x = below x} {f = f} {n = n} h e) 
 
 -- the piece that a record shows is one of 128
 pub stand-few : {list : List ℕ} {node piece at : ℕ} {s : Spot} → Sits list node piece at s → own-piece list node < 128
-stand-few (sits {x = leaf a} h e) = omega (arith, piece-shows (leaf a) tt h _ e, h .later, h .few)
+stand-few (sits {x = leaf (character a)} h e) =
+    omega (arith, piece-shows (leaf (character a)) tt h _ e, h .later, h .few)
 stand-few (sits {x = catenation x y} h e) = omega (arith, piece-shows (catenation x y) tt h _ e, h .later, h .few)
 stand-few (sits {x = union x y} h e) = omega (arith, piece-shows (union x y) tt h _ e, h .later, h .few)
 stand-few (sits {x = star x} h e) = omega (arith, piece-shows (star x) tt h _ e, h .later, h .few)
@@ -122,8 +124,9 @@ stand-few {node = node} (sits {x = below x} h e) = omega (arith, below-shows h n
 pub visit-leaf : {list : List ℕ} {node piece at : ℕ} {s : Spot} → Sits list node piece at s
     → own-piece list node ≡ piece → kind-of list node ≡ 1 → (t : Tables) → Room t
     → Filled s t (two-entries t (64 * piece + at) (getD list (8 * node + 1) 0 + 1)) (at + 2)
-visit-leaf {list} {node} {piece} {at} (sits {x = leaf a} {f = f} {n = n} h e) own kind t room =
-    subst (λ (b : ℕ). Filled (spot (leaf a) f piece n at) t (two-entries t (64 * piece + at) (b + 1)) (at + 2))
+visit-leaf {list} {node} {piece} {at} (sits {x = leaf (character a)} {f = f} {n = n} h e) own kind t room =
+    subst (λ (b : ℕ). Filled (spot (leaf (character a)) f piece n at) t (two-entries t (64 * piece + at) (b + 1))
+    (at + 2))
     (sym (leaf-shows h node e .character-byte)) (fill-leaf h t room)
 visit-leaf {node = node} (sits {x = catenation x y} h e) own kind t room =
     absurd (omega (arith, catenation-shows h node e .kind-byte))
@@ -152,7 +155,7 @@ left-kid {x = x} h e low = record {
 -- where the record shows no character, there is a left or only child
 pub visit-left : {list : List ℕ} {node piece at : ℕ} {s : Spot} → Sits list node piece at s
     → own-piece list node ≡ piece → (kind-of list node ≡ 1 → ⊥) → Kid list node (left-of list node) piece (at + 1)
-visit-left {node = node} (sits {x = leaf a} h e) own kind = absurd (kind (leaf-shows h node e .kind-byte))
+visit-left {node = node} (sits {x = leaf (character a)} h e) own kind = absurd (kind (leaf-shows h node e .kind-byte))
 visit-left {node = node} (sits {x = catenation x y} h e) own kind =
     left-kid (child-fine catenation-left h) (catenation-shows h node e .left-word) (omega arith)
 visit-left {node = node} (sits {x = union x y} h e) own kind =
@@ -175,7 +178,7 @@ pub visit-star : {list : List ℕ} {node piece at : ℕ} {s : Spot} → Sits lis
     → own-piece list node ≡ piece → kind-of list node ≡ 4 → (t after : Tables) → Room after → (last : ℕ)
     → Visited list (left-of list node) piece (at + 1) t after last
     → Filled s t (joined after (64 * piece) (kind-of list node) at last last) (last + 1)
-visit-star {node = node} (sits {x = leaf a} h e) own kind t after room last done =
+visit-star {node = node} (sits {x = leaf (character a)} h e) own kind t after room last done =
     absurd (omega (arith, leaf-shows h node e .kind-byte))
 visit-star {node = node} (sits {x = catenation x y} h e) own kind t after room last done =
     absurd (omega (arith, catenation-shows h node e .kind-byte))
@@ -198,7 +201,7 @@ pub visit-right : {list : List ℕ} {node piece at : ℕ} {s : Spot} → Sits li
     → own-piece list node ≡ piece → (kind-of list node ≡ 1 → ⊥) → (kind-of list node ≡ 4 → ⊥)
     → (t mid : Tables) → (middle : ℕ) → Visited list (left-of list node) piece (at + 1) t mid middle
     → Kid list node (right-of list node) piece middle
-visit-right {node = node} (sits {x = leaf a} h e) own kind other t mid middle done =
+visit-right {node = node} (sits {x = leaf (character a)} h e) own kind other t mid middle done =
     absurd (kind (leaf-shows h node e .kind-byte))
 visit-right {list} {node} (sits {x = catenation x y} h e) own kind other t mid middle done =
     let a = done _
@@ -239,7 +242,7 @@ pub visit-two : {list : List ℕ} {node piece at : ℕ} {s : Spot} → Sits list
     → Visited list (left-of list node) piece (at + 1) t mid middle
     → Visited list (right-of list node) piece middle mid after last
     → Filled s t (joined after (64 * piece) (kind-of list node) at middle last) (last + 1)
-visit-two {node = node} (sits {x = leaf a} h e) own kind other t mid after room middle last done-l done-r =
+visit-two {node = node} (sits {x = leaf (character a)} h e) own kind other t mid after room middle last done-l done-r =
     absurd (kind (leaf-shows h node e .kind-byte))
 visit-two {list} {node} (sits {x = catenation x y} h e) own kind other t mid after room middle last done-l done-r =
     let shown = catenation-shows h node e in

@@ -45,7 +45,7 @@ decided-unique bytes (good n p) (good m q) a b =
       b .fits .records-are,
       a .fits .pieces-are,
       b .fits .pieces-are,
-      ap (nodes {A = ℕ}) same,
+      ap (nodes {A = Leaf}) same,
       ap piece-count same,
     )
 decided-unique bytes (good n p) not-good a b = absurd (b .fits (a .fits .tree) (a .fits .is-good))

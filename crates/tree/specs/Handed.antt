@@ -176,9 +176,9 @@ gives-more f t i left right a b slots h room left-le right-le l r for-left for-r
 -- where there is a left or only child, a number of it is its own
 of-left-there : (u : Tree Leaf) (i size k : ℕ) → 1 ≤ left-slot (root-label u) i size → of-left (λ (s : Tree Leaf). k) u
     ≡ k
-of-left-there (leaf a) i size k h =
+of-left-there (leaf (Leaf.character a)) i size k h =
     let character : (1 + 256 * a) % 256 ≡ 1 = omega arith in
-    let none : left-slot (root-label (leaf a)) i size ≡ 0 = rw character in
+    let none : left-slot (root-label (leaf (Leaf.character a))) i size ≡ 0 = rw character in
     absurd (omega arith)
 of-left-there (catenation s t) i size k h = refl
 of-left-there (union s t) i size k h = refl
@@ -186,8 +186,8 @@ of-left-there (star s) i size k h = refl
 
 -- and where there is a right child
 of-right-there : (u : Tree Leaf) (i k : ℕ) → 1 ≤ right-slot (root-label u) i → of-right (λ (t : Tree Leaf). k) u ≡ k
-of-right-there (leaf a) i k h =
-    let none : right-slot (root-label (leaf a)) i ≡ 0 =
+of-right-there (leaf (Leaf.character a)) i k h =
+    let none : right-slot (root-label (leaf (Leaf.character a))) i ≡ 0 =
     rw (ne-eqb (1 + 256 * a) 2 (omega arith), ne-eqb (1 + 256 * a) 3 (omega arith)) in
     absurd (omega arith)
 of-right-there (catenation s t) i k h = refl

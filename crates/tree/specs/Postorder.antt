@@ -13,12 +13,12 @@ use lib.Seq.{append-snoc}
 use borrow.Author.Tests.{eqb-true}
 use Rattle.language.specs.Tree.{Tree, leaf, catenation, union, star}
 use Rattle.tree.specs.Leaf.{Leaf}
-use Rattle.tree.specs.Records.{label-of, labels}
+use Rattle.tree.specs.Records.{label-of, labels, leaf-label}
 
 -- what a label asks for: a leaf with a character, a node over the last two trees or over the last one, or nothing that
 -- a tree has
 pub data Asked : Type 0 where
-  a-leaf : ℕ → Asked
+  a-leaf : Leaf → Asked
   a-catenation : Asked
   a-union : Asked
   a-star : Asked
@@ -27,7 +27,7 @@ pub data Asked : Type 0 where
 -- what is asked for, by the label's low byte and, of a node with children, by all of it
 abbrev pub asked : ℕ → Asked
 asked label =
-    cond (eqb (label % 256) 1) (a-leaf (label / 256))
+    cond (eqb (label % 256) 1) (a-leaf (Leaf.character (label / 256)))
     (cond (eqb label 2) a-catenation (cond (eqb label 3) a-union (cond (eqb label 4) a-star nothing)))
 
 -- the stack, last tree first, after one label; none where the trees that it asks for are not there
@@ -60,8 +60,8 @@ labels-of-stack [] = []
 labels-of-stack (t ∷ stack) = labels-of-stack stack ++ labels t
 
 -- a leaf's label asks for that leaf
-asked-leaf : (a : ℕ) → asked (label-of 1 a) ≡ a-leaf a
-asked-leaf a =
+asked-leaf : (a : Leaf) → asked (leaf-label a) ≡ a-leaf a
+asked-leaf (Leaf.character a) =
     let kind : (1 + 256 * a) % 256 ≡ 1 = omega arith in
     let character : (1 + 256 * a) / 256 ≡ a = omega arith in
     rw (kind, character)
@@ -85,7 +85,7 @@ labels-injective s t e =
 
 -- the label is that of what is asked for
 abbrev pub Says : ℕ → Asked → Type 0
-Says label (a-leaf a) = label ≡ label-of 1 a
+Says label (a-leaf a) = label ≡ leaf-label a
 Says label a-catenation = label ≡ label-of 2 0
 Says label a-union = label ≡ label-of 3 0
 Says label a-star = label ≡ label-of 4 0
@@ -95,7 +95,7 @@ Says label nothing = Unit {0}
 tested : (label : ℕ) (is-leaf is-catenation is-union is-star : Bool)
     → eqb (label % 256) 1 ≡ is-leaf → eqb label 2 ≡ is-catenation → eqb label 3 ≡ is-union → eqb label 4 ≡ is-star
     → Says label
-    (cond is-leaf (a-leaf (label / 256))
+    (cond is-leaf (a-leaf (Leaf.character (label / 256)))
     (cond is-catenation a-catenation (cond is-union a-union (cond is-star a-star nothing))))
 tested label true b c d e f g h = omega (arith, eqb-true (label % 256) 1 e)
 tested label false true c d e f g h = eqb-true _ _ f

@@ -16,6 +16,14 @@ two-bytes n = n % 256 ∷ n / 256 % 256 ∷ []
 abbrev pub record-of : ℕ → ℕ → ℕ → ℕ → ℕ → List ℕ
 record-of kind character left right piece = kind ∷ character ∷ (two-bytes left ++ two-bytes right ++ two-bytes piece)
 
+-- the kind of a leaf's record
+abbrev pub leaf-kind : Leaf → ℕ
+leaf-kind (Leaf.character c) = 1
+
+-- its character
+abbrev pub leaf-character : Leaf → ℕ
+leaf-character (Leaf.character c) = c
+
 -- the piece of a child: a new one, where the edge is cut, or its parent's
 abbrev pub child-piece : Bool → ℕ → ℕ → ℕ
 child-piece true piece new = new
@@ -24,7 +32,7 @@ child-piece false piece new = piece
 -- the records of t, cut by c. Its first record has the number `first`, its root is in the piece `piece`, and the pieces
 -- that a walk (node, left, right) first meets below its root are numbered from `new`
 abbrev pub records : (t : Tree Leaf) → Cut t → (first piece new : ℕ) → List ℕ
-records (leaf a) c first piece new = record-of 1 a 65535 65535 piece
+records (leaf a) c first piece new = record-of (leaf-kind a) (leaf-character a) 65535 65535 piece
 records (catenation s t) c first piece new =
     records s (c .1) first (child-piece (c .0) piece new) (one (c .0) + new)
     ++ records t (c .3) (first + nodes s) (child-piece (c .2) piece (one (c .0) + cuts s (c .1) + new))
@@ -56,9 +64,13 @@ pub record Good (bytes : List ℕ) (t : Tree Leaf) : Type 0 where
 abbrev pub label-of : ℕ → ℕ → ℕ
 label-of kind character = kind + 256 * character
 
+-- the label of a leaf's record
+abbrev pub leaf-label : Leaf → ℕ
+leaf-label a = label-of (leaf-kind a) (leaf-character a)
+
 -- the labels of a tree's records, in their order: what remains of a list when child and piece numbers are left out
 abbrev pub labels : Tree Leaf → List ℕ
-labels (leaf a) = label-of 1 a ∷ []
+labels (leaf a) = leaf-label a ∷ []
 labels (catenation s t) = labels s ++ labels t ++ (label-of 2 0 ∷ [])
 labels (union s t) = labels s ++ labels t ++ (label-of 3 0 ∷ [])
 labels (star s) = labels s ++ (label-of 4 0 ∷ [])

@@ -17,7 +17,7 @@ use lib.Seq.{getD-append-add, getD-at, getD-append-seam}
 use Rattle.language.specs.Tree.{Tree, leaf, catenation, union, star, nodes}
 use Rattle.tree.specs.Leaf.{Leaf}
 use Rattle.tree.specs.Cut.{cuts, one, wanted, cut-left, cut-right, open-size}
-use Rattle.tree.specs.Records.{child-piece, label-of, labels}
+use Rattle.tree.specs.Records.{child-piece, label-of, labels, leaf-label}
 
 -- the edges that the wanted cut cuts
 abbrev pub cut-edges : Tree Leaf → ℕ
@@ -25,7 +25,7 @@ cut-edges t = cuts t (wanted t)
 
 -- the label of a tree's root
 abbrev pub root-label : Tree Leaf → ℕ
-root-label (leaf a) = label-of 1 a
+root-label (leaf a) = leaf-label a
 root-label (catenation s t) = label-of 2 0
 root-label (union s t) = label-of 3 0
 root-label (star s) = label-of 4 0
@@ -99,7 +99,7 @@ under x = seats (x .tree) (x .piece) (x .new)
 
 -- a seat for places past the end
 abbrev pub no-seat : Seat
-no-seat = seat (leaf 0) 0 0
+no-seat = seat (leaf (Leaf.character 0)) 0 0
 
 -- the seat of record i
 abbrev pub seat-at : List Seat → ℕ → Seat
@@ -317,7 +317,7 @@ star-around xs before after i l x whole ends f =
 
 -- the children stand where their slots say
 around-root : (xs : List Seat) (i : ℕ) (u : Tree Leaf) (p n : ℕ) → Stands xs i (seat u p n) → Around xs i (seat u p n)
-around-root xs i (leaf a) p n s =
+around-root xs i (leaf (Leaf.character a)) p n s =
     let character : (1 + 256 * a) % 256 ≡ 1 = omega arith in
     let no-catenation : eqb (1 + 256 * a) 2 ≡ false = ne-eqb (1 + 256 * a) 2 (omega arith) in
     let no-union : eqb (1 + 256 * a) 3 ≡ false = ne-eqb (1 + 256 * a) 3 (omega arith) in

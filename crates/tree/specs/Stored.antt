@@ -18,14 +18,14 @@ use Rattle.language.specs.Nested.{
 }
 use Rattle.tree.specs.Leaf.{Leaf}
 use Rattle.tree.specs.Cut.{Cut, cuts, one, edge, nest}
-use Rattle.tree.specs.Records.{record-of, child-piece, records}
+use Rattle.tree.specs.Records.{record-of, child-piece, records, leaf-kind, leaf-character}
 use Rattle.tree.specs.Nesting.{pieces-below, pieces-below-edge, pieces-below-nest, whole-edge, whole-nest}
 
 -- the records of x's tree. The first record has the number `first`, x's top piece is `piece`, and the pieces below it
 -- are numbered from `new`,
 -- a piece before those below it
 abbrev pub stored : Nested Leaf → (first piece new : ℕ) → List ℕ
-stored (nested-leaf a) first piece new = record-of 1 a 65535 65535 piece
+stored (nested-leaf a) first piece new = record-of (leaf-kind a) (leaf-character a) 65535 65535 piece
 stored (nested-catenation x y) first piece new =
     stored x first piece new
     ++ stored y (first + nodes (whole x)) piece (new + pieces-below x)

@@ -15,7 +15,16 @@ use borrow.Author.Tests.{ne-eqb}
 use Rattle.language.specs.Tree.{Tree, leaf, catenation, union, star, nodes}
 use Rattle.tree.specs.Leaf.{Leaf}
 use Rattle.tree.specs.Cut.{one, wanted, open-size}
-use Rattle.tree.specs.Records.{child-piece, record-of, two-bytes, records, encode, piece-count}
+use Rattle.tree.specs.Records.{
+  child-piece,
+  record-of,
+  two-bytes,
+  records,
+  encode,
+  piece-count,
+  leaf-kind,
+  leaf-character,
+}
 use Rattle.tree.specs.Seats.{
   Seat,
   seat,
@@ -42,14 +51,14 @@ use Rattle.tree.specs.Gathered.{only-left, cuts-gathered}
 
 -- the kind of a tree's root
 abbrev pub root-kind : Tree Leaf → ℕ
-root-kind (leaf a) = 1
+root-kind (leaf a) = leaf-kind a
 root-kind (catenation s t) = 2
 root-kind (union s t) = 3
 root-kind (star s) = 4
 
 -- the character of a tree's root, 0 for the other kinds
 abbrev pub root-character : Tree Leaf → ℕ
-root-character (leaf a) = a
+root-character (leaf a) = leaf-character a
 root-character (catenation s t) = 0
 root-character (union s t) = 0
 root-character (star s) = 0
@@ -107,14 +116,14 @@ star-record : (p first m : ℕ) → 1 ≤ m → record-of 4 0 (first + m - 1) 65
 star-record p first m h = rw (number-of (first + m - 0) (first + m - 1) (omega arith))
 
 -- a leaf's children are none
-leaf-record : (a p first : ℕ) → record-of 1 a 65535 65535 p ≡ record-at first (seat (leaf a) p 0)
+leaf-record : (a p first : ℕ) → record-of 1 a 65535 65535 p ≡ record-at first (seat (leaf (Leaf.character a)) p 0)
 leaf-record a p first =
     let character : (1 + 256 * a) % 256 ≡ 1 = omega arith in
     rw (character, ne-eqb (1 + 256 * a) 2 (omega arith), ne-eqb (1 + 256 * a) 3 (omega arith))
 
 -- the records of a tree are those of its seats
 writes : (t : Tree Leaf) (first p n : ℕ) → Writes (seats t p n) first (records t (wanted t) first p n)
-writes (leaf a) first p n = record { so = leaf-record a p first }
+writes (leaf (Leaf.character a)) first p n = record { so = leaf-record a p first }
 writes (catenation s t) first p n =
     let e = length-seats s in
     let f = length-seats t in
@@ -163,7 +172,7 @@ drop-written i (suc j) (x ∷ xs) h =
 -- the first two bytes of a record are its label
 pub label-bytes : (u : Tree Leaf) → root-label u < 65536 → two-bytes (root-label u)
     ≡ root-kind u ∷ root-character u ∷ []
-label-bytes (leaf a) h =
+label-bytes (leaf (Leaf.character a)) h =
     let kind : (1 + 256 * a) % 256 ≡ 1 = omega arith in
     let character : (1 + 256 * a) / 256 ≡ a = omega arith in
     let byte : a % 256 ≡ a = omega arith in
