@@ -7,28 +7,11 @@ use native.Mathlib.Omega.{arith}
 use lib.ListN.{getD}
 use denote.Enum.Declared.{tagOf}
 use Rattle.reader.specs.Answer.{refusing}
-use Rattle.marks.specs.declared.Answer.{Answer}
-use Rattle.marks.specs.declared.Answer.the-variants.{Marked, NotGood, TooFewWords, NotMarks}
-use Rattle.marks.proofs.Answer.{the-type as marks-type}
 use Rattle.picker.specs.declared.Picked.{Picked}
 use Rattle.picker.specs.declared.Picked.the-variants.{Written, NoRoom}
 use Rattle.picker.proofs.Picked.{the-type as picked-type}
 use Rattle.foamlattice.specs.Packed.{packed}
-use Rattle.foamlattice.specs.Promise.{read-packed, marks-packed, pick-packed}
-
--- the numbers of a start or a step: that of marks made is their own
-abbrev pub marks-numbers : Answer → List ℕ
-marks-numbers answer = marks-packed answer ∷ packed 10 0 0 0 ∷ packed 12 0 0 0 ∷ packed 13 0 0 0 ∷ []
-
-marks-number-at : (answer : Answer) → marks-packed answer ≡ getD (marks-numbers answer) (tagOf marks-type answer) 0
-marks-number-at (Marked accepting) = refl
-marks-number-at NotGood = refl
-marks-number-at TooFewWords = refl
-marks-number-at NotMarks = refl
-
-pub told-marks : (answer : Answer) (tag : ℕ) → tagOf marks-type answer ≡ tag
-    → marks-packed answer ≡ getD (marks-numbers answer) tag 0
-told-marks answer tag e = marks-number-at answer ∙ ap (λ (k : ℕ). getD (marks-numbers answer) k 0) e
+use Rattle.foamlattice.specs.Promise.{read-packed, pick-packed}
 
 -- the numbers of a picking: that of an output written is its own
 abbrev pub pick-numbers : Picked → List ℕ

@@ -2,21 +2,33 @@
 -- Assumes nothing.
 use Prim.Native.Nat.{ℕ, _+_, _*_, _≤_}
 use native.Mathlib.Omega.{arith}
-use mathlib.Core.Path.{_≡_, refl}
+use mathlib.Core.Path.{_≡_, refl, ap}
 use mathlib.Core.Bool.{Bool, true, false, cond}
 use mathlib.Core.List.{List}
 use lib.Dec.{ltb}
 use borrow.Author.Tests.{ltb-false}
 use Rattle.language.specs.Tree.{Tree, nodes}
+use Rattle.language.specs.Automaton.{States}
 use Rattle.tree.specs.Leaf.{Leaf}
 use Rattle.tree.specs.Records.{piece-count}
 use Rattle.tree.specs.Pieces.{nodes-per-piece}
 use Rattle.reader.specs.Scanner.{Outcome, tree, refused, scanned}
 use Rattle.reader.specs.Agree.{scanned-refusal}
 use Rattle.reader.specs.Answer.{Numbers, refusing, reading, answer-for, answered}
-use Rattle.marks.specs.declared.Answer.{Answer}
-use Rattle.marks.specs.declared.Answer.the-variants.{Marked, NotGood, TooFewWords, NotMarks}
-use Rattle.marks.specs.Promise.{number-of}
+use Rattle.marks.specs.Answer.{Numbers as Marks-numbers}
+use Rattle.marks.specs.Promise.{
+  Refused,
+  Made,
+  Starts,
+  start-not-good,
+  start-too-few,
+  started,
+  Steps,
+  step-not-good,
+  step-too-few,
+  step-not-marks,
+  stepped,
+}
 use Rattle.finder.specs.declared.numbers.Numbers.{Numbers as Found-numbers}
 use Rattle.finder.specs.Promise.{
   Refuses,
@@ -39,7 +51,7 @@ use Rattle.foamlattice.specs.Packed.{packed, Unpacks, unpacks}
 use Rattle.foamlattice.specs.Promise.{
   read-packed,
   found-packed,
-  marks-flag,
+  marks-packed,
   pick-flag,
   pick-length,
   Matching,
@@ -129,6 +141,36 @@ search-ranges (search-found a) =
     }
 search-ranges (search-nothing a) = record { refusal-small = omega arith; x-small = omega arith; y-small = omega arith }
 
+-- the numbers that start and step can give back
+pub record Marks-ranges (n : Marks-numbers) : Type 0 where
+  pub refusal-small : n .refusal ≤ 13
+  pub front : n .place ≡ 0
+
+refused-marks : {number : ℕ} {why : Type 0} {before after : List ℕ} {n : Marks-numbers} → number ≤ 13
+    → Refused number why before after n → Marks-ranges n
+refused-marks small r =
+    record { refusal-small = rw (ap (λ (n : Marks-numbers). n .refusal) (r .refuses)) small; front = ap (λ (n : Marks-numbers). n .place) (r .refuses) }
+
+made-marks : {list : List ℕ} {X : Tree Leaf → States} {before after : List ℕ} {n : Marks-numbers}
+    → Made list X before after n → Marks-ranges n
+made-marks m =
+    record {
+      refusal-small = rw (ap (λ (n : Marks-numbers). n .refusal) (m .marks)) (omega arith);
+      front = ap (λ (n : Marks-numbers). n .place) (m .marks);
+    }
+
+pub start-ranges : {list before after : List ℕ} {n : Marks-numbers} → Starts list before after n → Marks-ranges n
+start-ranges (start-not-good r) = refused-marks (omega arith) r
+start-ranges (start-too-few r) = refused-marks (omega arith) r
+start-ranges (started m) = made-marks m
+
+pub step-ranges : {list : List ℕ} {byte : ℕ} {before after : List ℕ} {n : Marks-numbers}
+    → Steps list byte before after n → Marks-ranges n
+step-ranges (step-not-good r) = refused-marks (omega arith) r
+step-ranges (step-too-few r) = refused-marks (omega arith) r
+step-ranges (step-not-marks r) = refused-marks (omega arith) r
+step-ranges (stepped s) = made-marks (s .made)
+
 -- an output has at most 1,048,575 bytes
 pub pick-length-small : (input before after : List ℕ) (answer : Picked) → Picks input before after answer
     → pick-length answer ≤ 1048575
@@ -146,13 +188,6 @@ small number flag n f = record { number-small = n; flag-small = f }
 flag-small : (flag : Bool) → cond flag 1 0 ≤ 1
 flag-small true = omega arith
 flag-small false = omega arith
-
-marks-small : (answer : Answer) → Small (number-of answer) (marks-flag answer)
-marks-small (Marked true) = small 0 1 (omega arith) (omega arith)
-marks-small (Marked false) = small 0 0 (omega arith) (omega arith)
-marks-small NotGood = small 10 0 (omega arith) (omega arith)
-marks-small TooFewWords = small 12 0 (omega arith) (omega arith)
-marks-small NotMarks = small 13 0 (omega arith) (omega arith)
 
 pick-small : (answer : Picked) → Small 0 (pick-flag answer)
 pick-small (Written size) = small 0 1 (omega arith) (omega arith)
@@ -197,15 +232,21 @@ pub searching-unpacks : (list text : List ℕ) (r : ℕ) (m : Searching list tex
     (m .numbers .end)
 searching-unpacks list text r m = found-unpacks r (m .numbers) (search-ranges (m .right)) (m .as-number)
 
+marks-unpacks : (r : ℕ) (n : Marks-numbers) → Marks-ranges n → r ≡ marks-packed n
+    → Unpacks r (n .refusal) (cond (n .accepting) 1 0) (n .place) 0
+marks-unpacks r n known e =
+    case-unpacks r _ _ _ 0 (small _ _ (known .refusal-small) (flag-small (n .accepting)))
+    (omega (arith, known .front)) (omega arith) e
+
 pub starting-unpacks : (list before after : List ℕ) (r : ℕ) (m : Starting list before after r)
-    → Unpacks r (number-of (m .answer)) (marks-flag (m .answer)) 0 0
-starting-unpacks list before after r m = case-unpacks r _ _ 0 0 (marks-small (m .answer)) (omega arith) (omega arith)
-    (m .as-number)
+    → Unpacks r (m .numbers .refusal) (cond (m .numbers .accepting) 1 0) (m .numbers .place) 0
+starting-unpacks list before after r m = marks-unpacks r (m .numbers) (start-ranges (m .right)) (m .as-number)
 
 pub stepping-unpacks : (list : List ℕ) (byte : ℕ) (before after : List ℕ) (r : ℕ)
-    (m : Stepping list byte before after r) → Unpacks r (number-of (m .answer)) (marks-flag (m .answer)) 0 0
+    (m : Stepping list byte before after r)
+    → Unpacks r (m .numbers .refusal) (cond (m .numbers .accepting) 1 0) (m .numbers .place) 0
 stepping-unpacks list byte before after r m =
-    case-unpacks r _ _ 0 0 (marks-small (m .answer)) (omega arith) (omega arith) (m .as-number)
+    marks-unpacks r (m .numbers) (step-ranges (m .right)) (m .as-number)
 
 pub picking-unpacks : (input before after : List ℕ) (r : ℕ) (m : Picking input before after r)
     → Unpacks r 0 (pick-flag (m .answer)) (pick-length (m .answer)) 0

@@ -6,9 +6,8 @@ use mathlib.Core.Path.{_≡_}
 use mathlib.Core.Bool.{cond}
 use mathlib.Core.List.{List}
 use Rattle.reader.specs.Answer.{Numbers}
-use Rattle.marks.specs.declared.Answer.{Answer}
-use Rattle.marks.specs.declared.Answer.the-variants.{Marked, NotGood, TooFewWords, NotMarks}
-use Rattle.marks.specs.Promise.{number-of, Starts, Steps}
+use Rattle.marks.specs.Answer.{Numbers as Marks-numbers}
+use Rattle.marks.specs.Promise.{Starts, Steps}
 use Rattle.finder.specs.declared.numbers.Numbers.{Numbers as Found-numbers}
 use Rattle.finder.specs.Promise.{Match-answers, Search-answers}
 use Rattle.picker.specs.declared.Picked.{Picked}
@@ -25,15 +24,9 @@ read-packed n = packed (n .refusal) 0 (n .place + n .records) (n .pieces)
 abbrev pub found-packed : Found-numbers → ℕ
 found-packed n = packed (n .refusal) (cond (n .matched) 1 0) (n .place + n .start) (n .end)
 
--- start and step: the flag is 1 where the root's accepting state is marked
-abbrev pub marks-flag : Answer → ℕ
-marks-flag (Marked accepting) = cond accepting 1 0
-marks-flag NotGood = 0
-marks-flag TooFewWords = 0
-marks-flag NotMarks = 0
-
-abbrev pub marks-packed : Answer → ℕ
-marks-packed answer = packed (number-of answer) (marks-flag answer) 0 0
+-- start and step: the flag is 1 where the root's accepting state is marked; x is the place of a refusal
+abbrev pub marks-packed : Marks-numbers → ℕ
+marks-packed n = packed (n .refusal) (cond (n .accepting) 1 0) (n .place) 0
 
 -- pick: the flag is 1 where the output was written; x is its length
 abbrev pub pick-flag : Picked → ℕ
@@ -61,15 +54,15 @@ pub record Searching (list text : List ℕ) (r : ℕ) : Type 0 where
 
 -- the words afterwards and the number r are those of a right start
 pub record Starting (list before after : List ℕ) (r : ℕ) : Type 0 where
-  pub answer : Answer
-  pub right : Starts list before after answer
-  pub as-number : r ≡ marks-packed answer
+  pub numbers : Marks-numbers
+  pub right : Starts list before after numbers
+  pub as-number : r ≡ marks-packed numbers
 
 -- the words afterwards and the number r are those of a right step
 pub record Stepping (list : List ℕ) (byte : ℕ) (before after : List ℕ) (r : ℕ) : Type 0 where
-  pub answer : Answer
-  pub right : Steps list byte before after answer
-  pub as-number : r ≡ marks-packed answer
+  pub numbers : Marks-numbers
+  pub right : Steps list byte before after numbers
+  pub as-number : r ≡ marks-packed numbers
 
 -- the buffer afterwards and the number r are those of a right picking
 pub record Picking (input before after : List ℕ) (r : ℕ) : Type 0 where

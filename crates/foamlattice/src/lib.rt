@@ -7,6 +7,7 @@ use finder::numbers::Numbers;
 use finder::numbers::match_numbers;
 use finder::numbers::search_numbers;
 use finder::search;
+use marks::numbers::numbers_of;
 use marks::start;
 use marks::step;
 use pack::pack;
@@ -17,7 +18,7 @@ use reader::read;
 ghost use mathlib.Core.Path.{_≡_};
 ghost use lib.ListN.{length};
 ghost use Rattle.reader.specs.Answer.{answered, records-after};
-ghost use Rattle.foamlattice.specs.Bounds.{Found-ranges};
+ghost use Rattle.foamlattice.specs.Bounds.{Found-ranges, Marks-ranges};
 ghost use Rattle.foamlattice.specs.Promise.{
   read-packed,
   found-packed,
@@ -75,16 +76,12 @@ pub extern "C" fn foam_search(records: &[u8], text: &[u8]) -> u64
     pack_found(numbers)
 }
 
-// What a start or a step answers, packed.
-fn pack_marked(answer: marks::Answer) -> u64
-    ensures { λ r. ⌜ r ≡ marks-packed answer ⌝ }
+// What a start or a step gives back, packed.
+fn pack_marked(numbers: marks::numbers::Numbers) -> u64
+    requires { ⌜ Marks-ranges numbers ⌝ }
+    ensures { λ r. ⌜ r ≡ marks-packed numbers ⌝ }
 {
-    match answer {
-        marks::Answer::Marked { accepting } => pack(0, accepting, 0, 0),
-        marks::Answer::NotGood => pack(10, false, 0, 0),
-        marks::Answer::TooFewWords => pack(12, false, 0, 0),
-        marks::Answer::NotMarks => pack(13, false, 0, 0),
-    }
+    pack(numbers.refusal, numbers.accepting, numbers.place, 0)
 }
 
 // Writes the marks to start with.
@@ -93,7 +90,8 @@ pub extern "C" fn foam_start(records: &[u8], words: &mut [u64]) -> u64
     ensures { λ r. ⌜ Starting (now (records .entry)) (now (words .entry)) (now (words .exit)) r ⌝ }
 {
     let answer = start(records, words);
-    pack_marked(answer)
+    let numbers = numbers_of(answer);
+    pack_marked(numbers)
 }
 
 // Turns the marks into those after one more byte.
@@ -102,7 +100,8 @@ pub extern "C" fn foam_step(records: &[u8], words: &mut [u64], byte: u8) -> u64
     ensures { λ r. ⌜ Stepping (now (records .entry)) byte (now (words .entry)) (now (words .exit)) r ⌝ }
 {
     let answer = step(records, words, byte);
-    pack_marked(answer)
+    let numbers = numbers_of(answer);
+    pack_marked(numbers)
 }
 
 // Writes the whole output of `pick` for an input: the expression is read once, and its tables are made once for all

@@ -1,15 +1,19 @@
--- What the answer of `tree::good::decide` tells, by its cases.
--- Assumes nothing.
-use Prim.Native.Nat.{ℕ}
-use mathlib.Core.Path.{_≡_}
-use mathlib.Core.List.{List}
+-- What an answer tells, by its cases: that of `tree::good::decide`, and that of a start or a step.
+use Prim.Native.Nat.{ℕ, suc}
+use mathlib.Core.Path.{_≡_, sym}
+use mathlib.Core.List.{List, [], _∷_}
 use native.Mathlib.Omega.{arith}
+use lib.ListN.{getD}
 use denote.Enum.Declared.{tagOf}
 use Rattle.tree.specs.Decide.{Judged}
 use Rattle.tree.specs.declared.good.Decided.{Decided}
 use Rattle.tree.specs.declared.good.Decided.the-variants.{Good as good, NotGood as not-good}
 use Rattle.tree.proofs.good.Decided.{the-type}
 use Rattle.tables.specs.Given.{Good-list}
+use Rattle.marks.specs.declared.Answer.{Answer}
+use Rattle.marks.specs.declared.Answer.the-variants.{Marked, NotGood, TooFewWords, NotMarks}
+use Rattle.marks.proofs.Answer.{the-type as answer-type}
+use Rattle.marks.specs.Answer.{refusing, numbers}
 use Rattle.marks.specs.Promise.{Not-good}
 
 -- the list is good
@@ -21,3 +25,15 @@ told-good not-good tag judged = absurd (omega arith)
 pub told-not-good : {list : List ℕ} (answer : Decided) → tagOf the-type answer ≡ 1 → Judged list answer → Not-good list
 told-not-good (good records pieces) tag judged = absurd (omega arith)
 told-not-good not-good tag judged = judged .fits
+
+-- the refusals of a start or a step, in the order of its cases
+abbrev refusals : List ℕ
+refusals = 10 ∷ 12 ∷ 13 ∷ []
+
+-- a case past the first is a refusal
+pub told-refusal : (answer : Answer) (place : ℕ) → tagOf answer-type answer ≡ suc place
+    → numbers answer ≡ refusing (getD refusals place 0)
+told-refusal (Marked accepting) place tag = absurd (omega arith)
+told-refusal NotGood place tag = let at : 0 ≡ place = omega arith in rw (sym at)
+told-refusal TooFewWords place tag = let at : 1 ≡ place = omega arith in rw (sym at)
+told-refusal NotMarks place tag = let at : 2 ≡ place = omega arith in rw (sym at)

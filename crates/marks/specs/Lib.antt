@@ -1,5 +1,7 @@
 -- How start and step on words hold the marks of the plain simulation.
+pub mod Answer
 pub mod Promise
+pub mod Chain
 pub mod Bits
 pub mod LowestBit
 pub mod Joining
@@ -42,3 +44,4 @@ pub mod Texts
 pub mod Alike
 pub mod Unique
 pub mod Inner
+pub mod Chained

@@ -1,14 +1,11 @@
--- What start and step promise leaves no choice: the answer and every word afterwards are determined, and each refusal
--- is given exactly
--- when the table says so, in the order 10, 12, 13.
--- Assumes nothing.
+-- What start and step promise leaves no choice: the numbers given back and every word afterwards are determined, and
+-- each refusal is given exactly when the table says so, in the order 10, 12, 13.
 use Prim.Native.Nat.{ℕ, _+_, _≤_, _<_}
 use native.Mathlib.Omega.{arith}
 use mathlib.Core.Path.{_≡_, refl, sym, ap, _∙_, subst}
 use mathlib.Core.Bool.{Bool, true, false}
 use mathlib.Core.Logic.{_↔_, Iff·symm, Iff·trans}
 use mathlib.Core.List.{List, _++_}
-use lib.Dec.{T, eqb, eqb-refl}
 use lib.ListN.{length, take, take-append-drop}
 use Rattle.language.specs.Tree.{Tree}
 use Rattle.language.specs.Automaton.{accepting, States, Started, Stepped}
@@ -19,8 +16,8 @@ use Rattle.tables.specs.Words.{run, Set-of}
 use Rattle.tree.specs.Pieces.{cut-up}
 use Rattle.marks.specs.Texts.{all-words}
 use Rattle.marks.specs.Alike.{same-words}
+use Rattle.marks.specs.Answer.{Numbers, refusing, marking, numbers}
 use Rattle.marks.specs.Promise.{
-  number-of,
   Hold,
   Marks-of,
   Refused,
@@ -29,7 +26,14 @@ use Rattle.marks.specs.Promise.{
   Too-few,
   Not-marks,
   Starts,
+  start-not-good,
+  start-too-few,
+  started,
   Steps,
+  step-not-good,
+  step-too-few,
+  step-not-marks,
+  stepped,
 }
 use Rattle.marks.specs.declared.Answer.{Answer}
 use Rattle.marks.specs.declared.Answer.the-variants.{Marked, NotGood, TooFewWords, NotMarks}
@@ -57,6 +61,20 @@ same-answer true b h = sym (h .0 refl)
 same-answer false true h = h .1 refl
 same-answer false false h = refl
 
+-- a refusal has its own number
+same-refusal : {k j : ℕ} {why : Type 0} {before after : List ℕ} {n : Numbers} → Refused k why before after n
+    → n .refusal ≡ j → n ≡ refusing j
+same-refusal a e = a .refuses ∙ ap refusing (sym (ap (λ (n : Numbers). n .refusal) (a .refuses)) ∙ e)
+
+other-number : {k j : ℕ} {why : Type 0} {before after : List ℕ} {n : Numbers} → Refused k why before after n
+    → n .refusal ≡ j → ¬ (k ≡ j) → ⊥
+other-number a e other = other (sym (ap (λ (n : Numbers). n .refusal) (a .refuses)) ∙ e)
+
+-- marks that are made have none
+none-refused : {list before after : List ℕ} {X : Tree Leaf → States} {n : Numbers} {k : ℕ}
+    → Made list X before after n → n .refusal ≡ k → 0 < k → ⊥
+none-refused made e some = omega (arith, ap (λ (n : Numbers). n .refusal) (made .marks))
+
 module _ (list before : List ℕ) where
   -- the list is good, and P holds of its tree
   abbrev Of-list : (Tree Leaf → Type 0) → Type 0
@@ -80,21 +98,16 @@ module _ (list before : List ℕ) where
     abbrev Taken : Tree Leaf → Type 0
     Taken t = (piece-count t ≤ length before) × Fine t
 
-    -- the words are taken, and X is made of them
-    record Makes (after : List ℕ) (yes' : Bool) : Type 0 where
-      pub made : Made list X before after yes'
-      pub fine : Fine (made .t)
-
     -- what start and step both promise
-    abbrev Answers : List ℕ → Answer → Type 0
-    Answers after (Marked yes') = Makes after yes'
-    Answers after NotGood = Refused before after (Not-good list)
-    Answers after TooFewWords = Refused before after (Of-list Few)
-    Answers after NotMarks = Refused before after (Of-list Bad)
+    data Answers (after : List ℕ) (n : Numbers) : Type 0 where
+      not-good : Refused 10 (Not-good list) before after n → Answers after n
+      too-few : Refused 12 (Of-list Few) before after n → Answers after n
+      not-marks : Refused 13 (Of-list Bad) before after n → Answers after n
+      makes : (made : Made list X before after n) → Fine (made .t) → Answers after n
 
-    -- then the list is good, and the words are taken
-    taken : {after : List ℕ} {yes' : Bool} → Makes after yes' → Of-list Taken
-    taken m = (m .made .t, m .made .good, (m .made .enough, m .fine))
+    -- the list is good, and the words are taken
+    taken : {after : List ℕ} {n : Numbers} (made : Made list X before after n) → Fine (made .t) → Of-list Taken
+    taken made fine = (made .t, made .good, (made .enough, fine))
 
     -- the three exclude each other
     few-taken : (t : Tree Leaf) → Few t → Taken t → ⊥
@@ -106,136 +119,177 @@ module _ (list before : List ℕ) where
     bad-taken : (t : Tree Leaf) → Bad t → Taken t → ⊥
     bad-taken t (enough, bad) (enough', fine) = bad fine
 
-    -- so each row of the table is given exactly when it says: 10
-    not-good-exactly : (after : List ℕ) (r : Answer) → Answers after r → (number-of r ≡ 10) ↔ Not-good list
-    not-good-exactly after (Marked yes') a =
-        (λ e. absurd (omega arith), λ why. absurd (why (a .made .t) (a .made .good)))
-    not-good-exactly after NotGood a = (λ e. a .because, λ why. refl)
-    not-good-exactly after TooFewWords a =
-        (λ e. absurd (omega arith), λ why. absurd (why (a .because .0) (a .because .1)))
-    not-good-exactly after NotMarks a = (λ e. absurd (omega arith), λ why. absurd (why (a .because .0) (a .because .1)))
+    module _ {after : List ℕ} {n : Numbers} where
+      -- so each row of the table is given exactly when it says: 10
+      not-good-exactly : Answers after n → (n .refusal ≡ 10) ↔ Not-good list
+      not-good-exactly (not-good a) = (λ e. a .because, λ why. rw (a .refuses))
+      not-good-exactly (too-few a) =
+          (λ e. absurd (other-number a e (omega arith)), λ why. absurd (why (a .because .0) (a .because .1)))
+      not-good-exactly (not-marks a) =
+          (λ e. absurd (other-number a e (omega arith)), λ why. absurd (why (a .because .0) (a .because .1)))
+      not-good-exactly (makes made fine) =
+          (λ e. absurd (none-refused made e (omega arith)), λ why. absurd (why (made .t) (made .good)))
 
-    -- 12
-    too-few-exactly : (after : List ℕ) (r : Answer) → Answers after r → (number-of r ≡ 12) ↔ Of-list Few
-    too-few-exactly after (Marked yes') a = (λ e. absurd (omega arith), λ why. absurd (clash few-taken why (taken a)))
-    too-few-exactly after NotGood a = (λ e. absurd (omega arith), λ why. absurd (a .because (why .0) (why .1)))
-    too-few-exactly after TooFewWords a = (λ e. a .because, λ why. refl)
-    too-few-exactly after NotMarks a = (λ e. absurd (omega arith), λ why. absurd (clash few-bad why (a .because)))
+      -- 12
+      too-few-exactly : Answers after n → (n .refusal ≡ 12) ↔ Of-list Few
+      too-few-exactly (not-good a) =
+          (λ e. absurd (other-number a e (omega arith)), λ why. absurd (a .because (why .0) (why .1)))
+      too-few-exactly (too-few a) = (λ e. a .because, λ why. rw (a .refuses))
+      too-few-exactly (not-marks a) =
+          (λ e. absurd (other-number a e (omega arith)), λ why. absurd (clash few-bad why (a .because)))
+      too-few-exactly (makes made fine) =
+          (λ e. absurd (none-refused made e (omega arith)), λ why. absurd (clash few-taken why (taken made fine)))
 
-    -- 13
-    not-marks-exactly : (after : List ℕ) (r : Answer) → Answers after r → (number-of r ≡ 13) ↔ Of-list Bad
-    not-marks-exactly after (Marked yes') a = (λ e. absurd (omega arith), λ why. absurd (clash bad-taken why (taken a)))
-    not-marks-exactly after NotGood a = (λ e. absurd (omega arith), λ why. absurd (a .because (why .0) (why .1)))
-    not-marks-exactly after TooFewWords a = (λ e. absurd (omega arith), λ why. absurd (clash few-bad (a .because) why))
-    not-marks-exactly after NotMarks a = (λ e. a .because, λ why. refl)
+      -- 13
+      not-marks-exactly : Answers after n → (n .refusal ≡ 13) ↔ Of-list Bad
+      not-marks-exactly (not-good a) =
+          (λ e. absurd (other-number a e (omega arith)), λ why. absurd (a .because (why .0) (why .1)))
+      not-marks-exactly (too-few a) =
+          (λ e. absurd (other-number a e (omega arith)), λ why. absurd (clash few-bad (a .because) why))
+      not-marks-exactly (not-marks a) = (λ e. a .because, λ why. rw (a .refuses))
+      not-marks-exactly (makes made fine) =
+          (λ e. absurd (none-refused made e (omega arith)), λ why. absurd (clash bad-taken why (taken made fine)))
 
-    -- and none
-    taken-exactly : (after : List ℕ) (r : Answer) → Answers after r → (number-of r ≡ 0) ↔ Of-list Taken
-    taken-exactly after (Marked yes') a = (λ e. taken a, λ why. refl)
-    taken-exactly after NotGood a = (λ e. absurd (omega arith), λ why. absurd (a .because (why .0) (why .1)))
-    taken-exactly after TooFewWords a = (λ e. absurd (omega arith), λ why. absurd (clash few-taken (a .because) why))
-    taken-exactly after NotMarks a = (λ e. absurd (omega arith), λ why. absurd (clash bad-taken (a .because) why))
+      -- and none
+      taken-exactly : Answers after n → (n .refusal ≡ 0) ↔ Of-list Taken
+      taken-exactly (not-good a) =
+          (λ e. absurd (other-number a e (omega arith)), λ why. absurd (a .because (why .0) (why .1)))
+      taken-exactly (too-few a) =
+          (λ e. absurd (other-number a e (omega arith)), λ why. absurd (clash few-taken (a .because) why))
+      taken-exactly (not-marks a) =
+          (λ e. absurd (other-number a e (omega arith)), λ why. absurd (clash bad-taken (a .because) why))
+      taken-exactly (makes made fine) = (λ e. taken made fine, λ why. rw (made .marks))
 
-    -- where the words are taken, the list's tree determines the rest
-    made-unique : {after after' : List ℕ} {yes' yes'' : Bool} → Made list X before after yes'
-        → Made list X before after' yes'' → (Marked yes' ≡ Marked yes'') × (after ≡ after')
-    made-unique {after} {after'} {yes'} {yes''} one other =
+      -- a number that is not 0 is that of a refusal, and every word is as it was
+      refused-by : (k : ℕ) → Answers after n → n .refusal ≡ k → 0 < k → (n ≡ refusing k) × (after ≡ before)
+      refused-by k (not-good a) e some = (same-refusal a e, a .unchanged)
+      refused-by k (too-few a) e some = (same-refusal a e, a .unchanged)
+      refused-by k (not-marks a) e some = (same-refusal a e, a .unchanged)
+      refused-by k (makes made fine) e some = absurd (none-refused made e some)
+
+      -- where there is none, the marks are made
+      made-by : Answers after n → n .refusal ≡ 0 → Made list X before after n
+      made-by (not-good a) e = absurd (other-number a e (omega arith))
+      made-by (too-few a) e = absurd (other-number a e (omega arith))
+      made-by (not-marks a) e = absurd (other-number a e (omega arith))
+      made-by (makes made fine) e = made
+
+    -- where the marks are made, the list's tree determines the rest
+    made-unique : {after after' : List ℕ} {n n' : Numbers} → Made list X before after n → Made list X before after' n'
+        → (n ≡ n') × (after ≡ after')
+    made-unique {after} {after'} {n} {n'} one other =
         let same : other .t ≡ one .t = good-unique list (other .t) (one .t) (other .good) (one .good) in
-        let says : (yes'' ≡ true) ↔ X (one .t) accepting =
-        subst (λ (t : Tree Leaf). (yes'' ≡ true) ↔ X t accepting) same (other .answer) in (
-          ap Marked (same-answer yes' yes'' (Iff·trans (one .answer) (Iff·symm says))),
+        let says : (n' .accepting ≡ true) ↔ X (one .t) accepting =
+        subst (λ (t : Tree Leaf). (n' .accepting ≡ true) ↔ X t accepting) same (other .answer) in (
+          one .marks
+              ∙ ap marking (same-answer (n .accepting) (n' .accepting) (Iff·trans (one .answer) (Iff·symm says)))
+              ∙ sym (other .marks),
           hold-unique (one .t) (X (one .t)) before after after' (one .enough) (one .hold)
               (subst (λ (t : Tree Leaf). Hold t (X t) before after') same (other .hold)),
         )
 
-    -- the reason of one answer gives the other its number
-    same-number : (after after' : List ℕ) (r r' : Answer) → Answers after r → Answers after' r'
-        → number-of r ≡ number-of r'
-    same-number after after' (Marked yes') r' a b = sym (taken-exactly after' r' b .1 (taken a))
-    same-number after after' NotGood r' a b = sym (not-good-exactly after' r' b .1 (a .because))
-    same-number after after' TooFewWords r' a b = sym (too-few-exactly after' r' b .1 (a .because))
-    same-number after after' NotMarks r' a b = sym (not-marks-exactly after' r' b .1 (a .because))
-
-    -- answers of one number are the same: a refusal leaves every word as it was
-    settled : (after after' : List ℕ) (r r' : Answer) → T (eqb (number-of r) (number-of r')) → Answers after r
-        → Answers after' r' → (r ≡ r') × (after ≡ after')
-    settled after after' (Marked yes') (Marked yes'') same a b = made-unique (a .made) (b .made)
-    settled after after' NotGood NotGood same a b = (refl, a .unchanged ∙ sym (b .unchanged))
-    settled after after' TooFewWords TooFewWords same a b = (refl, a .unchanged ∙ sym (b .unchanged))
-    settled after after' NotMarks NotMarks same a b = (refl, a .unchanged ∙ sym (b .unchanged))
+    -- the reason of one refusal gives the other its number
+    both-refused : {after after' : List ℕ} {n n' : Numbers} (k : ℕ) → 0 < k → n ≡ refusing k → after ≡ before
+        → Answers after' n' → n' .refusal ≡ k → (n ≡ n') × (after ≡ after')
+    both-refused k some refuses unchanged b e =
+        let other = refused-by k b e some in (refuses ∙ sym (other .0), unchanged ∙ sym (other .1))
 
     -- so two results are the same
-    answers-unique : (after after' : List ℕ) (r r' : Answer) → Answers after r → Answers after' r'
-        → (r ≡ r') × (after ≡ after')
-    answers-unique after after' r r' a b =
-        settled after after' r r'
-        (subst (λ (n : ℕ). T (eqb (number-of r) n)) (same-number after after' r r' a b) (eqb-refl (number-of r))) a b
+    answers-unique : {after after' : List ℕ} {n n' : Numbers} → Answers after n → Answers after' n'
+        → (n ≡ n') × (after ≡ after')
+    answers-unique (not-good a) b =
+        both-refused 10 (omega arith) (a .refuses) (a .unchanged) b (not-good-exactly b .1 (a .because))
+    answers-unique (too-few a) b =
+        both-refused 12 (omega arith) (a .refuses) (a .unchanged) b (too-few-exactly b .1 (a .because))
+    answers-unique (not-marks a) b =
+        both-refused 13 (omega arith) (a .refuses) (a .unchanged) b (not-marks-exactly b .1 (a .because))
+    answers-unique (makes made fine) b = made-unique made (made-by b (taken-exactly b .1 (taken made fine)))
 
 -- what start promises, in these words: nothing is asked of the words lent
-starts-answers : (list before after : List ℕ) (r : Answer) → Starts list before after r
-    → Answers list before (λ t. Started meaning t) (λ t. Unit {0}) after r
-starts-answers list before after (Marked yes') s = record { made = s; fine = tt }
-starts-answers list before after NotGood s = s
-starts-answers list before after TooFewWords s = s
+starts-answers : {list before after : List ℕ} {n : Numbers} → Starts list before after n
+    → Answers list before (λ t. Started meaning t) (λ t. Unit {0}) after n
+starts-answers (start-not-good a) = not-good a
+starts-answers (start-too-few a) = too-few a
+starts-answers (started made) = makes made tt
 
 -- what step promises: the words lent are marks
-steps-answers : (list : List ℕ) (byte : ℕ) (before after : List ℕ) (r : Answer) → Steps list byte before after r
-    → Answers list before (λ t. Stepped meaning t byte (Set-of (cut-up t) before)) (λ t. Marks-of t before) after r
-steps-answers list byte before after (Marked yes') s = record { made = s .made; fine = s .from-marks }
-steps-answers list byte before after NotGood s = s
-steps-answers list byte before after TooFewWords s = s
-steps-answers list byte before after NotMarks s =
-    record { because = (s .because .0, s .because .1, (s .because .2, s .because .3)); unchanged = s .unchanged }
+steps-answers : {list : List ℕ} {byte : ℕ} {before after : List ℕ} {n : Numbers} → Steps list byte before after n
+    → Answers list before (λ t. Stepped meaning t byte (Set-of (cut-up t) before)) (λ t. Marks-of t before) after n
+steps-answers (step-not-good a) = not-good a
+steps-answers (step-too-few a) = too-few a
+steps-answers (step-not-marks a) =
+    let (t, good, enough, bad) = a .because in
+    not-marks (record { because = (t, good, (enough, bad)); refuses = a .refuses; unchanged = a .unchanged })
+steps-answers (stepped on) = makes (on .made) (on .from-marks)
 
-module _ (list before : List ℕ) where
+module _ {list before : List ℕ} where
   -- two results of start that fit its promise are the same, with every word
-  pub starts-unique : (after after' : List ℕ) (r r' : Answer) → Starts list before after r
-      → Starts list before after' r' → (r ≡ r') × (after ≡ after')
-  starts-unique after after' r r' a b =
-      answers-unique list before _ _ after after' r r' (starts-answers list before after r a)
-      (starts-answers list before after' r' b)
+  pub starts-unique : {after after' : List ℕ} {n n' : Numbers} → Starts list before after n
+      → Starts list before after' n' → (n ≡ n') × (after ≡ after')
+  starts-unique a b = answers-unique list before _ _ (starts-answers a) (starts-answers b)
 
-  module _ (after : List ℕ) (r : Answer) (s : Starts list before after r) where
+  module _ {after : List ℕ} {n : Numbers} (s : Starts list before after n) where
     -- start answers 10 exactly when the list is not good
-    pub starts-not-good : (number-of r ≡ 10) ↔ Not-good list
-    starts-not-good = not-good-exactly list before _ _ after r (starts-answers list before after r s)
+    pub starts-not-good : (n .refusal ≡ 10) ↔ Not-good list
+    starts-not-good = not-good-exactly list before _ _ (starts-answers s)
 
     -- 12 exactly when it is good and fewer words are lent than there are pieces
-    pub starts-too-few : (number-of r ≡ 12) ↔ Too-few list before
-    starts-too-few = too-few-exactly list before _ _ after r (starts-answers list before after r s)
+    pub starts-too-few : (n .refusal ≡ 12) ↔ Too-few list before
+    starts-too-few = too-few-exactly list before _ _ (starts-answers s)
 
     -- and no refusal exactly when it is good and there are words enough
-    pub starts-taken : (number-of r ≡ 0) ↔ ((t : Tree Leaf) × Good list t × (piece-count t ≤ length before))
+    pub starts-taken : (n .refusal ≡ 0) ↔ ((t : Tree Leaf) × Good list t × (piece-count t ≤ length before))
     starts-taken =
-        Iff·trans (taken-exactly list before _ _ after r (starts-answers list before after r s))
+        Iff·trans (taken-exactly list before _ _ (starts-answers s))
         (λ (t, good, taken). (t, good, taken .0), λ (t, good, enough). (t, good, (enough, tt)))
 
-module _ (list : List ℕ) (byte : ℕ) (before : List ℕ) where
+module _ {list : List ℕ} {byte : ℕ} {before : List ℕ} where
   -- two results of step that fit its promise are the same, with every word
-  pub steps-unique : (after after' : List ℕ) (r r' : Answer) → Steps list byte before after r
-      → Steps list byte before after' r' → (r ≡ r') × (after ≡ after')
-  steps-unique after after' r r' a b =
-      answers-unique list before _ _ after after' r r' (steps-answers list byte before after r a)
-      (steps-answers list byte before after' r' b)
+  pub steps-unique : {after after' : List ℕ} {n n' : Numbers} → Steps list byte before after n
+      → Steps list byte before after' n' → (n ≡ n') × (after ≡ after')
+  steps-unique a b = answers-unique list before _ _ (steps-answers a) (steps-answers b)
 
-  module _ (after : List ℕ) (r : Answer) (s : Steps list byte before after r) where
+  module _ {after : List ℕ} {n : Numbers} (s : Steps list byte before after n) where
     -- step answers 10 exactly when the list is not good
-    pub steps-not-good : (number-of r ≡ 10) ↔ Not-good list
-    steps-not-good = not-good-exactly list before _ _ after r (steps-answers list byte before after r s)
+    pub steps-not-good : (n .refusal ≡ 10) ↔ Not-good list
+    steps-not-good = not-good-exactly list before _ _ (steps-answers s)
 
     -- 12 exactly when it is good and fewer words are lent than there are pieces
-    pub steps-too-few : (number-of r ≡ 12) ↔ Too-few list before
-    steps-too-few = too-few-exactly list before _ _ after r (steps-answers list byte before after r s)
+    pub steps-too-few : (n .refusal ≡ 12) ↔ Too-few list before
+    steps-too-few = too-few-exactly list before _ _ (steps-answers s)
 
     -- 13 exactly when it is good, there are words enough, and they are no marks of it
-    pub steps-not-marks : (number-of r ≡ 13) ↔ Not-marks list before
+    pub steps-not-marks : (n .refusal ≡ 13) ↔ Not-marks list before
     steps-not-marks =
-        Iff·trans (not-marks-exactly list before _ _ after r (steps-answers list byte before after r s))
+        Iff·trans (not-marks-exactly list before _ _ (steps-answers s))
         (λ (t, good, bad). (t, good, bad .0, bad .1), λ (t, good, enough, bad). (t, good, (enough, bad)))
 
     -- and no refusal exactly when it is good, there are words enough, and they are marks of it
-    pub steps-taken : (number-of r ≡ 0)
+    pub steps-taken : (n .refusal ≡ 0)
         ↔ ((t : Tree Leaf) × Good list t × (piece-count t ≤ length before) × Marks-of t before)
     steps-taken =
-        Iff·trans (taken-exactly list before _ _ after r (steps-answers list byte before after r s))
+        Iff·trans (taken-exactly list before _ _ (steps-answers s))
         (λ (t, good, taken). (t, good, taken .0, taken .1), λ (t, good, enough, marks). (t, good, (enough, marks)))
+
+-- an answer is known from its numbers
+pub numbers-injective : (r s : Answer) → numbers r ≡ numbers s → r ≡ s
+numbers-injective r s e = known r s (ap (λ (n : Numbers). n .refusal) e) (ap (λ (n : Numbers). n .accepting) e)
+  where
+    known : (r s : Answer) → numbers r .refusal ≡ numbers s .refusal → numbers r .accepting ≡ numbers s .accepting
+        → r ≡ s
+    known (Marked yes') (Marked yes'') e f = ap Marked f
+    known (Marked yes') NotGood e f = absurd (omega arith)
+    known (Marked yes') TooFewWords e f = absurd (omega arith)
+    known (Marked yes') NotMarks e f = absurd (omega arith)
+    known NotGood (Marked yes') e f = absurd (omega arith)
+    known NotGood NotGood e f = refl
+    known NotGood TooFewWords e f = absurd (omega arith)
+    known NotGood NotMarks e f = absurd (omega arith)
+    known TooFewWords (Marked yes') e f = absurd (omega arith)
+    known TooFewWords NotGood e f = absurd (omega arith)
+    known TooFewWords TooFewWords e f = refl
+    known TooFewWords NotMarks e f = absurd (omega arith)
+    known NotMarks (Marked yes') e f = absurd (omega arith)
+    known NotMarks NotGood e f = absurd (omega arith)
+    known NotMarks TooFewWords e f = absurd (omega arith)
+    known NotMarks NotMarks e f = refl

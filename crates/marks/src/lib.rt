@@ -5,6 +5,7 @@ pub mod close;
 pub mod inner;
 pub mod leaves;
 pub mod moves;
+pub mod numbers;
 pub mod reach;
 pub mod sweep;
 
@@ -14,7 +15,10 @@ use crate::inner::begin;
 use crate::inner::prepare;
 use tree::good::Decided;
 use tree::good::decide;
+ghost use mathlib.Core.Path.{_≡_};
+ghost use mathlib.Core.Bool.{true, false};
 ghost use Rattle.tables.specs.Given.{Good-list};
+ghost use Rattle.marks.specs.Answer.{numbers};
 ghost use Rattle.marks.specs.Promise.{Starts, Steps};
 
 // What a start or a step answers.
@@ -29,10 +33,13 @@ pub enum Answer {
     NotMarks,
 }
 
-// Starts on a list that is known to be good.
-fn start_good(list: &[u8], words: &mut [u64]) -> Answer
+// Starts, or steps along the byte, on a list that is known to be good: the tables are made for either.
+fn mark_good(list: &[u8], words: &mut [u64], stepping: bool, byte: u8) -> Answer
     requires { ⌜ Good-list (now list) ⌝ }
-    ensures { λ r. ⌜ Starts (now (list .entry)) (now (words .entry)) (now (words .exit)) r ⌝ }
+    ensures { λ r. ⌜ (stepping ≡ false
+        → Starts (now (list .entry)) (now (words .entry)) (now (words .exit)) (numbers r)) ⌝ }
+    ensures { λ r. ⌜ (stepping ≡ true
+        → Steps (now (list .entry)) byte (now (words .entry)) (now (words .exit)) (numbers r)) ⌝ }
 {
     let mut reach = [0u64; 8192];
     let mut labels = [0u16; 8192];
@@ -49,42 +56,21 @@ fn start_good(list: &[u8], words: &mut [u64]) -> Answer
     );
     if words.len() < count {
         return Answer::TooFewWords;
+    }
+    if stepping {
+        if !agreeing(&runs, &stands, &tops, words, count) {
+            return Answer::NotMarks;
+        }
+        let accepting = advance(&reach, &labels, &runs, &stands, &tops, count, words, byte);
+        return Answer::Marked { accepting };
     }
     let accepting = begin(&reach, &labels, &runs, &stands, &tops, count, words);
     Answer::Marked { accepting }
 }
 
-// Steps on a list that is known to be good.
-fn step_good(list: &[u8], words: &mut [u64], byte: u8) -> Answer
-    requires { ⌜ Good-list (now list) ⌝ }
-    ensures { λ r. ⌜ Steps (now (list .entry)) byte (now (words .entry)) (now (words .exit)) r ⌝ }
-{
-    let mut reach = [0u64; 8192];
-    let mut labels = [0u16; 8192];
-    let mut runs = [0u8; 128];
-    let mut stands = [0u8; 128];
-    let mut tops = [0u8; 128];
-    let count = prepare(
-        list,
-        &mut reach,
-        &mut labels,
-        &mut runs,
-        &mut stands,
-        &mut tops,
-    );
-    if words.len() < count {
-        return Answer::TooFewWords;
-    }
-    if !agreeing(&runs, &stands, &tops, words, count) {
-        return Answer::NotMarks;
-    }
-    let accepting = advance(&reach, &labels, &runs, &stands, &tops, count, words, byte);
-    Answer::Marked { accepting }
-}
-
 // Marks the root's start in the lent words and closes.
 pub fn start(list: &[u8], words: &mut [u64]) -> Answer
-    ensures { λ r. ⌜ Starts (now (list .entry)) (now (words .entry)) (now (words .exit)) r ⌝ }
+    ensures { λ r. ⌜ Starts (now (list .entry)) (now (words .entry)) (now (words .exit)) (numbers r) ⌝ }
 {
     let decided = decide(list);
     let Decided::Good {
@@ -94,12 +80,12 @@ pub fn start(list: &[u8], words: &mut [u64]) -> Answer
     else {
         return Answer::NotGood;
     };
-    start_good(list, words)
+    mark_good(list, words, false, 0)
 }
 
 // Moves the marks in the lent words along the byte and closes.
 pub fn step(list: &[u8], words: &mut [u64], byte: u8) -> Answer
-    ensures { λ r. ⌜ Steps (now (list .entry)) byte (now (words .entry)) (now (words .exit)) r ⌝ }
+    ensures { λ r. ⌜ Steps (now (list .entry)) byte (now (words .entry)) (now (words .exit)) (numbers r) ⌝ }
 {
     let decided = decide(list);
     let Decided::Good {
@@ -109,5 +95,5 @@ pub fn step(list: &[u8], words: &mut [u64], byte: u8) -> Answer
     else {
         return Answer::NotGood;
     };
-    step_good(list, words, byte)
+    mark_good(list, words, true, byte)
 }

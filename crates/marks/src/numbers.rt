@@ -1,0 +1,41 @@
+// The numbers of an answer, for callers that print or pack them.
+use crate::Answer;
+ghost use mathlib.Core.Path.{_≡_};
+ghost use Rattle.marks.specs.Answer.{numbers};
+
+// What a start or a step gives back in numbers.
+pub struct Numbers {
+    // The refusal's number, 0 for none.
+    pub refusal: u8,
+    // Its place.
+    pub place: usize,
+    // Whether the root's accepting state is now marked.
+    pub accepting: bool,
+}
+
+// The numbers of an answer.
+pub fn numbers_of(answer: Answer) -> Numbers
+    ensures { λ r. ⌜ r ≡ numbers answer ⌝ }
+{
+    match answer {
+        Answer::Marked { accepting } => Numbers {
+            refusal: 0,
+            place: 0,
+            accepting,
+        },
+        Answer::NotGood => refusing(10),
+        Answer::TooFewWords => refusing(12),
+        Answer::NotMarks => refusing(13),
+    }
+}
+
+// The numbers of a refusal.
+fn refusing(number: u8) -> Numbers
+    ensures { λ r. ⌜ r ≡ Rattle.marks.specs.Answer.refusing number ⌝ }
+{
+    Numbers {
+        refusal: number,
+        place: 0,
+        accepting: false,
+    }
+}
