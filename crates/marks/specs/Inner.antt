@@ -19,7 +19,7 @@ use Rattle.language.specs.Models.{State-of, alike-models, models-alike, models-
 use Rattle.language.specs.Along.{reached-state}
 use Rattle.tree.specs.Leaf.{Leaf, meaning}
 use Rattle.tree.specs.Records.{Good}
-use Rattle.tree.specs.Nesting.{Small, Every-below}
+use Rattle.tree.specs.Nesting.{every-below}
 use Rattle.tree.specs.Pieces.{cut-up, stated}
 use Rattle.tables.specs.Words.{Bit, width, run, Holds, Clean, Agreeing, Set-of}
 use Rattle.tables.specs.Plan.{Pieces, Planned}
@@ -30,7 +30,7 @@ use Rattle.marks.specs.EachClosed.{Each-closed-below}
 use Rattle.marks.specs.Swept.{Nearly-closed, Quiet, Narrow-below, Laid}
 use Rattle.marks.specs.Reclosing.{closed-nearly}
 use Rattle.tables.specs.Given
-use Rattle.tables.specs.Given.{width-own}
+use Rattle.tables.specs.Given.{small-narrow}
 use Rattle.marks.specs.Table.{Closed-all}
 use Rattle.marks.specs.Leaves.{Leaves-noted, kept-each}
 use Rattle.marks.specs.Low.{low-tops, checkable}
@@ -83,20 +83,12 @@ ext-drop n v w long same =
     ext-getD 0 (drop n v) (drop n w) (simp length-drop (omega arith))
     (λ i inside. rw (getD-drop n v i 0, getD-drop n w i 0) (same (n + i) (omega arith)))
 
--- every child piece of a tree has at most 62 states, where each is small
-narrow-below : (x : Nested Leaf) → Every-below Small x → Narrow-below x
-narrow-below (leaf a) h = tt
-narrow-below (catenation x y) h = (narrow-below x (h .0), narrow-below y (h .1))
-narrow-below (union x y) h = (narrow-below x (h .0), narrow-below y (h .1))
-narrow-below (star x) h = narrow-below x h
-narrow-below (below x) h = (omega (arith, width-own x, h .0 .few-own-nodes), narrow-below x (h .1))
-
--- so it is with the pieces of every tree
+-- every piece of a tree's cut has at most 62 states
 pub all-narrow : (t : Tree Leaf) → Narrow-below (cut-up t)
-all-narrow t = narrow-below (cut-up t) (stated t .every-small .1)
+all-narrow t = every-below small-narrow (cut-up t) (stated t .every-small .1)
 
 pub narrow : (t : Tree Leaf) → width (cut-up t) ≤ 62
-narrow t = omega (arith, width-own (cut-up t), stated t .every-small .0 .few-own-nodes)
+narrow t = small-narrow (cut-up t) (stated t .every-small .0)
 
 -- the marks to start with, and whether the accepting state is among them
 pub record Begun (t : Tree Leaf) (before after : List ℕ) (yes' : Bool) : Type 0 where

@@ -45,3 +45,4 @@ pub mod Alike
 pub mod Unique
 pub mod Inner
 pub mod Chained
+pub mod States

@@ -9,6 +9,7 @@ use lib.Bits.{bitOr}
 use Rattle.language.specs.Automaton.{State, start, Path-of}
 use Rattle.language.specs.Nested.{Nested, leaf, catenation, union, star, below, Has, Sweep, Own-empty}
 use Rattle.tree.specs.Leaf.{Leaf, meaning}
+use Rattle.tree.specs.Nesting.{Every-below}
 use Rattle.tables.specs.Words.{Bit, width, run, Own, number, Holds, Clean}
 use Rattle.tables.specs.Plan.{Pieces, Piece-at, Children-at, row, Reaches, Each-below, Closes}
 use Rattle.marks.specs.EachClosed.{Each-closed, Each-closed-below}
@@ -44,11 +45,7 @@ Quiet k from to words = (o : ℕ) → 0 < o → o < length words → (k + o < fr
 
 -- each child piece below x, and each below that, has at most 62 states
 abbrev pub Narrow-below : Nested Leaf → Type 0
-Narrow-below (leaf a) = Unit {0}
-Narrow-below (catenation x y) = Narrow-below x × Narrow-below y
-Narrow-below (union x y) = Narrow-below x × Narrow-below y
-Narrow-below (star x) = Narrow-below x
-Narrow-below (below x) = (width x ≤ 62) × Narrow-below x
+Narrow-below x = Every-below (λ y. width y ≤ 62) x
 
 -- tables of the pieces with these numbers
 abbrev pub tables : (labels runs stands tops : List ℕ) → Pieces
