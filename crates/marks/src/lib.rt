@@ -1,13 +1,13 @@
 // Marks in words: start and step, by moves and sweeps over the pieces of a good list.
-pub mod agree;
-pub mod bits;
-pub mod close;
+mod agree;
+mod bits;
+mod close;
 pub mod inner;
-pub mod leaves;
-pub mod moves;
+mod leaves;
+mod moves;
 pub mod numbers;
-pub mod reach;
-pub mod sweep;
+mod reach;
+mod sweep;
 
 use crate::agree::agreeing;
 use crate::inner::advance;

@@ -90,7 +90,7 @@ agreeing-requires c κs =
     let made = tables-made (enough .before) in
     let known = entry made .pre in
     prepared-checkable (made .prepare .ensures .1 (known .some) (known .good)) (made .prepare .ensures .0)
-    (enough .if1 .left)
+    (omega (arith, enough .if1 .left))
 
 same-length : tie.Need-same-length
 same-length c = search needs
@@ -140,7 +140,7 @@ advance-requires c κs =
     let both = prepared-told prepared (entry made .args .words .now) (looked .before .agreeing .ensures) in
     record {
       ready = record { roomy = made .prepare .ensures .0; of-tree = (known .some, prepared) };
-      enough = enough .if1 .left;
+      enough = omega (arith, enough .if1 .left);
       clean = both .holds (not-false _ (looked .if3 .left)) .0;
     }
 
@@ -198,7 +198,7 @@ begin-requires c κs =
         roomy = made .prepare .ensures .0;
         of-tree = (known .some, made .prepare .ensures .1 (known .some) (known .good));
       },
-      enough .if1 .left,
+      omega (arith, enough .if1 .left),
     )
 
 same-length-3 : tie.Need-same-length-3
