@@ -1,4 +1,4 @@
-// Both sides of each edge of the statement: what is refused and what is not, a line each.
+// Both sides of each limit and refusal of docs/REFERENCE.md: what is refused and what is not, a line each.
 mod finding;
 mod marking;
 mod reading;

@@ -1,4 +1,4 @@
--- The automaton of a tree, after document 002: two fresh states for every node, catenation too. And its plain
+-- The automaton of a tree, after Bille's paper: two fresh states for every node, catenation too. And its plain
 -- simulation.
 use Prim.Native.Nat.{ℕ}
 use mathlib.Core.Path.{_≡_}

@@ -1,4 +1,4 @@
--- The language of a tree, after document 002: which texts, lists of bytes, it matches.
+-- The language of a tree, after Bille's paper (docs/REFERENCE.md, section 11): which texts, lists of bytes, it matches.
 use Prim.Native.Nat.{ℕ}
 use mathlib.Core.Path.{_≡_}
 use mathlib.Core.List.{List, [], _∷_, _++_}

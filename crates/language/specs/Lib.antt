@@ -1,5 +1,5 @@
--- What the matcher is measured against: trees, their language, the automaton of document 002, and the same automaton
--- cut into pieces.
+-- What the matcher is measured against: trees, their language, the automaton of Bille's paper (docs/REFERENCE.md,
+-- section 11), and the same automaton cut into pieces.
 pub mod Tree
 pub mod Meaning
 pub mod Language

@@ -1,4 +1,4 @@
--- A tree cut into connected pieces, and the simulation of document 002 on it: moves and sweeps.
+-- A tree cut into connected pieces, and the simulation of Bille's paper on it: moves and sweeps.
 use Prim.Native.Nat.{ℕ}
 use mathlib.Core.Path.{_≡_}
 use mathlib.Core.Logic.{_⊎_, _↔_}

@@ -1,4 +1,4 @@
-// Document 002's table: one word for each state of each piece, with the bits of the states that empty transitions reach
+// The closing table: one word for each state of each piece, with the bits of the states that empty transitions reach
 // from it.
 // It is made in place from the words of the empty transitions themselves, by Warshall's way, from the last state down:
 // nearly all lead ahead.

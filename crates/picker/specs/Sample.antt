@@ -1,4 +1,4 @@
--- The sample of the statement, and the edges of the input, by computing the output.
+-- Examples of docs/REFERENCE.md, section 8, and the edges of the input, by computing the output.
 -- Assumes nothing.
 use Prim.Native.Nat.{ℕ}
 use mathlib.Core.Path.{_≡_, refl}

@@ -82,7 +82,7 @@ Planned tables x = Piece-at tables x 0 × Children-at tables x 0 1
 abbrev pub Nexts : Nested Leaf → List ℕ → Type 0
 Nexts x words = words ≡ nexts x 0 0
 
--- document 002's table of the top piece: one word for each state, with the bits of the states that empty transitions
+-- the closing table of the top piece: one word for each state, with the bits of the states that empty transitions
 -- reach from it
 pub record Reaches (x : Nested Leaf) (words : List ℕ) : Type 0 where
   pub exactly : (p q : State) → Own x p → Own x q → Bit (getD words (number x p) 0) (number x q)

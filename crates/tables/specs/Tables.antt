@@ -19,7 +19,7 @@ use Rattle.tables.specs.Plan.{Planned, Each, Reaches}
 pub record Noted (reach labels : List ℕ) (k : ℕ) : Type 0 where
   pub leaves : (i : ℕ) → i < 62 → (getD labels (64 * k + i) 0 ≡ 0 → ⊥) → Bit (getD reach (64 * k + 63) 0) i
 
--- the tables are those of t: of its pieces, and document 002's table of each, with its leaves noted
+-- the tables are those of t: of its pieces, and the closing table of each, with its leaves noted
 pub record Prepared (t : Tree Leaf) (reach labels runs stands tops : List ℕ) (count : ℕ) : Type 0 where
   pub planned : Planned (record { labels = labels; runs = runs; stands = stands; tops = tops }) (cut-up t)
   pub reached : Each Reaches reach (cut-up t)
