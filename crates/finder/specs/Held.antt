@@ -9,18 +9,14 @@ use lib.ListN.{getD, drop}
 use lib.Dec.{eqb, ltb}
 use borrow.Author.Tests.{eqb-true, eq-eqb, ltb-true}
 use Rattle.language.specs.Tree.{Tree}
-use Rattle.language.specs.Automaton.{State, start, accepting, left, right, States, Started, After}
-use Rattle.language.specs.Nested.{Nested, leaf, catenation, union, star, below, whole, Has, Models}
+use Rattle.language.specs.Automaton.{State, start, accepting, left, right}
+use Rattle.language.specs.Nested.{Nested, leaf, catenation, union, star, below, whole, Has}
 use Rattle.tree.specs.Leaf.{Leaf, meaning}
 use Rattle.tree.specs.Pieces.{cut-up, stated}
-use Rattle.tables.specs.Words.{Bit, width, run, Marked, Holds, Clean-below, Clean}
+use Rattle.tables.specs.Words.{Bit, width, run, Marked, Clean-below}
+use Rattle.tables.specs.Tables.{Holding}
 use Rattle.finder.specs.Decide.{leaf-tests}
 use Rattle.finder.specs.Computed.{Test, Passing, start-test, after-test, computed-models}
-
--- the words hold the marks X of the tree's automaton, cut up, and no bit past the last state is set
-pub record Held (t : Tree Leaf) (words : List ℕ) (X : States) : Type 0 where
-  pub clean : Clean (cut-up t) words
-  pub models : Models (cut-up t) (Holds (cut-up t) words) X
 
 -- bit i of w as a test
 abbrev bit : ℕ → ℕ → Bool
@@ -142,7 +138,7 @@ holds-after t text words =
 
 -- they do where the test passes
 pub held-after : (t : Tree Leaf) (text words : List ℕ) → holds-after t text words ≡ true
-    → Held t words (After meaning t text (Started meaning t))
+    → Holding t text words
 unfolding holds-after
 held-after t text words e =
     let x : Nested Leaf = cut-up t in
@@ -150,6 +146,6 @@ held-after t text words e =
     let same : whole x ≡ t = stated t .same-tree in
     record {
       clean = tidy-clean (below x) words (also-first _ _ e);
-      models = λ q has. Iff·trans (agrees-exactly x (getD words 0 0) 0 (drop 1 words) _ (also-second _ _ e) q has)
+      modelled = λ q has. Iff·trans (agrees-exactly x (getD words 0 0) 0 (drop 1 words) _ (also-second _ _ e) q has)
           (rw same at (computed q has));
     }

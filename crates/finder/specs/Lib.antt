@@ -1,15 +1,18 @@
 -- What match and search answer: a text in the language, the earliest and then the longest part of a text that is.
-pub mod Answer
+-- First the definitions that the contracts rest on, then what follows from them.
 pub mod Found
-pub mod Progress
-pub mod Reached
-pub mod Decide
-pub mod Searched
+pub mod Answer
 pub mod Promise
-pub mod Computed
-pub mod Held
 pub mod Refusals
 pub mod Unique
+-- tests that compute what is in a language, what is found and which marks words hold
+pub mod Decide
+pub mod Searched
+pub mod Computed
+pub mod Held
+pub mod Leaving
+-- how the code comes to its answer: open to this crate's own code and proofs, which a private module is not
+pub mod Progress
 pub mod Taken
 pub mod Parts
 pub mod Answering

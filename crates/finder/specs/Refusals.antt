@@ -1,5 +1,5 @@
--- Match and search refuse exactly when the table says so: 10, then 11, else not at all. A text of 65,536 bytes is taken,
--- one of 65,537 is not. And what they say where they refuse nothing.
+-- Match and search refuse exactly when the table says so: 10, then 11, else not at all. A text of 65,536 bytes is
+-- taken, one of 65,537 is not. And what they say where they refuse nothing.
 use Prim.Native.Nat.{ℕ, _≤_}
 use native.Mathlib.Omega.{arith}
 use mathlib.Core.Path.{_≡_, refl, sym}

@@ -79,7 +79,8 @@ module _ (L : List ℕ → Type 0) (test : List ℕ → Bool) (exactly : (w : Li
     answer-settled s (some e) later before settled go = settled-found L text s e before settled
 
     -- by induction on the starts that are left
-    answers-from : (s n : ℕ) → s + n ≡ length text + 1 → None-before L text s → Answers L text (answer-from test text s n)
+    answers-from : (s n : ℕ) → s + n ≡ length text + 1 → None-before L text s
+        → Answers L text (answer-from test text s n)
     unfolding answer-from
     answers-from s zero h before = let end : s ≡ length text + 1 =
         omega arith in none-before-end L text (rw end at before)

@@ -4,8 +4,7 @@ pub mod numbers;
 mod part;
 mod text;
 
-pub use part::Part;
-pub use part::first_part;
+use part::Part;
 pub use text::text_matches;
 ghost use Rattle.finder.specs.Answer.{match-numbers, search-numbers};
 ghost use Rattle.finder.specs.Promise.{Match-answers, Search-answers};

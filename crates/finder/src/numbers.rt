@@ -4,7 +4,8 @@ use crate::Searched;
 ghost use mathlib.Core.Path.{_≡_};
 ghost use Rattle.finder.specs.Answer.{refusing, answering, match-numbers, search-numbers};
 
-// The refusal's number, 0 for none, and its place; whether the text matches, or a part of it; that part's start and end.
+// The refusal's number, 0 for none, and its place; whether the text matches, or a part of it; that part's start and
+// end.
 pub struct Numbers {
     pub refusal: u8,
     pub place: usize,

@@ -15,7 +15,7 @@ use Rattle.tree.specs.Pieces.{nodes-per-piece}
 use Rattle.reader.specs.Scanner.{Outcome, tree, refused, scanned}
 use Rattle.reader.specs.Agree.{scanned-refusal}
 use Rattle.reader.specs.Answer.{Numbers, refusing, reading, answer-for, answered}
-use Rattle.marks.specs.Answer.{Numbers as Marks-numbers}
+use Rattle.marks.specs.declared.numbers.Numbers.{Numbers as Marks-numbers}
 use Rattle.marks.specs.Promise.{
   Refused,
   Made,
@@ -149,7 +149,10 @@ pub record Marks-ranges (n : Marks-numbers) : Type 0 where
 refused-marks : {number : ℕ} {why : Type 0} {before after : List ℕ} {n : Marks-numbers} → number ≤ 13
     → Refused number why before after n → Marks-ranges n
 refused-marks small r =
-    record { refusal-small = rw (ap (λ (n : Marks-numbers). n .refusal) (r .refuses)) small; front = ap (λ (n : Marks-numbers). n .place) (r .refuses) }
+    record {
+      refusal-small = rw (ap (λ (n : Marks-numbers). n .refusal) (r .refuses)) small;
+      front = ap (λ (n : Marks-numbers). n .place) (r .refuses);
+    }
 
 made-marks : {list : List ℕ} {X : Tree Leaf → States} {before after : List ℕ} {n : Marks-numbers}
     → Made list X before after n → Marks-ranges n

@@ -3,3 +3,4 @@ pub mod Packed
 pub mod Promise
 pub mod Bounds
 pub mod Unique
+pub mod Calls

@@ -6,7 +6,7 @@ use mathlib.Core.Path.{_≡_}
 use mathlib.Core.Bool.{cond}
 use mathlib.Core.List.{List}
 use Rattle.reader.specs.Answer.{Numbers}
-use Rattle.marks.specs.Answer.{Numbers as Marks-numbers}
+use Rattle.marks.specs.declared.numbers.Numbers.{Numbers as Marks-numbers}
 use Rattle.marks.specs.Promise.{Starts, Steps}
 use Rattle.finder.specs.declared.numbers.Numbers.{Numbers as Found-numbers}
 use Rattle.finder.specs.Promise.{Match-answers, Search-answers}
@@ -19,8 +19,8 @@ use Rattle.foamlattice.specs.Packed.{packed}
 abbrev pub read-packed : Numbers → ℕ
 read-packed n = packed (n .refusal) 0 (n .place + n .records) (n .pieces)
 
--- match and search: the flag is 1 for yes, or where a part was found; x is that part's start, or the place of a refusal,
--- and y its end
+-- match and search: the flag is 1 for yes, or where a part was found; x is that part's start, or the place of a
+-- refusal, and y is its end
 abbrev pub found-packed : Found-numbers → ℕ
 found-packed n = packed (n .refusal) (cond (n .matched) 1 0) (n .place + n .start) (n .end)
 

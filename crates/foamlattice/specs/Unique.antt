@@ -35,13 +35,13 @@ searching-unique list text r s m n =
 pub starting-unique : (list before after after' : List ℕ) (r s : ℕ) → Starting list before after r
     → Starting list before after' s → (r ≡ s) × (after ≡ after')
 starting-unique list before after after' r s m n =
-    let same = starts-unique list before after after' (m .numbers) (n .numbers) (m .right) (n .right) in
+    let same = starts-unique (m .right) (n .right) in
     (same-number marks-packed r s _ _ (m .as-number) (n .as-number) (same .0), same .1)
 
 pub stepping-unique : (list : List ℕ) (byte : ℕ) (before after after' : List ℕ) (r s : ℕ)
     → Stepping list byte before after r → Stepping list byte before after' s → (r ≡ s) × (after ≡ after')
 stepping-unique list byte before after after' r s m n =
-    let same = steps-unique list byte before after after' (m .numbers) (n .numbers) (m .right) (n .right) in
+    let same = steps-unique (m .right) (n .right) in
     (same-number marks-packed r s _ _ (m .as-number) (n .as-number) (same .0), same .1)
 
 pub picking-unique : (input before after after' : List ℕ) (r s : ℕ) → Picking input before after r

@@ -17,7 +17,7 @@ numbers-of-requires : tie.Need-numbers-of-requires
 numbers-of-requires c κs = search needs
 
 pack-marked-requires : tie.Need-pack-marked-requires
-pack-marked-requires c κs = rw (c .numbers-of .ensures) (start-ranges (c .before .start .ensures))
+pack-marked-requires c κs = rw (c .numbers-of .ensures) (start-ranges (c .before .before .before .start .ensures))
 
 same-length : tie.Need-same-length
 same-length c = search needs
@@ -26,7 +26,7 @@ returns : tie.Need-returns
 returns c =
     record {
       numbers = c .before .numbers-of .result;
-      right = rw (c .before .numbers-of .ensures) (c .before .before .start .ensures);
+      right = rw (c .before .numbers-of .ensures) (c .before .before .before .before .start .ensures);
       as-number = c .pack-marked .ensures;
     }
 

@@ -1,0 +1,89 @@
+-- Words that hold the marks after a text are what a start or a step leaves: so what these promise is shown by a test on
+-- words.
+use Prim.Native.Nat.{ℕ}
+use native.Mathlib.Omega.{arith}
+use mathlib.Core.Path.{_≡_, refl, sym, _∙_, subst}
+use mathlib.Core.Bool.{Bool}
+use mathlib.Core.Logic.{_↔_, Iff·trans, Iff·symm}
+use mathlib.Core.List.{List, [], _∷_, _++_}
+use lib.ListN.{length, drop, drop-of-length-le}
+use Rattle.language.specs.Tree.{Tree}
+use Rattle.language.specs.Automaton.{State, States, accepting, Started, Stepped, After}
+use Rattle.language.specs.Nested.{Nested, whole, origin}
+use Rattle.language.specs.Acceptance.{accepts-exactly}
+use Rattle.language.specs.Along.{after-step, reached-state}
+use Rattle.language.specs.Models.{State-of, models-origins}
+use Rattle.language.specs.Simulation.{_⊆_, stepped-more}
+use Rattle.tree.specs.Leaf.{Leaf, meaning}
+use Rattle.tree.specs.Records.{Good, piece-count}
+use Rattle.tree.specs.Pieces.{cut-up, stated}
+use Rattle.tables.specs.Words.{Holds, Set-of}
+use Rattle.tables.specs.Tables.{Holding, Answered}
+use Rattle.marks.specs.Answer.{marking}
+use Rattle.marks.specs.Promise.{Hold, Starts, started, Steps, stepped}
+use Rattle.marks.specs.Inner.{holding-marks}
+
+-- a word for each piece and no more
+abbrev pub As-many : Tree Leaf → List ℕ → Type 0
+As-many t words = length words ≡ piece-count t
+
+-- words past the pieces are as before where there are none
+no-others : (t : Tree Leaf) (before after : List ℕ) → As-many t before → As-many t after
+    → drop (piece-count t) after ≡ drop (piece-count t) before
+no-others t before after e f =
+    drop-of-length-le after {i = piece-count t} (omega arith)
+    ∙ sym (drop-of-length-le before {i = piece-count t} (omega arith))
+
+-- a step from the set that the words hold marks what the plain simulation marks after one more byte
+same-set : (t : Tree Leaf) (w : List ℕ) (b : ℕ) (before : List ℕ) → Holding t w before → (p : State)
+    → After meaning t (w ++ (b ∷ [])) (Started meaning t) p ↔ Stepped meaning t b (Set-of (cut-up t) before) p
+same-set t w b before holding p =
+    let x : Nested Leaf = cut-up t in
+    let X : States = After meaning t w (Started meaning t) in
+    let same : (q : State) → X q ↔ Set-of x before q =
+    models-origins x (Holds x before) X (holding .modelled)
+    (subst (λ (s : Tree Leaf). X ⊆ State-of s) (sym (stated t .same-tree)) (reached-state meaning t w)) in
+    rw (after-step meaning t w b (Started meaning t))
+    (stepped-more meaning t b (λ q. same q .0) p, stepped-more meaning t b (λ q. same q .1) p)
+
+module _ {list : List ℕ} {t : Tree Leaf} (good : Good list t) (before after : List ℕ) (accepts : Bool)
+    (lent : As-many t before) (left : As-many t after) where
+  -- the words that hold the marks before the first byte are what a start leaves
+  pub starts-by : Answered t [] after accepts → Starts list before after (marking accepts)
+  starts-by a =
+      started (record {
+        t = t;
+        good = good;
+        enough = omega arith;
+        hold = record {
+          marks = a .holding .modelled;
+          clean = a .holding .clean;
+          others = no-others t before after lent left;
+          same-length = left ∙ sym lent;
+        };
+        marks = refl;
+        answer = Iff·trans (a .answer) (Iff·symm (accepts-exactly meaning t []));
+      })
+
+  -- those that hold the marks after one more byte are what a step leaves
+  pub steps-by : (w : List ℕ) (b : ℕ) → Holding t w before → Answered t (w ++ (b ∷ [])) after accepts
+      → Steps list b before after (marking accepts)
+  steps-by w b from a =
+      let same = same-set t w b before from in
+      stepped (record {
+        made = record {
+          t = t;
+          good = good;
+          enough = omega arith;
+          hold = record {
+            marks = λ q has. Iff·trans (a .holding .modelled q has) (same (origin (cut-up t) q));
+            clean = a .holding .clean;
+            others = no-others t before after lent left;
+            same-length = left ∙ sym lent;
+          };
+          marks = refl;
+          answer =
+              Iff·trans (a .answer) (Iff·trans (Iff·symm (accepts-exactly meaning t (w ++ (b ∷ [])))) (same accepting));
+        };
+        from-marks = holding-marks from;
+      })
