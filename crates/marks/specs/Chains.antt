@@ -165,19 +165,19 @@ module _ (reach runs stands tops : List ℕ) where
     pub closed : Each-closed (c .tree) (part c begun)
 
   -- the child pieces stand one after the other, the first at `at`, and the last ends at `end`
-  abbrev pub Chain : List ℕ → Nested Leaf → ℕ → List Child → ℕ → ℕ → Type 0
-  Chain begun x k [] at end = at ≡ end
-  Chain begun x k (c ∷ cs) at end = (c .from ≡ at) × Standing begun x k c
-      × Chain begun x k cs (at + (1 + run (c .tree))) end
+  abbrev pub Lined-up : List ℕ → Nested Leaf → ℕ → List Child → ℕ → ℕ → Type 0
+  Lined-up begun x k [] at end = at ≡ end
+  Lined-up begun x k (c ∷ cs) at end = (c .from ≡ at) × Standing begun x k c
+      × Lined-up begun x k cs (at + (1 + run (c .tree))) end
 
   chain-append : (begun : List ℕ) (x : Nested Leaf) (k : ℕ) (cs ds : List Child) (at between end : ℕ)
-      → Chain begun x k cs at between → Chain begun x k ds between end → Chain begun x k (cs ++ ds) at end
+      → Lined-up begun x k cs at between → Lined-up begun x k ds between end → Lined-up begun x k (cs ++ ds) at end
   chain-append begun x k [] ds at between end first second =
-      subst (λ (a : ℕ). Chain begun x k ds a end) (sym first) second
+      subst (λ (a : ℕ). Lined-up begun x k ds a end) (sym first) second
   chain-append begun x k (c ∷ cs) ds at between end (here, standing, rest) second =
       (here, standing, chain-append begun x k cs ds (at + (1 + run (c .tree))) between end rest second)
 
-  chain-length : (begun : List ℕ) (x : Nested Leaf) (k : ℕ) (cs : List Child) (at end : ℕ) → Chain begun x k cs at end
+  chain-length : (begun : List ℕ) (x : Nested Leaf) (k : ℕ) (cs : List Child) (at end : ℕ) → Lined-up begun x k cs at end
       → at ≤ end
   chain-length begun x k [] at end e = omega arith
   chain-length begun x k (c ∷ cs) at end (here, standing, rest) =
@@ -187,7 +187,7 @@ module _ (reach runs stands tops : List ℕ) where
   chain-of : (begun : List ℕ) (whole x : Nested Leaf) (k i n f new end : ℕ) (labels : List ℕ) → Seat whole x i n
       → f ≡ suc n → new ≡ k + f → end ≡ f + run x
       → Children-at (tables labels runs stands tops) x i new → Each-below Reaches reach x new → Narrow-below x
-      → Each-closed-below x (drop f begun) → Chain begun whole k (children-of x i f) f end
+      → Each-closed-below x (drop f begun) → Lined-up begun whole k (children-of x i f) f end
   chain-of begun whole (leaf a) k i n f new end labels seat from number ends at reaches narrow closed = omega arith
   chain-of begun whole (catenation x y) k i n f new end labels seat from number ends at reaches narrow closed =
       chain-append begun whole k (children-of x (i + 1) f) (children-of y (i + (1 + width x)) (f + run x)) f (f + run x)
@@ -260,7 +260,7 @@ module _ (reach runs stands tops : List ℕ) where
     -- the others were gone through
     pub record Under-way (begun words : List ℕ) (at waiting : ℕ) (settled : Bool) : Type 0 where
       pub rest : List Child
-      pub chain : Chain begun x k rest at (length words)
+      pub chain : Lined-up begun x k rest at (length words)
       pub clean : Clean x words
       pub own-closed : Closes x (getD words 0 0) (getD words 0 0)
       pub ahead : (o : ℕ) → at ≤ o → getD words o 0 ≡ getD begun o 0
@@ -298,7 +298,7 @@ module _ (reach runs stands tops : List ℕ) where
 
     module _ (begun : List ℕ) (sweepable : Sweepable reach runs stands tops x k begun) where
       module _ (words : List ℕ) (at waiting : ℕ) (settled : Bool) (same : length words ≡ length begun) where
-        waiting-of : (rest : List Child) → Chain begun x k rest at (length words)
+        waiting-of : (rest : List Child) → Lined-up begun x k rest at (length words)
             → (way : Under-way begun words at waiting settled)
             → ((after : List ℕ) → Visits x rest words after → Visits x (children-of x 0 1) begun after)
             → children-of x 0 1 ≡ way .behind ++ rest
@@ -324,7 +324,7 @@ module _ (reach runs stands tops : List ℕ) where
           };
           goes-on = λ after waiting' settled' visited further gone. record {
             rest = cs;
-            chain = subst (Chain begun x k cs (at + (1 + run (c .tree)))) (sym (visited .same-length)) rest;
+            chain = subst (Lined-up begun x k cs (at + (1 + run (c .tree)))) (sym (visited .same-length)) rest;
             clean = visited-clean x c (standing .place) (standing .seat) (standing .placed) words after visited
                 (way .clean);
             own-closed = closes-again (visited .closed);
@@ -345,7 +345,7 @@ module _ (reach runs stands tops : List ℕ) where
 
       module _ (words : List ℕ) (at waiting : ℕ) (settled : Bool) (way : Under-way begun words at waiting settled)
           (past : length words ≤ at) where
-        none-left : (rest : List Child) → Chain begun x k rest at (length words) → rest ≡ []
+        none-left : (rest : List Child) → Lined-up begun x k rest at (length words) → rest ≡ []
         none-left [] chain = refl
         none-left (c ∷ cs) (here, standing, rest) =
             absurd (omega (arith, chain-length begun x k cs (at + (1 + run (c .tree))) (length words) rest))

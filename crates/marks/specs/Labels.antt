@@ -10,16 +10,9 @@ use Rattle.language.specs.Nested.{Nested, leaf, catenation, union, star, below,
 use Rattle.tree.specs.Leaf.{Leaf, character, meaning}
 use Rattle.tables.specs.Words.{width, Own, number}
 use Rattle.tables.specs.Plan.{takes}
-use Rattle.marks.specs.Parts.{one-length, one-inside, one-end, two-length, two-left, two-right, two-end}
+use Rattle.tables.specs.Entries.{length-takes}
+use Rattle.marks.specs.Parts.{one-inside, one-end, two-left, two-right, two-end}
 use Rattle.marks.specs.Numbers.{number-below}
-
--- one label for each state
-pub length-takes : (x : Nested Leaf) → length (takes x) ≡ width x
-length-takes (leaf a) = refl
-length-takes (catenation x y) = two-length 0 0 (takes x) (takes y) (length-takes x) (length-takes y)
-length-takes (union x y) = two-length 0 0 (takes x) (takes y) (length-takes x) (length-takes y)
-length-takes (star x) = one-length 0 0 (takes x) (length-takes x)
-length-takes (below x) = refl
 
 -- in the list for a node of two parts, where the labels of the parts' states are
 module _ (x y : Nested Leaf) where

@@ -36,12 +36,12 @@ pub few-states : {list : List ℕ} {t : Tree Leaf} → Good list t → Every-pie
 few-states {t = t} good = (narrow t, all-narrow t)
 
 -- nothing is refused, and in the words the root's accepting state, the last of piece 0, is marked
-abbrev pub Accepts : Tree Leaf → (after : List ℕ) → Numbers → Type 0
-Accepts t after n = (n .refusal ≡ 0) × Bit (getD after 0 0) (width (cut-up t) - 1)
+abbrev pub Accepting-marked : Tree Leaf → (after : List ℕ) → Numbers → Type 0
+Accepting-marked t after n = (n .refusal ≡ 0) × Bit (getD after 0 0) (width (cut-up t) - 1)
 
 -- a refusal's flag is not set
 refused-flag : {why : Type 0} {before after : List ℕ} {n : Numbers} {k : ℕ} (t : Tree Leaf)
-    → Refused (suc k) why before after n → (n .accepting ≡ true) ↔ Accepts t after n
+    → Refused (suc k) why before after n → (n .accepting ≡ true) ↔ Accepting-marked t after n
 refused-flag t a = (
   λ e. let z : _≡_ {A = ℕ} 0 1 = cc (ap (λ (m : Numbers). m .accepting) (a .refuses)) in absurd (omega arith),
   λ says. absurd (omega (arith, ap (λ (m : Numbers). m .refusal) (a .refuses), says .0)),
@@ -50,24 +50,24 @@ refused-flag t a = (
 module _ {list : List ℕ} {t : Tree Leaf} (good : Good list t) where
   -- that of marks made says what their words hold
   made-flag : {X : Tree Leaf → States} {before after : List ℕ} {n : Numbers} → Made list X before after n
-      → (n .accepting ≡ true) ↔ Accepts t after n
+      → (n .accepting ≡ true) ↔ Accepting-marked t after n
   made-flag {X} {before} {after} {n} made =
       let marked = Iff·trans (Iff·symm (made .hold .marks accepting tt)) (accepting-holds (cut-up (made .t)) after) in
       let says = Iff·trans (made .answer) marked in
       let none : n .refusal ≡ 0 = ap (λ (m : Numbers). m .refusal) (made .marks) in
-      subst (λ (s : Tree Leaf). (n .accepting ≡ true) ↔ Accepts s after n)
+      subst (λ (s : Tree Leaf). (n .accepting ≡ true) ↔ Accepting-marked s after n)
       (good-unique list (made .t) t (made .good) good) (λ e. (none, says .0 e), λ accepts. says .1 (accepts .1))
 
   -- the flag of a start is set exactly when nothing is refused and the root's accepting state is marked
   pub starts-flag : {before after : List ℕ} {n : Numbers} → Starts list before after n
-      → (n .accepting ≡ true) ↔ Accepts t after n
+      → (n .accepting ≡ true) ↔ Accepting-marked t after n
   starts-flag (start-not-good a) = refused-flag t a
   starts-flag (start-too-few a) = refused-flag t a
   starts-flag (started made) = made-flag made
 
   -- so it is with a step
   pub steps-flag : {byte : ℕ} {before after : List ℕ} {n : Numbers} → Steps list byte before after n
-      → (n .accepting ≡ true) ↔ Accepts t after n
+      → (n .accepting ≡ true) ↔ Accepting-marked t after n
   steps-flag (step-not-good a) = refused-flag t a
   steps-flag (step-too-few a) = refused-flag t a
   steps-flag (step-not-marks a) = refused-flag t a

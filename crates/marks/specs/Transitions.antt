@@ -16,8 +16,9 @@ use Rattle.language.specs.Nested.{Nested, leaf, catenation, union, star, below,
 use Rattle.tree.specs.Leaf.{Leaf, meaning, has-empty}
 use Rattle.tables.specs.Words.{Bit, width, Own, number}
 use Rattle.tables.specs.Plan.{nexts}
+use Rattle.tables.specs.Entries.{length-nexts}
 use Rattle.marks.specs.Bits.{bit-zero, bit-power, bit-or}
-use Rattle.marks.specs.Parts.{one-length, one-inside, one-end, two-length, two-left, two-right, two-end}
+use Rattle.marks.specs.Parts.{one-inside, one-end, two-left, two-right, two-end}
 use Rattle.marks.specs.Numbers.{width-two, number-below}
 
 -- a word of two bits
@@ -37,16 +38,6 @@ two-bits a b j h = (
 if-bit : (test : Bool) (n j : ℕ) → Bit (cond test (2 ^ n) 0) j ↔ ((test ≡ true) × (j ≡ n))
 if-bit true n j = (λ c. (refl, bit-power n j .0 c), λ (_, e). bit-power n j .1 e)
 if-bit false n j = (λ c. absurd (bit-zero j c), λ (e, _). absurd (false≢true e))
-
--- one word for each state
-pub length-nexts : (x : Nested Leaf) (i exit : ℕ) → length (nexts x i exit) ≡ width x
-length-nexts (leaf a) i exit = refl
-length-nexts (catenation x y) i exit = two-length 0 exit (nexts x _ _) (nexts y _ _) (length-nexts x _ _)
-    (length-nexts y _ _)
-length-nexts (union x y) i exit = two-length 0 exit (nexts x _ _) (nexts y _ _) (length-nexts x _ _)
-    (length-nexts y _ _)
-length-nexts (star x) i exit = one-length 0 exit (nexts x _ _) (length-nexts x _ _)
-length-nexts (below x) i exit = refl
 
 -- in a list for a node of two parts, where the words of the parts' states are
 module _ (s e : ℕ) (x y : Nested Leaf) (i j m n : ℕ) where

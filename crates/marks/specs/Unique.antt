@@ -99,11 +99,11 @@ module _ (list before : List ℕ) where
     Taken t = (piece-count t ≤ length before) × Fine t
 
     -- what start and step both promise
-    data Answers (after : List ℕ) (n : Numbers) : Type 0 where
-      not-good : Refused 10 (Not-good list) before after n → Answers after n
-      too-few : Refused 12 (Of-list Few) before after n → Answers after n
-      not-marks : Refused 13 (Of-list Bad) before after n → Answers after n
-      makes : (made : Made list X before after n) → Fine (made .t) → Answers after n
+    data Gives-back (after : List ℕ) (n : Numbers) : Type 0 where
+      not-good : Refused 10 (Not-good list) before after n → Gives-back after n
+      too-few : Refused 12 (Of-list Few) before after n → Gives-back after n
+      not-marks : Refused 13 (Of-list Bad) before after n → Gives-back after n
+      makes : (made : Made list X before after n) → Fine (made .t) → Gives-back after n
 
     -- the list is good, and the words are taken
     taken : {after : List ℕ} {n : Numbers} (made : Made list X before after n) → Fine (made .t) → Of-list Taken
@@ -121,7 +121,7 @@ module _ (list before : List ℕ) where
 
     module _ {after : List ℕ} {n : Numbers} where
       -- so each row of the table is given exactly when it says: 10
-      not-good-exactly : Answers after n → (n .refusal ≡ 10) ↔ Not-good list
+      not-good-exactly : Gives-back after n → (n .refusal ≡ 10) ↔ Not-good list
       not-good-exactly (not-good a) = (λ e. a .because, λ why. rw (a .refuses))
       not-good-exactly (too-few a) =
           (λ e. absurd (other-number a e (omega arith)), λ why. absurd (why (a .because .0) (a .because .1)))
@@ -131,7 +131,7 @@ module _ (list before : List ℕ) where
           (λ e. absurd (none-refused made e (omega arith)), λ why. absurd (why (made .t) (made .good)))
 
       -- 12
-      too-few-exactly : Answers after n → (n .refusal ≡ 12) ↔ Of-list Few
+      too-few-exactly : Gives-back after n → (n .refusal ≡ 12) ↔ Of-list Few
       too-few-exactly (not-good a) =
           (λ e. absurd (other-number a e (omega arith)), λ why. absurd (a .because (why .0) (why .1)))
       too-few-exactly (too-few a) = (λ e. a .because, λ why. rw (a .refuses))
@@ -141,7 +141,7 @@ module _ (list before : List ℕ) where
           (λ e. absurd (none-refused made e (omega arith)), λ why. absurd (clash few-taken why (taken made fine)))
 
       -- 13
-      not-marks-exactly : Answers after n → (n .refusal ≡ 13) ↔ Of-list Bad
+      not-marks-exactly : Gives-back after n → (n .refusal ≡ 13) ↔ Of-list Bad
       not-marks-exactly (not-good a) =
           (λ e. absurd (other-number a e (omega arith)), λ why. absurd (a .because (why .0) (why .1)))
       not-marks-exactly (too-few a) =
@@ -151,7 +151,7 @@ module _ (list before : List ℕ) where
           (λ e. absurd (none-refused made e (omega arith)), λ why. absurd (clash bad-taken why (taken made fine)))
 
       -- and none
-      taken-exactly : Answers after n → (n .refusal ≡ 0) ↔ Of-list Taken
+      taken-exactly : Gives-back after n → (n .refusal ≡ 0) ↔ Of-list Taken
       taken-exactly (not-good a) =
           (λ e. absurd (other-number a e (omega arith)), λ why. absurd (a .because (why .0) (why .1)))
       taken-exactly (too-few a) =
@@ -161,14 +161,14 @@ module _ (list before : List ℕ) where
       taken-exactly (makes made fine) = (λ e. taken made fine, λ why. rw (made .marks))
 
       -- a number that is not 0 is that of a refusal, and every word is as it was
-      refused-by : (k : ℕ) → Answers after n → n .refusal ≡ k → 0 < k → (n ≡ refusing k) × (after ≡ before)
+      refused-by : (k : ℕ) → Gives-back after n → n .refusal ≡ k → 0 < k → (n ≡ refusing k) × (after ≡ before)
       refused-by k (not-good a) e some = (same-refusal a e, a .unchanged)
       refused-by k (too-few a) e some = (same-refusal a e, a .unchanged)
       refused-by k (not-marks a) e some = (same-refusal a e, a .unchanged)
       refused-by k (makes made fine) e some = absurd (none-refused made e some)
 
       -- where there is none, the marks are made
-      made-by : Answers after n → n .refusal ≡ 0 → Made list X before after n
+      made-by : Gives-back after n → n .refusal ≡ 0 → Made list X before after n
       made-by (not-good a) e = absurd (other-number a e (omega arith))
       made-by (too-few a) e = absurd (other-number a e (omega arith))
       made-by (not-marks a) e = absurd (other-number a e (omega arith))
@@ -190,12 +190,12 @@ module _ (list before : List ℕ) where
 
     -- the reason of one refusal gives the other its number
     both-refused : {after after' : List ℕ} {n n' : Numbers} (k : ℕ) → 0 < k → n ≡ refusing k → after ≡ before
-        → Answers after' n' → n' .refusal ≡ k → (n ≡ n') × (after ≡ after')
+        → Gives-back after' n' → n' .refusal ≡ k → (n ≡ n') × (after ≡ after')
     both-refused k some refuses unchanged b e =
         let other = refused-by k b e some in (refuses ∙ sym (other .0), unchanged ∙ sym (other .1))
 
     -- so two results are the same
-    answers-unique : {after after' : List ℕ} {n n' : Numbers} → Answers after n → Answers after' n'
+    answers-unique : {after after' : List ℕ} {n n' : Numbers} → Gives-back after n → Gives-back after' n'
         → (n ≡ n') × (after ≡ after')
     answers-unique (not-good a) b =
         both-refused 10 (omega arith) (a .refuses) (a .unchanged) b (not-good-exactly b .1 (a .because))
@@ -207,14 +207,14 @@ module _ (list before : List ℕ) where
 
 -- what start promises, in these words: nothing is asked of the words lent
 starts-answers : {list before after : List ℕ} {n : Numbers} → Starts list before after n
-    → Answers list before (λ t. Started meaning t) (λ t. Unit {0}) after n
+    → Gives-back list before (λ t. Started meaning t) (λ t. Unit {0}) after n
 starts-answers (start-not-good a) = not-good a
 starts-answers (start-too-few a) = too-few a
 starts-answers (started made) = makes made tt
 
 -- what step promises: the words lent are marks
 steps-answers : {list : List ℕ} {byte : ℕ} {before after : List ℕ} {n : Numbers} → Steps list byte before after n
-    → Answers list before (λ t. Stepped meaning t byte (Set-of (cut-up t) before)) (λ t. Marks-of t before) after n
+    → Gives-back list before (λ t. Stepped meaning t byte (Set-of (cut-up t) before)) (λ t. Marks-of t before) after n
 steps-answers (step-not-good a) = not-good a
 steps-answers (step-too-few a) = too-few a
 steps-answers (step-not-marks a) =
