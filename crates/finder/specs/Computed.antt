@@ -83,15 +83,16 @@ entered-exactly d e (left q) = d (left q)
 entered-exactly d e (right q) = d (right q)
 
 -- a function of tests decides what a function of sets gives
-abbrev Follows : (Test → Test) → (States → States) → Type 1
-Follows walk Walk = (f : Test) (X : States) → Decides f X → Decides (walk f) (Walk X)
+abbrev Decides-after : (Test → Test) → (States → States) → Type 1
+Decides-after walk Walk = (f : Test) (X : States) → Decides f X → Decides (walk f) (Walk X)
 
 -- so is a left child walked, and a right one
-first-exactly : {walk : Test → Test} {Walk : States → States} → Follows walk Walk → Follows (first walk) (First Walk)
+first-exactly : {walk : Test → Test} {Walk : States → States} → Decides-after walk Walk
+    → Decides-after (first walk) (First Walk)
 first-exactly follows f X d = follows _ _ (entered-exactly (λ p. d (left p)) (d start))
 
-second-exactly : {walk : Test → Test} {Walk : States → States} → Follows walk Walk → {p : Bool} {P : Type 0}
-    → (p ≡ true) ↔ P → Follows (second walk p) (Second Walk P)
+second-exactly : {walk : Test → Test} {Walk : States → States} → Decides-after walk Walk → {p : Bool} {P : Type 0}
+    → (p ≡ true) ↔ P → Decides-after (second walk p) (Second Walk P)
 second-exactly follows e f X d = follows _ _ (entered-exactly (λ p. d (right p)) e)
 
 module _ {A : Type 0} (M : Meaning A) (tests : Tests M) where
@@ -120,7 +121,7 @@ module _ {A : Type 0} (M : Meaning A) (tests : Tests M) where
   walked (below x) f accepting = f accepting || first (walked x) f accepting
 
   -- a walk over tests decides what a walk over sets marks
-  walked-exactly : (x : Nested A) → Follows (walked x) (Walked M x)
+  walked-exactly : (x : Nested A) → Decides-after (walked x) (Walked M x)
   unfolding walked
   walked-exactly (leaf a) f X d start = d start
   walked-exactly (leaf a) f X d accepting =

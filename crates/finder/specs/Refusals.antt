@@ -30,7 +30,7 @@ use Rattle.finder.specs.Promise.{
 }
 
 -- the list is good, and the text has at most 65,536 bytes
-pub record Taken (list text : List ℕ) : Type 0 where
+pub record Answerable (list text : List ℕ) : Type 0 where
   pub t : Tree Leaf
   pub good : Good list t
   pub short : length text ≤ 65536
@@ -38,7 +38,7 @@ pub record Taken (list text : List ℕ) : Type 0 where
 module _ (list text : List ℕ) where
   -- why a refusal's number, or 0, is given
   pub data Reason : ℕ → Type 0 where
-    fine : Taken list text → Reason 0
+    fine : Answerable list text → Reason 0
     refused : {number : ℕ} → Refuses list text number → Reason number
 
   -- so of what match answers, and of what search answers
@@ -64,7 +64,7 @@ module _ (list text : List ℕ) where
   too-long-exactly (refused (too-long a)) = (λ e. a, λ _. refl)
 
   -- and none exactly when it is good and the text is not over 65,536 bytes
-  pub taken-exactly : {number : ℕ} → Reason number → (number ≡ 0) ↔ Taken list text
+  pub taken-exactly : {number : ℕ} → Reason number → (number ≡ 0) ↔ Answerable list text
   taken-exactly (fine a) = (λ e. a, λ _. refl)
   taken-exactly (refused (not-good why)) = (λ e. absurd (omega arith), λ b. absurd (why (b .t) (b .good)))
   taken-exactly (refused (too-long a)) = (λ e. absurd (omega arith), λ b. absurd (omega (arith, a .long, b .short)))
@@ -85,7 +85,7 @@ module _ (list text : List ℕ) where
     match-too-long = too-long-exactly (match-reason answers)
 
     -- and answers yes or no exactly when it is good and the text is not
-    pub match-taken : (n .refusal ≡ 0) ↔ Taken list text
+    pub match-taken : (n .refusal ≡ 0) ↔ Answerable list text
     match-taken = taken-exactly (match-reason answers)
 
   module _ (n : Numbers) (answers : Search-answers list text n) where
@@ -98,7 +98,7 @@ module _ (list text : List ℕ) where
     search-too-long = too-long-exactly (search-reason answers)
 
     -- and answers a part or nothing exactly when it is good and the text is not
-    pub search-taken : (n .refusal ≡ 0) ↔ Taken list text
+    pub search-taken : (n .refusal ≡ 0) ↔ Answerable list text
     search-taken = taken-exactly (search-reason answers)
 
   module _ (t : Tree Leaf) (good : Good list t) {number : ℕ} (reason : Reason number) where

@@ -12,9 +12,9 @@ use lib.ListN.{length}
 use Rattle.finder.specs.Found.{part, None-before, Answer, at, nothing, Answers, search-unique}
 use Rattle.finder.specs.Progress.{
   better,
-  Says,
-  So-far,
-  Settled,
+  Says-part,
+  Best-so-far,
+  Furthest,
   so-far-first,
   so-far-next,
   so-far-settled,
@@ -48,14 +48,14 @@ searched test text = answer-from test text 0 (length text + 1)
 module _ (L : List ℕ → Type 0) (test : List ℕ → Bool) (exactly : (w : List ℕ) → (test w ≡ true) ↔ L w) (text : List ℕ)
   where
     -- the test on a part says whether it lies in the language
-    part-says : (s e : ℕ) → s ≤ e → e ≤ length text → Says L text (test (part s e text)) s e
+    part-says : (s e : ℕ) → s ≤ e → e ≤ length text → Says-part L text (test (part s e text)) s e
     part-says s e h k = (
       λ p. record { ordered = h; inside = k; belongs = exactly (part s e text) .0 p },
       λ p. exactly (part s e text) .1 (p .belongs),
     )
 
     -- the latest end among some places is the latest so far
-    latest-so-far : (s n : ℕ) → s + n ≤ length text → So-far L text s (s + n) (latest-end test text s n)
+    latest-so-far : (s n : ℕ) → s + n ≤ length text → Best-so-far L text s (s + n) (latest-end test text s n)
     unfolding latest-end
     latest-so-far s zero h =
         let same : s + 0 ≡ s = omega arith in
@@ -66,14 +66,14 @@ module _ (L : List ℕ → Type 0) (test : List ℕ → Bool) (exactly : (w : Li
         (latest-so-far s n (omega arith)) (part-says s (s + n + 1) (omega arith) (omega arith)))
 
     -- among all places up to the end of the text it is the latest of all
-    latest-settled : (s : ℕ) → s ≤ length text → Settled L text s (latest-end test text s (length text - s))
+    latest-settled : (s : ℕ) → s ≤ length text → Furthest L text s (latest-end test text s (length text - s))
     latest-settled s h =
         let all : s + (length text - s) ≡ length text = omega arith in
         so-far-settled L text (latest-end test text s (length text - s)) s (length text)
         (rw all at (latest-so-far s (length text - s) (omega arith))) (none-past-end L text s)
 
     -- at one start: the answer there, or one from the next start on
-    answer-settled : (s : ℕ) (best : Option ℕ) (later : Answer) → None-before L text s → Settled L text s best
+    answer-settled : (s : ℕ) (best : Option ℕ) (later : Answer) → None-before L text s → Furthest L text s best
         → (None-before L text (s + 1) → Answers L text later) → Answers L text (answer-at s best later)
     answer-settled s none later before settled go = go (settled-next L text s before settled)
     answer-settled s (some e) later before settled go = settled-found L text s e before settled

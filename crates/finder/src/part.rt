@@ -11,7 +11,7 @@ ghost use Rattle.language.specs.Tree.{Tree};
 ghost use Rattle.tree.specs.Leaf.{Leaf, Matches};
 ghost use mathlib.Core.List.{[]};
 ghost use Rattle.tables.specs.Tables.{Prepared, Ready, Answered};
-ghost use Rattle.finder.specs.Progress.{Settled, better};
+ghost use Rattle.finder.specs.Progress.{Furthest, better};
 ghost use Rattle.finder.specs.Found.{Answers};
 ghost use Rattle.finder.specs.Parts.{end-of, answer-of};
 
@@ -55,7 +55,7 @@ fn furthest_end(
     ensures { λ r.
         ⌜ ((t : Tree Leaf)
         → Prepared t (now (reach .entry)) (now (labels .entry)) (now (runs .entry)) (now (stands .entry))
-        (now (tops .entry)) count → Settled (Matches t) (now (text .entry)) start (end-of r)) ⌝ }
+        (now (tops .entry)) count → Furthest (Matches t) (now (text .entry)) start (end-of r)) ⌝ }
 {
     let mut words = [0u64; 128];
     copy(first, count, &mut words);

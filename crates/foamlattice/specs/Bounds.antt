@@ -181,23 +181,23 @@ pick-length-small input before after (Written size) right = omega (arith, right 
 pick-length-small input before after NoRoom right = omega arith
 
 -- a number and a flag of a case are small
-pub record Small (number flag : ℕ) : Type 0 where
+pub record Small-case (number flag : ℕ) : Type 0 where
   pub number-small : number ≤ 13
   pub flag-small : flag ≤ 1
 
-small : (number flag : ℕ) → number ≤ 13 → flag ≤ 1 → Small number flag
+small : (number flag : ℕ) → number ≤ 13 → flag ≤ 1 → Small-case number flag
 small number flag n f = record { number-small = n; flag-small = f }
 
 flag-small : (flag : Bool) → cond flag 1 0 ≤ 1
 flag-small true = omega arith
 flag-small false = omega arith
 
-pick-small : (answer : Picked) → Small 0 (pick-flag answer)
+pick-small : (answer : Picked) → Small-case 0 (pick-flag answer)
 pick-small (Written size) = small 0 1 (omega arith) (omega arith)
 pick-small NoRoom = small 0 0 (omega arith) (omega arith)
 
 -- a small number and flag are in range beside x and y of at most 1,048,575
-case-unpacks : (r number flag x y : ℕ) → Small number flag → x ≤ 1048575 → y ≤ 1048575 → r ≡ packed number flag x y
+case-unpacks : (r number flag x y : ℕ) → Small-case number flag → x ≤ 1048575 → y ≤ 1048575 → r ≡ packed number flag x y
     → Unpacks r number flag x y
 case-unpacks r number flag x y h k l e =
     unpacks r number flag x y

@@ -74,7 +74,7 @@ module _ {bytes before after : List ℕ} {records pieces : ℕ} (accepted : Acce
     )
 
     module _ (text : List ℕ) where
-      -- match answers yes or no exactly when the text has at most 65,536 bytes and is in the language of the expression or
+      -- match answers yes or no exactly when the text has at most 65,536 bytes and is in the expression's language or
       -- not
       pub read-then-match : (matched : Bool) → Match-answers (take (8 * records) after) text (answering matched)
           ↔ ((length text ≤ 65536) × ((matched ≡ true) ↔ In-expression bytes text))

@@ -1,5 +1,5 @@
--- The edges P1 to P10: one table, one statement over it in the words of the public contracts, one proof that computes
--- each row.
+-- The examples P1 to P10 (docs/REFERENCE.md, section 10): one table, one statement over it in the words of the public
+-- contracts, one proof that computes each row.
 use Prim.Native.Nat.{ℕ, _*_, _≤_}
 use mathlib.Core.Path.{_≡_, refl, sym, _∙_}
 use mathlib.Core.Bool.{Bool, true, false, Bool·beq, false≢true}
@@ -82,18 +82,18 @@ pub record Read (expression : List ℕ) (records pieces : ℕ) (Says : List ℕ 
       → Says (take (8 * records) (records-after expression buffer))
 
 -- each step leaves what is said, from the words that were left before it
-abbrev pub Stepping : (list words : List ℕ) → List Step → Type 0
-Stepping list words [] = Unit {0}
-Stepping list words (step ∷ later) =
+abbrev pub Each-step : (list words : List ℕ) → List Step → Type 0
+Each-step list words [] = Unit {0}
+Each-step list words (step ∷ later) =
     Steps list (step .byte) words (step .left .words)
     (record { refusal = 0; place = 0; accepting = step .left .accepting })
-    × Stepping list (step .left .words) later
+    × Each-step list (step .left .words) later
 
 -- a start, from any words, as many as it leaves; then the steps
 pub record Marking (list : List ℕ) (start : Left) (steps : List Step) : Type 0 where
   pub starts : (words : List ℕ) → length words ≡ length (start .words)
       → Starts list words (start .words) (record { refusal = 0; place = 0; accepting = start .accepting })
-  pub goes-on : Stepping list (start .words) steps
+  pub goes-on : Each-step list (start .words) steps
 
 -- what search says of a text
 abbrev pub Finding : (list text : List ℕ) → Answer → Type 0
@@ -103,19 +103,19 @@ Finding list text nothing =
     Search-answers list text (record { refusal = 0; place = 0; matched = false; start = 0; end = 0 })
 
 -- what is said of the list of an expression that is read
-abbrev pub Of-list : List ℕ → (List ℕ → Type 0) → Type 0
-Of-list expression Says = (records : ℕ) × ((pieces : ℕ) × Read expression records pieces Says)
+abbrev pub Of-records : List ℕ → (List ℕ → Type 0) → Type 0
+Of-records expression Says = (records : ℕ) × ((pieces : ℕ) × Read expression records pieces Says)
 
 -- what a row says
-abbrev pub Holds : Row → Type 0
-Holds (refuses expression number place) = (room : ℕ)
+abbrev pub Row-says : Row → Type 0
+Row-says (refuses expression number place) = (room : ℕ)
     → answered expression room ≡ record { refusal = number; place = place; records = 0; pieces = 0 }
-Holds (reads expression records pieces) = Read expression records pieces (λ list. Unit {0})
-Holds (marks expression start steps) = Of-list expression (λ list. Marking list start steps)
-Holds (answers expression text answer) =
-    Of-list expression
+Row-says (reads expression records pieces) = Read expression records pieces (λ list. Unit {0})
+Row-says (marks expression start steps) = Of-records expression (λ list. Marking list start steps)
+Row-says (answers expression text answer) =
+    Of-records expression
     (λ list. Match-answers list text (record { refusal = 0; place = 0; matched = answer; start = 0; end = 0 }))
-Holds (finds expression text answer) = Of-list expression (λ list. Finding list text answer)
+Row-says (finds expression text answer) = Of-records expression (λ list. Finding list text answer)
 
 -- the table
 abbrev pub edges : List Row
@@ -230,7 +230,7 @@ module _ (expression : List ℕ) (Says : List ℕ → Type 0) where
 
   -- an outcome that passes the test is such a tree, and of it holds what the test stands for
   tree-holds : (test : Tree Leaf → Bool) → ((t : Tree Leaf) → test t ≡ true → (list : List ℕ) → Good list t → Says list)
-      → (outcome : Outcome) → scanned expression ≡ outcome → is-tree test outcome ≡ true → Of-list expression Says
+      → (outcome : Outcome) → scanned expression ≡ outcome → is-tree test outcome ≡ true → Of-records expression Says
   unfolding is-tree
   tree-holds test sound (tree t) scans e =
       (nodes t, (piece-count t, tree-read t scans (fails _ (also-first _ _ e)) (sound t (also-second _ _ e))))
@@ -277,7 +277,7 @@ module _ (t : Tree Leaf) (w : List ℕ) (left : Left) (e : left-test t w left �
 module _ {list : List ℕ} {t : Tree Leaf} (good : Good list t) where
   -- each step that passes leaves what is said
   steps-hold : (w words : List ℕ) → As-many t words → Holding t w words → (steps : List Step)
-      → steps-test t w steps ≡ true → Stepping list words steps
+      → steps-test t w steps ≡ true → Each-step list words steps
   unfolding steps-test
   steps-hold w words many holding [] e = tt
   steps-hold w words many holding (step ∷ later) e =
@@ -314,7 +314,7 @@ module _ {list : List ℕ} {t : Tree Leaf} (good : Good list t) where
   finds-hold text nothing short none = search-nothing (of-good short none)
 
 -- a row whose test passes holds
-row-holds : (row : Row) → row-test row ≡ true → Holds row
+row-holds : (row : Row) → row-test row ≡ true → Row-says row
 unfolding row-test
 row-holds (refuses expression number place) e = λ room. refusal-holds number place room (scanned expression) e
 row-holds (reads expression records pieces) e = reads-holds expression records pieces (scanned expression) refl e
@@ -341,13 +341,13 @@ rows-test [] = true
 rows-test (row ∷ rows) = also (row-test row) (rows-test rows)
 
 -- then every row holds
-rows-hold : (rows : List Row) → rows-test rows ≡ true → Every Holds rows
+rows-hold : (rows : List Row) → rows-test rows ≡ true → Every Row-says rows
 unfolding rows-test
 rows-hold [] e = tt
 rows-hold (row ∷ rows) e = (row-holds row (also-first _ _ e), rows-hold rows (also-second _ _ e))
 
 -- every row of the table holds
-pub edges-hold : Every Holds edges
+pub edges-hold : Every Row-says edges
 unfolding rows-test row-test is-refusal is-tree same-answer left-test steps-test scan scanned any-split any-repeat
     leaf-text matched latest-end answer-from walked moved also ends agrees tidy holds-after cut-up
 edges-hold = rows-hold edges refl

@@ -19,14 +19,14 @@ pub record Wrote (input before after : List ℕ) (size : ℕ) : Type 0 where
   pub whole : after ≡ picked input ++ drop size before
 
 -- the buffer is shorter than the longest output, and is kept
-pub record Refused (before after : List ℕ) : Type 0 where
+pub record No-room (before after : List ℕ) : Type 0 where
   pub short : length before < 1048575
   pub kept : after ≡ before
 
 -- what each answer says
 abbrev pub Picks : (input before after : List ℕ) → Picked → Type 0
 Picks input before after (Written size) = Wrote input before after size
-Picks input before after NoRoom = Refused before after
+Picks input before after NoRoom = No-room before after
 
 -- an output printed at the front is all that is promised
 pub wrote : {input before after : List ℕ} {size : ℕ} → 1048575 ≤ length before

@@ -26,7 +26,7 @@ use Rattle.picker.specs.Printing.{Prints}
 use Rattle.picker.specs.Loop.{Space}
 
 -- reading refused the expression: that is its outcome, by a small number at a small place
-pub record Told (bytes : List ℕ) (number place : ℕ) : Type 0 where
+pub record Refusal-read (bytes : List ℕ) (number place : ℕ) : Type 0 where
   pub outcome : answered bytes ≡ refused number place
   pub small-number : number < 10
   pub small-place : place < 10000
@@ -39,7 +39,8 @@ records-fit t few = omega (arith, nodes-per-piece t, ltb-false 128 (piece-count 
 told-tree : (bytes : List ℕ) (room number place : ℕ) → 15360 ≤ room → (t : Tree Leaf) (many short : Bool)
     → ltb 128 (piece-count t) ≡ many → ltb room (8 * nodes t) ≡ short → few-pieces (scanned bytes)
     ≡ cond many (refused 8 0) (tree t)
-    → refusing number place ≡ cond many (refusing 8 0) (cond short (refusing 9 0) (reading t)) → Told bytes number place
+    → refusing number place ≡ cond many (refusing 8 0) (cond short (refusing 9 0) (reading t))
+    → Refusal-read bytes number place
 told-tree bytes room number place large t true short m h outcome e =
     let eight : number ≡ 8 = ap (λ (n : Numbers). n .refusal) e in
     let front : place ≡ 0 = ap (λ (n : Numbers). n .place) e in
@@ -50,7 +51,7 @@ told-tree bytes room number place large t false false m h outcome e =
     absurd (omega (arith, nodes-positive t, ap (λ (n : Numbers). n .records) e))
 
 told-outcome : (bytes : List ℕ) (room number place : ℕ) → 15360 ≤ room → (outcome : Outcome) → scanned bytes ≡ outcome
-    → refusing number place ≡ answer-for outcome room → Told bytes number place
+    → refusing number place ≡ answer-for outcome room → Refusal-read bytes number place
 told-outcome bytes room number place large (refused number′ place′) scans e =
     let bounds = scanned-refusal bytes number′ place′ scans in
     let same : number ≡ number′ = ap (λ (n : Numbers). n .refusal) e in
@@ -66,7 +67,7 @@ told-outcome bytes room number place large (tree t) scans e =
 
 -- where reading answers a refusal, that is the expression's outcome
 pub told : (bytes : List ℕ) (room number place : ℕ) → 15360 ≤ room → refusing number place ≡ answers bytes room
-    → Told bytes number place
+    → Refusal-read bytes number place
 told bytes room number place large e = told-outcome bytes room number place large (scanned bytes) refl e
 
 -- where it answers that the records were written, the outcome is their tree
@@ -76,7 +77,8 @@ read-outcome k = rw (k .scans, le-ltb 128 (piece-count (k .read)) (k .good .few)
 
 module _ (input : List ℕ) (end : ℕ) (ends : Ends input 0 end) where
   -- the line of a refusal is what is reported
-  pub reports-refusal : {number place : ℕ} {before out : List ℕ} {size : ℕ} → Told (part 0 end input) number place
+  pub reports-refusal : {number place : ℕ} {before out : List ℕ} {size : ℕ}
+      → Refusal-read (part 0 end input) number place
       → Prints before 0 (refusal-line number place) out size
       → Prints before 0 (reported matches (answered (expression (lines input))) (texts (lines input))) out size
   reports-refusal t p = rw (first-line input end ends .is-expression, t .outcome) p

@@ -7,7 +7,7 @@ use lib.ListN.{take, replicate}
 use lib.Seq.{length-take-le}
 use Rattle.reader.specs.Answer.{numbers}
 use Rattle.reader.specs.Kept.{Kept, kept}
-use Rattle.picker.specs.Report.{Told, told, read-outcome, reports-refusal, reports-texts, texts-space}
+use Rattle.picker.specs.Report.{Refusal-read, told, read-outcome, reports-refusal, reports-texts, texts-space}
 use Rattle.picker.specs.Room.{refusal-line-length}
 use borrow.Author.Needs.{needs}
 use Rattle.picker.proofs.report_lines.Statement.{statement}
@@ -27,7 +27,7 @@ read-by c = c .before .before .before
 
 -- the refusal is the outcome of the first line
 refusal : (c : tie.After-answer)
-    → Told (take (line (refused-by c) .line-end .result) (start (refused-by c) .args .input .now))
+    → Refusal-read (take (line (refused-by c) .line-end .result) (start (refused-by c) .args .input .now))
     (c .answer .given .0 .0) (c .answer .given .0 .1 .0)
 refusal c = told _ 15360 _ _ (omega arith) (sym (ap numbers (c .answer .given .1)) ∙ refused-by c .read .ensures .0)
 

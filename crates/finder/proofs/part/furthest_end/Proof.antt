@@ -12,7 +12,7 @@ use Rattle.tables.specs.Tables.{Prepared, Ready}
 use Rattle.marks.specs.Texts.{nothing-left}
 use Rattle.marks.specs.Inner.{running, holding-marks, answered-copy, answered-next}
 use Rattle.finder.specs.Parts.{end-of}
-use Rattle.finder.specs.Answering.{Standing, standing-first, standing-next, settled-early, settled-at-end}
+use Rattle.finder.specs.Answering.{Looking, standing-first, standing-next, settled-early, settled-at-end}
 use Rattle.finder.proofs.part.furthest_end.Statement.{statement}
 use Rattle.finder.proofs.part.furthest_end.Tie as tie
 use Rattle.finder.proofs.part.furthest_end.Reads as reads
@@ -25,7 +25,7 @@ use Rattle.finder.proofs.part.with_end.Reads as with-end-reads
 abbrev Inv-loop : tie.InvT-loop
 Inv-loop reach labels runs stands tops count first empty text start words₀ best₀ end₀ words best end = (start ≤ end)
     × (end ≤ length text) × (length words ≡ 128) × Ready reach labels runs stands tops count
-    × ((t : Tree Leaf) → Prepared t reach labels runs stands tops count → Standing t text start end words (end-of best))
+    × ((t : Tree Leaf) → Prepared t reach labels runs stands tops count → Looking t text start end words (end-of best))
 
 abbrev μ-loop : tie.MeasureT-loop
 μ-loop reach labels runs stands tops count first empty text start words₀ best₀ end₀ words best end = length text - end
