@@ -3,6 +3,7 @@
 use Prim.Native.Nat.{ℕ, _+_, _≤_}
 use mathlib.Core.Bool.{Bool, true, false, _&&_, _||_}
 use lib.Dec.{leb, ltb}
+use Rattle.tree.specs.Limits.{most-nodes}
 use Rattle.language.specs.Tree.{Tree, leaf, catenation, union, star}
 use Rattle.language.specs.Nested.{
   Nested,
@@ -52,23 +53,23 @@ pieces t c = 1 + cuts t c
 -- node is the whole piece
 abbrev pub Fits : {A : Type 0} (t : Tree A) → Cut t → Type 0
 Fits (leaf a) c = Unit {0}
-Fits (catenation s t) c = (part (catenation s t) c ≤ 15) × Fits s (c .1) × Fits t (c .3)
-Fits (union s t) c = (part (union s t) c ≤ 15) × Fits s (c .1) × Fits t (c .3)
-Fits (star s) c = (part (star s) c ≤ 15) × Fits s (c .1)
+Fits (catenation s t) c = (part (catenation s t) c ≤ most-nodes) × Fits s (c .1) × Fits t (c .3)
+Fits (union s t) c = (part (union s t) c ≤ most-nodes) × Fits s (c .1) × Fits t (c .3)
+Fits (star s) c = (part (star s) c ≤ most-nodes) × Fits s (c .1)
 
 -- whether the left child, of open size l, is cut off: the sum passes 15, and it is the larger, or as large, or still
 -- passes 15 without the right one
 abbrev pub cut-left : ℕ → ℕ → Bool
-cut-left l r = ltb 15 (1 + l + r) && (leb r l || ltb 15 (1 + l))
+cut-left l r = ltb most-nodes (1 + l + r) && (leb r l || ltb most-nodes (1 + l))
 
 -- whether the right child, of open size r, is cut off: the sum passes 15, and it is the larger, or still passes 15
 -- without the left one
 abbrev pub cut-right : ℕ → ℕ → Bool
-cut-right l r = ltb 15 (1 + l + r) && (ltb l r || ltb 15 (1 + r))
+cut-right l r = ltb most-nodes (1 + l + r) && (ltb l r || ltb most-nodes (1 + r))
 
 -- whether a star's operand, of open size n, is cut off
 abbrev pub cut-only : ℕ → Bool
-cut-only n = ltb 15 (1 + n)
+cut-only n = ltb most-nodes (1 + n)
 
 -- the open size: 1 plus the open sizes of the children that are not cut off
 abbrev pub open-size : {A : Type 0} → Tree A → ℕ

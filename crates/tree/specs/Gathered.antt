@@ -9,8 +9,9 @@ use native.Mathlib.Nat.{add-zero, le-refl}
 use lib.Dec.{ltb, leb·zero, leb·suc-zero}
 use Rattle.language.specs.Tree.{Tree, leaf, catenation, union, star, nodes}
 use Rattle.tree.specs.Leaf.{Leaf}
+use Rattle.tree.specs.Limits.{most-nodes}
 use Rattle.tree.specs.Cut.{kept, one, cut-left, cut-right, cut-only, open-size}
-use Rattle.tree.specs.Seats.{cut-edges, of-left, of-right, left-cut, right-cut}
+use Rattle.tree.specs.Seats.{cut-edges, of-left, of-right, left-apart, right-apart}
 
 -- the open size that a node has by those of its children
 abbrev pub open-sum : (l r : ℕ) → ℕ
@@ -22,7 +23,7 @@ cut-sum l r below-left below-right = one (cut-left l r) + below-left + (one (cut
 
 -- an only child is cut off as a left child without a right one
 pub only-left : (n : ℕ) → cut-left n 0 ≡ cut-only n
-only-left n = rw (add-zero, leb·zero) (and-true (ltb 15 (1 + n)))
+only-left n = rw (add-zero, leb·zero) (and-true (ltb most-nodes (1 + n)))
   where
     and-true : (b : Bool) → b && true ≡ b
     and-true true = refl
@@ -30,7 +31,7 @@ only-left n = rw (add-zero, leb·zero) (and-true (ltb 15 (1 + n)))
 
 -- where there is no right child none is cut off
 pub none-right : (n : ℕ) → cut-right n 0 ≡ false
-none-right n = rw (leb·suc-zero n) (and-false (ltb 15 (1 + n + 0)))
+none-right n = rw (leb·suc-zero n) (and-false (ltb most-nodes (1 + n + 0)))
   where
     and-false : (b : Bool) → b && false ≡ false
     and-false true = refl
@@ -75,9 +76,9 @@ cut-edges-lt (catenation s t) = omega (
   arith,
   cut-edges-lt s,
   cut-edges-lt t,
-  one-le (left-cut (catenation s t)),
-  one-le (right-cut (catenation s t)),
+  one-le (left-apart (catenation s t)),
+  one-le (right-apart (catenation s t)),
 )
 cut-edges-lt (union s t) =
-    omega (arith, cut-edges-lt s, cut-edges-lt t, one-le (left-cut (union s t)), one-le (right-cut (union s t)))
+    omega (arith, cut-edges-lt s, cut-edges-lt t, one-le (left-apart (union s t)), one-le (right-apart (union s t)))
 cut-edges-lt (star s) = omega (arith, cut-edges-lt s, one-le (cut-only (open-size s)))

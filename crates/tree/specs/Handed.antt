@@ -15,6 +15,7 @@ use lib.Seq.{getD-set-same, getD-set-other}
 use Rattle.language.specs.Tree.{Tree, leaf, catenation, union, star, nodes}
 use Rattle.tree.specs.Leaf.{Leaf}
 use Rattle.tree.specs.Cut.{open-size, one, cut-left, cut-right}
+use Rattle.tree.specs.Limits.{most-nodes, most-labels}
 use Rattle.tree.specs.Records.{labels, child-piece}
 use borrow.Author.Tests.{ne-eqb}
 use Rattle.tree.specs.Gathered.{cut-sum, cut-edges-lt}
@@ -273,10 +274,10 @@ own-number f t i slots h g =
 
 -- what the numbers of a turn stay below
 pub record Turn-small (left right slot : ℕ) (opens cuts news : List ℕ) : Type 0 where
-  pub left-le : getD opens left 0 ≤ 15
-  pub right-le : getD opens right 0 ≤ 15
+  pub left-le : getD opens left 0 ≤ most-nodes
+  pub right-le : getD opens right 0 ≤ most-nodes
   pub all-new : cut-sum (getD opens left 0) (getD opens right 0) (getD cuts left 0) (getD cuts right 0) + getD news slot
-      0 ≤ 2047
+      0 ≤ most-labels
 
 -- a turn at record i, whose slot is i + 1
 module _ (ls : List ℕ) (i slot left right : ℕ) (sizes opens cuts pieces news : List ℕ) (next : slot ≡ i + 1)
@@ -344,7 +345,7 @@ module _ (ls : List ℕ) (i slot left right : ℕ) (sizes opens cuts pieces news
       (is-a ∙ rw l) (is-b ∙ rw (is-x, l, r)) (rw (is-y, l)) (rw (is-z, is-x, l, r))
 
   -- the children's open sizes are small, and so are all new pieces below the record
-  pub turn-small : Postorder ls → length ls ≤ 2047 → Turn-small left right slot opens cuts news
+  pub turn-small : Postorder ls → length ls ≤ most-labels → Turn-small left right slot opens cuts news
   turn-small o h =
       let t = o .tree in
       let e = o .same in

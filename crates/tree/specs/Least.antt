@@ -10,6 +10,7 @@ use mathlib.Core.Bool.{Bool, true, false}
 use native.Mathlib.Omega.{arith}
 use native.Mathlib.Decide.{decLt}
 use Rattle.language.specs.Tree.{Tree, leaf, catenation, union, star}
+use Rattle.tree.specs.Limits.{most-nodes, most-pieces}
 use Rattle.tree.specs.Cut.{Cut, kept, one, part, cuts, pieces, Fits, open-size, wanted}
 use Rattle.tree.specs.Choice.{
   Choice,
@@ -34,7 +35,7 @@ part-wanted (union s t) = rw (part-wanted s, part-wanted t)
 part-wanted (star s) = rw (part-wanted s)
 
 -- a root's piece of the wanted cut has at most 15 nodes
-part-wanted-fits : {A : Type 0} (t : Tree A) → part t (wanted t) ≤ 15
+part-wanted-fits : {A : Type 0} (t : Tree A) → part t (wanted t) ≤ most-nodes
 part-wanted-fits t = rw (part-wanted t) (open-at-most t)
 
 -- the wanted cut fits
@@ -45,29 +46,29 @@ wanted-fits (union s t) = (part-wanted-fits (union s t), wanted-fits s, wanted-f
 wanted-fits (star s) = (part-wanted-fits (star s), wanted-fits s)
 
 -- in a cut that fits, the root's piece has at most 15 nodes
-pub part-at-most : {A : Type 0} (t : Tree A) (c : Cut t) → Fits t c → part t c ≤ 15
+pub part-at-most : {A : Type 0} (t : Tree A) (c : Cut t) → Fits t c → part t c ≤ most-nodes
 part-at-most (leaf a) c h = omega arith
 part-at-most (catenation s t) c h = h .0
 part-at-most (union s t) c h = h .0
 part-at-most (star s) c h = h .0
 
 -- a child that weighs at least w adds at least w, cut off or not
-adds : {A : Type 0} (b : Bool) (s : Tree A) (d : Cut s) (w : ℕ) → Fits s d → w ≤ 15 * cuts s d + part s d
-    → w ≤ 15 * (one b + cuts s d) + kept b (part s d)
+adds : {A : Type 0} (b : Bool) (s : Tree A) (d : Cut s) (w : ℕ) → Fits s d → w ≤ most-nodes * cuts s d + part s d
+    → w ≤ most-nodes * (one b + cuts s d) + kept b (part s d)
 adds true s d w h e = omega (arith, part-at-most s d h)
 adds false s d w h e = omega arith
 
 -- where a child of open size l, at least the other's r, is cut off: its weight or the other's is less than that of any
 -- child that stays, by 15
-larger-off : (k m K P M Q l r : ℕ) → 15 < 1 + l + r → r ≤ l → 1 + P + Q ≤ 15 → 15 * k + l ≤ 15 * K + P
-    → 15 * m + r ≤ 15 * M + Q → 15 * (1 + k + m) + r ≤ 15 * (K + M) + (P + Q)
+larger-off : (k m K P M Q l r : ℕ) → most-nodes < 1 + l + r → r ≤ l → 1 + P + Q ≤ most-nodes → most-nodes * k + l ≤ most-nodes * K + P
+    → most-nodes * m + r ≤ most-nodes * M + Q → most-nodes * (1 + k + m) + r ≤ most-nodes * (K + M) + (P + Q)
 larger-off k m K P M Q l r large larger fits x y = elim (decLt P l) [ yes h ↦ omega arith | no h ↦ omega arith ]
 
 -- at a node with two children the choice is lightest: K and P, M and Q are the cut edges and the nodes that the
 -- children add under another cut
-lightest-of-two : {l r : ℕ} {b c : Bool} (k m K P M Q : ℕ) → Choice l r b c → 1 + P + Q ≤ 15 → 15 * k + l ≤ 15 * K + P
-    → 15 * m + r ≤ 15 * M + Q
-    → 15 * (one b + k + (one c + m)) + (1 + kept b l + kept c r) ≤ 15 * (K + M) + (1 + P + Q)
+lightest-of-two : {l r : ℕ} {b c : Bool} (k m K P M Q : ℕ) → Choice l r b c → 1 + P + Q ≤ most-nodes → most-nodes * k + l ≤ most-nodes * K + P
+    → most-nodes * m + r ≤ most-nodes * M + Q
+    → most-nodes * (one b + k + (one c + m)) + (1 + kept b l + kept c r) ≤ most-nodes * (K + M) + (1 + P + Q)
 lightest-of-two k m K P M Q (neither small) fits x y = omega arith
 lightest-of-two {l} {r} k m K P M Q (left-off large larger small) fits x y =
     omega (arith, larger-off k m K P M Q l r large larger fits x y)
@@ -76,14 +77,14 @@ lightest-of-two {l} {r} k m K P M Q (right-off large larger small) fits x y =
 lightest-of-two k m K P M Q (both-off large still) fits x y = omega arith
 
 -- at a star the choice is lightest
-lightest-of-one : {n : ℕ} {b : Bool} (k K P : ℕ) → Only-choice n b → 1 + P ≤ 15 → 15 * k + n ≤ 15 * K + P
-    → 15 * (one b + k) + (1 + kept b n) ≤ 15 * K + (1 + P)
+lightest-of-one : {n : ℕ} {b : Bool} (k K P : ℕ) → Only-choice n b → 1 + P ≤ most-nodes → most-nodes * k + n ≤ most-nodes * K + P
+    → most-nodes * (one b + k) + (1 + kept b n) ≤ most-nodes * K + (1 + P)
 lightest-of-one k K P (stays small) fits x = omega arith
 lightest-of-one k K P (goes-off large) fits x = omega arith
 
 -- the wanted cut is lightest, of all that fit: from the leaves up
-lightest : {A : Type 0} (t : Tree A) (c : Cut t) → Fits t c → 15 * cuts t (wanted t) + open-size t
-    ≤ 15 * cuts t c + part t c
+lightest : {A : Type 0} (t : Tree A) (c : Cut t) → Fits t c → most-nodes * cuts t (wanted t) + open-size t
+    ≤ most-nodes * cuts t c + part t c
 lightest (leaf a) c h = omega arith
 lightest (catenation s t) c h =
     lightest-of-two _ _ _ _ _ _ (chosen s t) (h .0) (adds (c .0) s _ _ (h .1) (lightest s (c .1) (h .1)))
@@ -99,6 +100,6 @@ pub least : {A : Type 0} (t : Tree A) (c : Cut t) → Fits t c → pieces t (wan
 least t c h = omega (arith, lightest t c h, open-positive t, part-at-most t c h)
 
 -- the wanted cut has more than 128 pieces exactly when every cut with pieces of at most 15 nodes has
-pub too-many-exactly : {A : Type 0} (t : Tree A) → (128 < pieces t (wanted t))
-    ↔ ((c : Cut t) → Fits t c → 128 < pieces t c)
+pub too-many-exactly : {A : Type 0} (t : Tree A) → (most-pieces < pieces t (wanted t))
+    ↔ ((c : Cut t) → Fits t c → most-pieces < pieces t c)
 too-many-exactly t = (λ many c h. omega (arith, least t c h), λ many. many (wanted t) (wanted-fits t))

@@ -1,4 +1,4 @@
--- How long the lists of a tree are: one label and one record of 8 bytes for each node.
+-- How long the lists of a tree are: one label and one record for each node.
 -- Assumes nothing.
 use Prim.Native.Nat.{ℕ, _+_, _*_, _≤_}
 use mathlib.Core.Path.{_≡_, refl}
@@ -8,6 +8,7 @@ use lib.ListN.{length, length-append}
 use Rattle.language.specs.Tree.{Tree, leaf, catenation, union, star, nodes}
 use Rattle.tree.specs.Leaf.{Leaf}
 use Rattle.tree.specs.Cut.{Cut, wanted}
+use Rattle.tree.specs.Layout.{record-size}
 use Rattle.tree.specs.Records.{records, encode, labels}
 
 -- a tree has a node: its root
@@ -28,9 +29,9 @@ length-labels (catenation s t) = length-two (labels s) (labels t) _ _ _ (length-
 length-labels (union s t) = length-two (labels s) (labels t) _ _ _ (length-labels s) (length-labels t)
 length-labels (star s) = let r = length-labels s in simp length-append (omega arith)
 
--- one record, 8 bytes, for each node
+-- one record for each node
 pub length-records : (t : Tree Leaf) (c : Cut t) (first piece new : ℕ) → length (records t c first piece new)
-    ≡ 8 * nodes t
+    ≡ record-size * nodes t
 length-records (leaf a) c first piece new = refl
 length-records (catenation s t) c first piece new =
     let p = length-records s (c .1) in let q = length-records t (c .3) in simp (length-append, p, q) (omega arith)
@@ -38,6 +39,6 @@ length-records (union s t) c first piece new =
     let p = length-records s (c .1) in let q = length-records t (c .3) in simp (length-append, p, q) (omega arith)
 length-records (star s) c first piece new = let p = length-records s (c .1) in simp (length-append, p) (omega arith)
 
--- the list of a tree has 8 bytes for each node
-pub length-encode : (t : Tree Leaf) → length (encode t) ≡ 8 * nodes t
+-- so has the list of a tree
+pub length-encode : (t : Tree Leaf) → length (encode t) ≡ record-size * nodes t
 length-encode t = length-records t (wanted t) 0 0 1

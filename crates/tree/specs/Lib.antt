@@ -1,11 +1,15 @@
 -- The cut of a tree into pieces, and the records that a tree is stored as.
 pub mod Leaf
+pub mod Limits
+pub mod Layout
 pub mod Cut
 pub mod Records
+pub mod Parts
+pub mod Says
+pub mod Saying
+pub mod Fields
 pub mod Lengths
 pub mod Postorder
-pub mod Rows
-pub mod Readback
 pub mod Choice
 pub mod Least
 pub mod Bounds
@@ -18,8 +22,10 @@ pub mod Seats
 pub mod Gathered
 pub mod Written
 pub mod Measured
-pub mod Bytes
 pub mod Handed
 pub mod Recording
+pub mod Readback
+pub mod NumbersShown
 pub mod Depth
+pub mod Judged
 pub mod Decide

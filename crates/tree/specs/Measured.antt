@@ -15,6 +15,8 @@ use lib.Seq.{getD-set-same, getD-set-other}
 use Rattle.language.specs.Tree.{Tree, leaf, catenation, union, star, nodes}
 use Rattle.tree.specs.Leaf.{Leaf}
 use Rattle.tree.specs.Cut.{open-size}
+use Rattle.tree.specs.Limits.{most-nodes, most-labels, slot-count}
+use Rattle.tree.specs.Layout.{label-of, character-kind, catenation-kind, union-kind}
 use Rattle.tree.specs.Records.{labels, piece-count}
 use Rattle.tree.specs.Lengths.{length-labels}
 use Rattle.tree.specs.Choice.{open-at-most}
@@ -51,9 +53,9 @@ node t i = seat-at (seats t 0 1) i .tree
 
 -- three lists with a slot for each record there can be, and slot 0
 pub record Room (sizes opens cuts : List ℕ) : Type 0 where
-  pub for-sizes : length sizes ≡ 2048
-  pub for-opens : length opens ≡ 2048
-  pub for-cuts : length cuts ≡ 2048
+  pub for-sizes : length sizes ≡ slot-count
+  pub for-opens : length opens ≡ slot-count
+  pub for-cuts : length cuts ≡ slot-count
 
 -- slots 0 to i hold that number of the subtrees
 pub record Holds (f : Tree Leaf → ℕ) (t : Tree Leaf) (i : ℕ) (slots : List ℕ) : Type 0 where
@@ -107,12 +109,12 @@ measured-less ls sizes opens cuts i j h m =
     }
 
 -- label i is that of the subtree at record i
-pub label-at : (ls : List ℕ) (t : Tree Leaf) (i : ℕ) → ls ≡ labels t → i < nodes t → getD ls i 0 ≡ root-label (node t i)
-label-at ls t i e h = rw (e, labels-seats t 0 1) (held-seat label (seats t 0 1) i (rw (length-seats t 0 1) h))
+pub label-is : (ls : List ℕ) (t : Tree Leaf) (i : ℕ) → ls ≡ labels t → i < nodes t → getD ls i 0 ≡ root-label (node t i)
+label-is ls t i e h = rw (e, labels-seats t 0 1) (held-seat label (seats t 0 1) i (rw (length-seats t 0 1) h))
 
 -- a right child's slot is no later than its parent's record
 pub right-slot-le : (l i : ℕ) → right-slot l i ≤ i
-right-slot-le l i = by-test (eqb l 2 || eqb l 3)
+right-slot-le l i = by-test (eqb l (label-of catenation-kind 0) || eqb l (label-of union-kind 0))
   where
     by-test : (b : Bool) → cond b i 0 ≤ i
     by-test true = le-refl i
@@ -120,7 +122,7 @@ right-slot-le l i = by-test (eqb l 2 || eqb l 3)
 
 -- nor is a left child's
 pub left-slot-le : (l i size : ℕ) → left-slot l i size ≤ i
-left-slot-le l i size = by-test (eqb (l % 256) 1)
+left-slot-le l i size = by-test (eqb (l % 256) character-kind)
   where
     by-test : (b : Bool) → cond b 0 (i - size) ≤ i
     by-test true = omega arith
@@ -156,7 +158,7 @@ slots ls t i left right sizes e inside w r l =
     let h : i < nodes t = in-tree ls t i e inside in
     let s : List Seat = seats t 0 1 in
     let a : Around s i (seat-at s i) = around s i (seats-seated t 0 1) (rw (length-seats t 0 1) h) in
-    let lab : getD ls i 0 ≡ root-label (node t i) = label-at ls t i e h in
+    let lab : getD ls i 0 ≡ root-label (node t i) = label-is ls t i e h in
     let size : getD sizes right 0 ≡ of-right nodes (node t i) =
     w .slot right (rw r (right-slot-le (getD ls i 0) i)) ∙ rw (r, lab) (a .right (λ (x : Seat). nodes (x .tree))) in
     record { left-is = l ∙ rw (size, lab); right-is = r ∙ rw lab; right-size = size; inside = a .inside }
@@ -216,8 +218,8 @@ below-cuts (star s) = omega (arith, cut-edges-lt s)
 pub record Gathered (t : Tree Leaf) (i size left-open right-open left-cuts right-cuts : ℕ) : Type 0 where
   pub size-is : size ≡ nodes (node t i)
   pub size-le : size ≤ i + 1
-  pub left-le : left-open ≤ 15
-  pub right-le : right-open ≤ 15
+  pub left-le : left-open ≤ most-nodes
+  pub right-le : right-open ≤ most-nodes
   pub cuts-le : left-cuts + right-cuts ≤ i
   pub open-is : open-sum left-open right-open ≡ open-size (node t i)
   pub cuts-is : cut-sum left-open right-open left-cuts right-cuts ≡ cut-edges (node t i)
@@ -231,8 +233,8 @@ gathered t i left right sizes opens cuts c =
     record {
       size-is = omega (arith, nodes-gathered u, c .left-size, c .found .right-size);
       size-le = omega (arith, c .left-size, c .found .right-size, c .found .inside);
-      left-le = rw (c .left-open) (of-left-le open-size 15 open-at-most u);
-      right-le = rw (c .right-open) (of-right-le open-size 15 open-at-most u);
+      left-le = rw (c .left-open) (of-left-le open-size most-nodes open-at-most u);
+      right-le = rw (c .right-open) (of-right-le open-size most-nodes open-at-most u);
       cuts-le = omega (arith, c .left-cuts, c .right-cuts, c .found .inside, below-cuts u);
       open-is = rw (c .left-open, c .right-open) (sym (open-gathered u));
       cuts-is = rw (c .left-open, c .right-open, c .left-cuts, c .right-cuts) (sym (cuts-gathered u));
@@ -240,7 +242,7 @@ gathered t i left right sizes opens cuts c =
 
 -- one record more is measured
 pub measured-more : (ls : List ℕ) (i size open-here cuts-here : ℕ) (sizes opens cuts : List ℕ) → i < length ls
-    → length ls ≤ 2047 → Room sizes opens cuts → Measured ls sizes opens cuts i
+    → length ls ≤ most-labels → Room sizes opens cuts → Measured ls sizes opens cuts i
     → ((t : Tree Leaf) → ls ≡ labels t → (size ≡ nodes (node t i)) × (open-here ≡ open-size (node t i))
     × (cuts-here ≡ cut-edges (node t i)))
     → Measured ls (set sizes (i + 1) size) (set opens (i + 1) open-here) (set cuts (i + 1) cuts-here) (i + 1)

@@ -1,4 +1,4 @@
--- The pieces of a tree that is cut: how many there are, and that each is small.
+-- Laws of the pieces of a tree that is cut: how many there are, and that each is small.
 -- Assumes nothing.
 use Prim.Native.Nat.{ℕ, _+_, _*_, _≤_}
 use mathlib.Core.Path.{_≡_, refl}
@@ -15,65 +15,10 @@ use Rattle.language.specs.Nested.{
   union as nested-union,
   star as nested-star,
 }
-use Rattle.tree.specs.Cut.{Cut, kept, one, part, cuts, Fits, open-size, wanted, edge, nest}
-use Rattle.tree.specs.Choice.{
-  Choice,
-  neither,
-  left-off,
-  right-off,
-  both-off,
-  chosen,
-  Only-choice,
-  stays,
-  goes-off,
-  only-choice,
-}
-use Rattle.tree.specs.Least.{part-at-most, part-wanted}
-
--- how many pieces there are below the top piece
-abbrev pub pieces-below : {A : Type 0} → Nested A → ℕ
-pieces-below (nested-leaf a) = 0
-pieces-below (nested-catenation x y) = pieces-below x + pieces-below y
-pieces-below (nested-union x y) = pieces-below x + pieces-below y
-pieces-below (nested-star x) = pieces-below x
-pieces-below (below x) = 1 + pieces-below x
-
--- how many nodes of the tree the top piece has
-abbrev pub top-nodes : {A : Type 0} → Nested A → ℕ
-top-nodes (nested-leaf a) = 1
-top-nodes (nested-catenation x y) = 1 + top-nodes x + top-nodes y
-top-nodes (nested-union x y) = 1 + top-nodes x + top-nodes y
-top-nodes (nested-star x) = 1 + top-nodes x
-top-nodes (below x) = 0
-
--- how many child pieces the top piece has: its stand-ins
-abbrev pub child-pieces : {A : Type 0} → Nested A → ℕ
-child-pieces (nested-leaf a) = 0
-child-pieces (nested-catenation x y) = child-pieces x + child-pieces y
-child-pieces (nested-union x y) = child-pieces x + child-pieces y
-child-pieces (nested-star x) = child-pieces x
-child-pieces (below x) = 1
-
--- P holds of every piece below the top piece, where a piece is told with those below it
-abbrev pub Every-below : {A : Type 0} → (Nested A → Type 0) → Nested A → Type 0
-Every-below P (nested-leaf a) = Unit {0}
-Every-below P (nested-catenation x y) = Every-below P x × Every-below P y
-Every-below P (nested-union x y) = Every-below P x × Every-below P y
-Every-below P (nested-star x) = Every-below P x
-Every-below P (below x) = P x × Every-below P x
-
--- P holds of every piece
-abbrev pub Every-piece : {A : Type 0} → (Nested A → Type 0) → Nested A → Type 0
-Every-piece P x = P x × Every-below P x
-
--- what follows from P for one piece follows for every piece
-pub every-below : {A : Type 0} {P Q : Nested A → Type 0} → ((x : Nested A) → P x → Q x) → (x : Nested A)
-    → Every-below P x → Every-below Q x
-every-below f (nested-leaf a) h = tt
-every-below f (nested-catenation x y) h = (every-below f x (h .0), every-below f y (h .1))
-every-below f (nested-union x y) h = (every-below f x (h .0), every-below f y (h .1))
-every-below f (nested-star x) h = every-below f x h
-every-below f (below x) h = (f x (h .0), every-below f x (h .1))
+use Rattle.tree.specs.Limits.{most-nodes}
+use Rattle.tree.specs.Cut.{Cut, kept, one, part, cuts, Fits, edge, nest}
+use Rattle.tree.specs.Parts.{pieces-below, top-nodes, child-pieces, Every-below, Every-piece, Small}
+use Rattle.tree.specs.Least.{part-at-most}
 
 -- an edge, cut or not, leaves the tree under it
 pub whole-edge : {A : Type 0} (b : Bool) (x : Nested A) → whole (edge b x) ≡ whole x
@@ -134,15 +79,8 @@ child-pieces-at-most (nested-union x y) = omega (arith, child-pieces-at-most x, 
 child-pieces-at-most (nested-star x) = omega (arith, child-pieces-at-most x)
 child-pieces-at-most (below x) = omega arith
 
--- a piece is small: 1 to 15 nodes and at most 16 child pieces, so its own tree has at most 31 nodes and 62 states
-pub record Small {A : Type 0} (x : Nested A) : Type 0 where
-  pub some-node : 1 ≤ top-nodes x
-  pub few-nodes : top-nodes x ≤ 15
-  pub few-child-pieces : child-pieces x ≤ 16
-  pub few-own-nodes : nodes (own x) ≤ 31
-
 -- a piece of 1 to 15 nodes is small
-small : {A : Type 0} (x : Nested A) → 1 ≤ top-nodes x → top-nodes x ≤ 15 → Small x
+small : {A : Type 0} (x : Nested A) → 1 ≤ top-nodes x → top-nodes x ≤ most-nodes → Small x
 small x g h = record {
   some-node = g;
   few-nodes = h;
@@ -186,7 +124,7 @@ small-pieces t c h = (small-top t c h, small-below t c h)
 
 -- every node is in the top piece, or one of at most 15 in a piece below it
 nodes-of-pieces : {A : Type 0} (x : Nested A) → Every-below Small x
-    → nodes (whole x) ≤ top-nodes x + 15 * pieces-below x
+    → nodes (whole x) ≤ top-nodes x + most-nodes * pieces-below x
 nodes-of-pieces (nested-leaf a) h = omega arith
 nodes-of-pieces (nested-catenation x y) h = omega (arith, nodes-of-pieces x (h .0), nodes-of-pieces y (h .1))
 nodes-of-pieces (nested-union x y) h = omega (arith, nodes-of-pieces x (h .0), nodes-of-pieces y (h .1))
@@ -194,36 +132,5 @@ nodes-of-pieces (nested-star x) h = omega (arith, nodes-of-pieces x h)
 nodes-of-pieces (below x) h = omega (arith, nodes-of-pieces x (h .1), h .0 .few-nodes)
 
 -- where every piece is small there are at most 15 nodes for each
-pub nodes-at-most : {A : Type 0} (x : Nested A) → Every-piece Small x → nodes (whole x) ≤ 15 * (1 + pieces-below x)
+pub nodes-at-most : {A : Type 0} (x : Nested A) → Every-piece Small x → nodes (whole x) ≤ most-nodes * (1 + pieces-below x)
 nodes-at-most x h = omega (arith, nodes-of-pieces x (h .1), h .0 .few-nodes)
-
--- a piece has at least 8 nodes
-abbrev pub Large : {A : Type 0} → Nested A → Type 0
-Large x = 8 ≤ top-nodes x
-
--- the root's piece of the wanted cut has the open size
-large-top : {A : Type 0} (t : Tree A) → 8 ≤ open-size t → Large (nest t (wanted t))
-large-top t h = rw (top-nodes-nest t (wanted t), part-wanted t) h
-
--- a child that the choice cuts off has open size at least 8: with the other's it passes 14, and it is not the smaller
--- one
-large-of-two : {A : Type 0} (s t : Tree A) {b c : Bool} → Choice (open-size s) (open-size t) b c
-    → Every-below Large (nest s (wanted s)) → Every-below Large (nest t (wanted t))
-    → Every-below Large (edge b (nest s (wanted s))) × Every-below Large (edge c (nest t (wanted t)))
-large-of-two s t (neither small) x y = (x, y)
-large-of-two s t (left-off large larger small) x y = ((large-top s (omega arith), x), y)
-large-of-two s t (right-off large larger small) x y = (x, (large-top t (omega arith), y))
-large-of-two s t (both-off large still) x y = ((large-top s (omega arith), x), (large-top t (omega arith), y))
-
--- so has an operand that a star cuts off
-large-of-one : {A : Type 0} (s : Tree A) {b : Bool} → Only-choice (open-size s) b
-    → Every-below Large (nest s (wanted s)) → Every-below Large (edge b (nest s (wanted s)))
-large-of-one s (stays small) x = x
-large-of-one s (goes-off large) x = (large-top s (omega arith), x)
-
--- in the wanted cut every piece below another has at least 8 nodes, so its top node is no leaf
-pub large-below : {A : Type 0} (t : Tree A) → Every-below Large (nest t (wanted t))
-large-below (leaf a) = tt
-large-below (catenation s t) = large-of-two s t (chosen s t) (large-below s) (large-below t)
-large-below (union s t) = large-of-two s t (chosen s t) (large-below s) (large-below t)
-large-below (star s) = large-of-one s (only-choice (open-size s)) (large-below s)

@@ -1,18 +1,16 @@
 -- Pieces are numbered in the order in which a walk (node, left, right) first meets them, and a piece and those below it
 -- own a run of numbers with no gap.
 -- Assumes nothing.
-use Prim.Native.Nat.{ℕ, _+_, _*_, _/_, _%_, _≤_, _<_}
-use mathlib.Core.Path.{_≡_, refl, ap, _∙_}
+use Prim.Native.Nat.{ℕ, _+_, _≤_, _<_}
+use mathlib.Core.Path.{_≡_}
 use mathlib.Core.Logic.{_↔_, _⊎_, inl, inr}
 use mathlib.Core.Bool.{Bool, true, false}
-use mathlib.Core.List.{List, [], _∷_, _++_, map, map-append, append-assoc, append-nil}
+use mathlib.Core.List.{List, [], _∷_, _++_}
 use native.Mathlib.Omega.{arith}
 use native.Mathlib.Decide.{decLt}
 use Rattle.language.specs.Tree.{Tree, leaf, catenation, union, star}
-use Rattle.tree.specs.Leaf.{Leaf}
-use Rattle.tree.specs.Cut.{Cut, one, cuts, pieces, wanted}
-use Rattle.tree.specs.Records.{child-piece, records, Good}
-use Rattle.tree.specs.Rows.{Reader, each-record}
+use Rattle.tree.specs.Cut.{Cut, one, cuts, pieces}
+use Rattle.tree.specs.Records.{child-piece}
 
 -- a tree of numbers, one for each node
 pub data Numbers : Type 0 where
@@ -50,28 +48,6 @@ numbered (union s t) c piece new =
     (numbered t (c .3) (child-piece (c .2) piece (one (c .0) + cuts s (c .1) + new))
     (one (c .2) + (one (c .0) + cuts s (c .1) + new)))
 numbered (star s) c piece new = above-one piece (numbered s (c .1) (child-piece (c .0) piece new) (one (c .0) + new))
-
--- the piece of a record, from its bytes 6 and 7
-abbrev pub piece-read : Reader
-piece-read a b c d e f g h = g + 256 * h
-
--- a number as two bytes hold it
-abbrev pub in-two-bytes : ℕ → ℕ
-in-two-bytes n = n % 256 + 256 * (n / 256 % 256)
-
--- the records hold the pieces of the nodes
-pub pieces-of-records : (t : Tree Leaf) (c : Cut t) (first piece new : ℕ) (rest : List ℕ)
-    → each-record piece-read (records t c first piece new ++ rest)
-    ≡ map in-two-bytes (in-postorder (numbered t c piece new)) ++ each-record piece-read rest
-pieces-of-records (leaf a) c first piece new rest = refl
-pieces-of-records (catenation s t) c first piece new rest =
-    let left = pieces-of-records s (c .1) in let right =
-    pieces-of-records t (c .3) in simp (append-assoc, map-append, left, right)
-pieces-of-records (union s t) c first piece new rest =
-    let left = pieces-of-records s (c .1) in let right =
-    pieces-of-records t (c .3) in simp (append-assoc, map-append, left, right)
-pieces-of-records (star s) c first piece new rest = let only =
-    pieces-of-records s (c .1) in simp (append-assoc, map-append, only)
 
 -- a is the number of the root's piece, or one of the k numbers from `new` on
 abbrev pub Root-or-run : (a piece new k : ℕ) → Type 0
@@ -158,24 +134,6 @@ numbers-exactly (union s t) c piece new a = exactly-two a piece new (c .0) (c .2
     (numbers-exactly t (c .3) _ _ a)
 numbers-exactly (star s) c piece new a = exactly-one a piece new (c .0) _ (numbers-exactly s (c .1) _ _ a)
 
--- a number below 65,536 is as two bytes hold it
-held : (n : ℕ) → n < 65536 → in-two-bytes n ≡ n
-held n h = omega arith
-
--- so is a list of such numbers
-held-in-postorder : (x : Numbers) → ((a : ℕ) → Stands a x → a < 65536) → map in-two-bytes (in-postorder x)
-    ≡ in-postorder x
-held-in-postorder (alone n) h = rw (held n (h n refl))
-held-in-postorder (above-one n x) h =
-    let root = held n (h n (inl refl)) in
-    let only = held-in-postorder x (λ a p. h a (inr p)) in
-    simp (map-append, root, only)
-held-in-postorder (above-two n x y) h =
-    let root = held n (h n (inl refl)) in
-    let left = held-in-postorder x (λ a p. h a (inr (inl p))) in
-    let right = held-in-postorder y (λ a p. h a (inr (inr p))) in
-    simp (map-append, root, left, right)
-
 -- the numbers of the pieces are below how many there are
 pub numbers-below : {A : Type 0} (t : Tree A) (c : Cut t) (a : ℕ) → Stands a (numbered t c 0 1) → a < pieces t c
 numbers-below t c a h = by-place (numbers-exactly t c 0 1 a .0 h)
@@ -183,12 +141,3 @@ numbers-below t c a h = by-place (numbers-exactly t c 0 1 a .0 h)
     by-place : Root-or-run a 0 1 (cuts t c) → a < pieces t c
     by-place (inl e) = omega arith
     by-place (inr r) = r .1
-
--- a good list holds in its records the piece of each node
-pub pieces-of-good : (bytes : List ℕ) (t : Tree Leaf) → Good bytes t → each-record piece-read bytes
-    ≡ in-postorder (numbered t (wanted t) 0 1)
-pieces-of-good bytes t good =
-    let small : (a : ℕ) → Stands a (numbered t (wanted t) 0 1) → a < 65536 =
-    λ a h. omega (arith, numbers-below t (wanted t) a h, good .few) in
-    ap (each-record piece-read) (good .of-tree) ∙ simp append-nil at (pieces-of-records t (wanted t) 0 0 1 [])
-    ∙ held-in-postorder (numbered t (wanted t) 0 1) small

@@ -10,15 +10,9 @@ use Rattle.tree.specs.Leaf.{Leaf}
 use Rattle.tree.specs.Cut.{nest, wanted}
 use Rattle.tree.specs.Records.{encode, piece-count, Good}
 use Rattle.tree.specs.Least.{wanted-fits}
-use Rattle.tree.specs.Nesting.{
-  pieces-below,
-  Every-piece,
-  Small,
-  whole-nest,
-  pieces-below-nest,
-  small-pieces,
-  nodes-at-most,
-}
+use Rattle.tree.specs.Limits.{most-nodes, most-records, most-pieces}
+use Rattle.tree.specs.Parts.{pieces-below, Every-piece, Small}
+use Rattle.tree.specs.Nesting.{whole-nest, pieces-below-nest, small-pieces, nodes-at-most}
 use Rattle.tree.specs.Stored.{stored, stored-nest}
 
 -- the tree cut into its pieces as wanted; shut, so that the layers above see of it only what is stated
@@ -48,18 +42,18 @@ stated t =
     }
 
 -- so a tree has at most 15 nodes for each piece
-pub nodes-per-piece : (t : Tree Leaf) → nodes t ≤ 15 * piece-count t
+pub nodes-per-piece : (t : Tree Leaf) → nodes t ≤ most-nodes * piece-count t
 nodes-per-piece t = rw (stated t .same-tree, stated t .all-pieces) at (nodes-at-most (cut-up t) (stated t .every-small))
 
 -- the tree of a good list has at most 1,920 nodes: 15 in each of 128 pieces
-pub good-small : (bytes : List ℕ) (t : Tree Leaf) → Good bytes t → nodes t ≤ 1920
+pub good-small : (bytes : List ℕ) (t : Tree Leaf) → Good bytes t → nodes t ≤ most-records
 good-small bytes t good = omega (arith, nodes-per-piece t, good .few)
 
 -- a good list, seen from above: the records of a cut tree with small pieces, at most 128 of them
 pub record Told (bytes : List ℕ) (t : Tree Leaf) (x : Nested Leaf) : Type 0 where
   pub cut : Stated t x
   pub bytes-stored : bytes ≡ stored x 0 0 1
-  pub few-pieces : 1 + pieces-below x ≤ 128
+  pub few-pieces : 1 + pieces-below x ≤ most-pieces
 
 -- a good list tells the wanted cut of its tree
 pub good-tells : (bytes : List ℕ) (t : Tree Leaf) → Good bytes t → Told bytes t (cut-up t)

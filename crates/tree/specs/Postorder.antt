@@ -13,7 +13,8 @@ use lib.Seq.{append-snoc}
 use borrow.Author.Tests.{eqb-true}
 use Rattle.language.specs.Tree.{Tree, leaf, catenation, union, star}
 use Rattle.tree.specs.Leaf.{Leaf}
-use Rattle.tree.specs.Records.{label-of, labels, leaf-label}
+use Rattle.tree.specs.Layout.{label-of, character-kind, catenation-kind, union-kind, star-kind}
+use Rattle.tree.specs.Records.{labels, leaf-label}
 
 -- what a label asks for: a leaf with a character, a node over the last two trees or over the last one, or nothing that
 -- a tree has
@@ -27,8 +28,9 @@ pub data Asked : Type 0 where
 -- what is asked for, by the label's low byte and, of a node with children, by all of it
 abbrev pub asked : ℕ → Asked
 asked label =
-    cond (eqb (label % 256) 1) (a-leaf (Leaf.character (label / 256)))
-    (cond (eqb label 2) a-catenation (cond (eqb label 3) a-union (cond (eqb label 4) a-star nothing)))
+    cond (eqb (label % 256) character-kind) (a-leaf (Leaf.character (label / 256)))
+    (cond (eqb label (label-of catenation-kind 0)) a-catenation
+    (cond (eqb label (label-of union-kind 0)) a-union (cond (eqb label (label-of star-kind 0)) a-star nothing)))
 
 -- the stack, last tree first, after one label; none where the trees that it asks for are not there
 abbrev pub pushed : Asked → List (Tree Leaf) → Option (List (Tree Leaf))
@@ -84,27 +86,28 @@ labels-injective s t e =
     cc (ap (λ (l : List ℕ). built l []) e)
 
 -- the label is that of what is asked for
-abbrev pub Says : ℕ → Asked → Type 0
-Says label (a-leaf a) = label ≡ leaf-label a
-Says label a-catenation = label ≡ label-of 2 0
-Says label a-union = label ≡ label-of 3 0
-Says label a-star = label ≡ label-of 4 0
-Says label nothing = Unit {0}
+abbrev pub Asks : ℕ → Asked → Type 0
+Asks label (a-leaf a) = label ≡ leaf-label a
+Asks label a-catenation = label ≡ label-of catenation-kind 0
+Asks label a-union = label ≡ label-of union-kind 0
+Asks label a-star = label ≡ label-of star-kind 0
+Asks label nothing = Unit {0}
 
 -- by the four tests
 tested : (label : ℕ) (is-leaf is-catenation is-union is-star : Bool)
-    → eqb (label % 256) 1 ≡ is-leaf → eqb label 2 ≡ is-catenation → eqb label 3 ≡ is-union → eqb label 4 ≡ is-star
-    → Says label
+    → eqb (label % 256) character-kind ≡ is-leaf → eqb label (label-of catenation-kind 0) ≡ is-catenation
+    → eqb label (label-of union-kind 0) ≡ is-union → eqb label (label-of star-kind 0) ≡ is-star
+    → Asks label
     (cond is-leaf (a-leaf (Leaf.character (label / 256)))
     (cond is-catenation a-catenation (cond is-union a-union (cond is-star a-star nothing))))
-tested label true b c d e f g h = omega (arith, eqb-true (label % 256) 1 e)
+tested label true b c d e f g h = omega (arith, eqb-true (label % 256) character-kind e)
 tested label false true c d e f g h = eqb-true _ _ f
 tested label false false true d e f g h = eqb-true _ _ g
 tested label false false false true e f g h = eqb-true _ _ h
 tested label false false false false e f g h = tt
 
 -- what a label asks for has that label
-pub asked-says : (label : ℕ) → Says label (asked label)
+pub asked-says : (label : ℕ) → Asks label (asked label)
 asked-says label = tested label _ _ _ _ refl refl refl refl
 
 -- the trees of a stack, if there is one, have these labels
@@ -113,7 +116,7 @@ Holds-labels none ls = Unit {0}
 Holds-labels (some stack) ls = labels-of-stack stack ≡ ls
 
 -- one label more: the new tree has the labels of those under it, and this one
-pushed-holds : (what : Asked) (label : ℕ) (stack : List (Tree Leaf)) → Says label what
+pushed-holds : (what : Asked) (label : ℕ) (stack : List (Tree Leaf)) → Asks label what
     → Holds-labels (pushed what stack) (labels-of-stack stack ++ (label ∷ []))
 pushed-holds (a-leaf a) label stack says = rw says
 pushed-holds a-catenation label [] says = tt

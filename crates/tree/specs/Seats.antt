@@ -17,7 +17,8 @@ use lib.Seq.{getD-append-add, getD-at, getD-append-seam}
 use Rattle.language.specs.Tree.{Tree, leaf, catenation, union, star, nodes}
 use Rattle.tree.specs.Leaf.{Leaf}
 use Rattle.tree.specs.Cut.{cuts, one, wanted, cut-left, cut-right, open-size}
-use Rattle.tree.specs.Records.{child-piece, label-of, labels, leaf-label}
+use Rattle.tree.specs.Layout.{label-of, character-kind, catenation-kind, union-kind, star-kind}
+use Rattle.tree.specs.Records.{child-piece, labels, leaf-label}
 
 -- the edges that the wanted cut cuts
 abbrev pub cut-edges : Tree Leaf → ℕ
@@ -26,9 +27,9 @@ cut-edges t = cuts t (wanted t)
 -- the label of a tree's root
 abbrev pub root-label : Tree Leaf → ℕ
 root-label (leaf a) = leaf-label a
-root-label (catenation s t) = label-of 2 0
-root-label (union s t) = label-of 3 0
-root-label (star s) = label-of 4 0
+root-label (catenation s t) = label-of catenation-kind 0
+root-label (union s t) = label-of union-kind 0
+root-label (star s) = label-of star-kind 0
 
 -- a number of the left or only child, 0 where there is none
 abbrev pub of-left : (Tree Leaf → ℕ) → Tree Leaf → ℕ
@@ -45,32 +46,32 @@ of-right f (union s t) = f t
 of-right f (star s) = 0
 
 -- whether the edge to the left or only child is cut
-abbrev pub left-cut : Tree Leaf → Bool
-left-cut u = cut-left (of-left open-size u) (of-right open-size u)
+abbrev pub left-apart : Tree Leaf → Bool
+left-apart u = cut-left (of-left open-size u) (of-right open-size u)
 
 -- whether the edge to the right child is cut
-abbrev pub right-cut : Tree Leaf → Bool
-right-cut u = cut-right (of-left open-size u) (of-right open-size u)
+abbrev pub right-apart : Tree Leaf → Bool
+right-apart u = cut-right (of-left open-size u) (of-right open-size u)
 
 -- the piece of u's left or only child, when u's own piece is p and its new pieces begin at n
 abbrev pub left-piece : Tree Leaf → (p n : ℕ) → ℕ
-left-piece u p n = child-piece (left-cut u) p n
+left-piece u p n = child-piece (left-apart u) p n
 
 -- the first new piece number below u's left or only child
 abbrev pub left-new : Tree Leaf → ℕ → ℕ
-left-new u n = one (left-cut u) + n
+left-new u n = one (left-apart u) + n
 
 -- the first new piece number that the left child leaves
 abbrev pub past-left : Tree Leaf → ℕ → ℕ
-past-left u n = one (left-cut u) + of-left cut-edges u + n
+past-left u n = one (left-apart u) + of-left cut-edges u + n
 
 -- the piece of u's right child
 abbrev pub right-piece : Tree Leaf → (p n : ℕ) → ℕ
-right-piece u p n = child-piece (right-cut u) p (past-left u n)
+right-piece u p n = child-piece (right-apart u) p (past-left u n)
 
 -- the first new piece number below u's right child
 abbrev pub right-new : Tree Leaf → ℕ → ℕ
-right-new u n = one (right-cut u) + past-left u n
+right-new u n = one (right-apart u) + past-left u n
 
 -- a record's seat
 pub record Seat : Type 0 where
@@ -281,11 +282,11 @@ of-right-seat f x =
 
 -- the slot of the right child of record i, whose label is given
 abbrev pub right-slot : (label i : ℕ) → ℕ
-right-slot label i = cond (eqb label 2 || eqb label 3) i 0
+right-slot label i = cond (eqb label (label-of catenation-kind 0) || eqb label (label-of union-kind 0)) i 0
 
 -- the slot of the left or only child, when the right child has `size` nodes
 abbrev pub left-slot : (label i size : ℕ) → ℕ
-left-slot label i size = cond (eqb (label % 256) 1) 0 (i - size)
+left-slot label i size = cond (eqb (label % 256) character-kind) 0 (i - size)
 
 -- where the children of record i, with the seat x, are found
 pub record Around (xs : List Seat) (i : ℕ) (x : Seat) : Type 0 where

@@ -18,24 +18,26 @@ use Rattle.language.specs.Nested.{
 }
 use Rattle.tree.specs.Leaf.{Leaf}
 use Rattle.tree.specs.Cut.{Cut, cuts, one, edge, nest}
-use Rattle.tree.specs.Records.{record-of, child-piece, records, leaf-kind, leaf-character}
-use Rattle.tree.specs.Nesting.{pieces-below, pieces-below-edge, pieces-below-nest, whole-edge, whole-nest}
+use Rattle.tree.specs.Layout.{record-of, no-child, catenation-kind, union-kind, star-kind}
+use Rattle.tree.specs.Records.{child-piece, records, leaf-kind, leaf-character}
+use Rattle.tree.specs.Parts.{pieces-below}
+use Rattle.tree.specs.Nesting.{pieces-below-edge, pieces-below-nest, whole-edge, whole-nest}
 
 -- the records of x's tree. The first record has the number `first`, x's top piece is `piece`, and the pieces below it
 -- are numbered from `new`,
 -- a piece before those below it
 abbrev pub stored : Nested Leaf → (first piece new : ℕ) → List ℕ
-stored (nested-leaf a) first piece new = record-of (leaf-kind a) (leaf-character a) 65535 65535 piece
+stored (nested-leaf a) first piece new = record-of (leaf-kind a) (leaf-character a) no-child no-child piece
 stored (nested-catenation x y) first piece new =
     stored x first piece new
     ++ stored y (first + nodes (whole x)) piece (new + pieces-below x)
-    ++ record-of 2 0 (first + nodes (whole x) - 1) (first + nodes (whole x) + nodes (whole y) - 1) piece
+    ++ record-of catenation-kind 0 (first + nodes (whole x) - 1) (first + nodes (whole x) + nodes (whole y) - 1) piece
 stored (nested-union x y) first piece new =
     stored x first piece new
     ++ stored y (first + nodes (whole x)) piece (new + pieces-below x)
-    ++ record-of 3 0 (first + nodes (whole x) - 1) (first + nodes (whole x) + nodes (whole y) - 1) piece
+    ++ record-of union-kind 0 (first + nodes (whole x) - 1) (first + nodes (whole x) + nodes (whole y) - 1) piece
 stored (nested-star x) first piece new = stored x first piece new
-    ++ record-of 4 0 (first + nodes (whole x) - 1) 65535 piece
+    ++ record-of star-kind 0 (first + nodes (whole x) - 1) no-child piece
 stored (below x) first piece new = stored x first new (new + 1)
 
 -- below a cut edge the next piece begins

@@ -15,16 +15,17 @@ use borrow.Author.Tests.{ne-eqb}
 use Rattle.language.specs.Tree.{Tree, leaf, catenation, union, star, nodes}
 use Rattle.tree.specs.Leaf.{Leaf}
 use Rattle.tree.specs.Cut.{one, wanted, open-size}
-use Rattle.tree.specs.Records.{
-  child-piece,
+use Rattle.tree.specs.Layout.{
+  record-size,
   record-of,
   two-bytes,
-  records,
-  encode,
-  piece-count,
-  leaf-kind,
-  leaf-character,
+  no-child,
+  character-kind,
+  catenation-kind,
+  union-kind,
+  star-kind,
 }
+use Rattle.tree.specs.Records.{child-piece, records, encode, piece-count, leaf-kind, leaf-character}
 use Rattle.tree.specs.Seats.{
   Seat,
   seat,
@@ -41,8 +42,8 @@ use Rattle.tree.specs.Seats.{
   right-piece,
   right-new,
   past-left,
-  left-cut,
-  right-cut,
+  left-apart,
+  right-apart,
   of-left,
   cut-edges,
   length-seats,
@@ -52,9 +53,9 @@ use Rattle.tree.specs.Gathered.{only-left, cuts-gathered}
 -- the kind of a tree's root
 abbrev pub root-kind : Tree Leaf → ℕ
 root-kind (leaf a) = leaf-kind a
-root-kind (catenation s t) = 2
-root-kind (union s t) = 3
-root-kind (star s) = 4
+root-kind (catenation s t) = catenation-kind
+root-kind (union s t) = union-kind
+root-kind (star s) = star-kind
 
 -- the character of a tree's root, 0 for the other kinds
 abbrev pub root-character : Tree Leaf → ℕ
@@ -65,25 +66,25 @@ root-character (star s) = 0
 
 -- the record number that a slot stands for, 65,535 for none
 abbrev pub child-number : ℕ → ℕ
-child-number slot = cond (eqb slot 0) 65535 (slot - 1)
+child-number slot = cond (eqb slot 0) no-child (slot - 1)
 
 -- the record of a seat, when its number is i
-abbrev pub record-at : ℕ → Seat → List ℕ
-record-at i x =
+abbrev pub seat-record : ℕ → Seat → List ℕ
+seat-record i x =
     record-of (root-kind (x .tree)) (root-character (x .tree))
     (child-number (left-slot (label x) i (of-right nodes (x .tree)))) (child-number (right-slot (label x) i)) (x .piece)
 
 -- the records of some seats, the first of which has the number i
 abbrev pub written : ℕ → List Seat → List ℕ
 written i [] = []
-written i (x ∷ xs) = record-at i x ++ written (suc i) xs
+written i (x ∷ xs) = seat-record i x ++ written (suc i) xs
 
 -- two lists of seats, one after the other
 written-append : (i : ℕ) (xs ys : List Seat) → written i (xs ++ ys) ≡ written i xs ++ written (i + length xs) ys
-written-append i [] ys = rw add-zero
+written-append i [] ys = rw (add-zero i)
 written-append i (x ∷ xs) ys =
     let e : suc i + length xs ≡ i + suc (length xs) = omega arith in
-    ap (λ (l : List ℕ). record-at i x ++ l) (written-append (suc i) xs ys
+    ap (λ (l : List ℕ). seat-record i x ++ l) (written-append (suc i) xs ys
     ∙ ap (λ (k : ℕ). written (suc i) xs ++ written k ys) e)
 
 -- these bytes are the records of the seats
@@ -111,12 +112,13 @@ pair-record kind p first m k h =
     )
 
 -- the record of a star whose child has m nodes
-star-record : (p first m : ℕ) → 1 ≤ m → record-of 4 0 (first + m - 1) 65535 p
-    ≡ record-of 4 0 (child-number (first + m - 0)) 65535 p
+star-record : (p first m : ℕ) → 1 ≤ m → record-of star-kind 0 (first + m - 1) no-child p
+    ≡ record-of star-kind 0 (child-number (first + m - 0)) no-child p
 star-record p first m h = rw (number-of (first + m - 0) (first + m - 1) (omega arith))
 
 -- a leaf's children are none
-leaf-record : (a p first : ℕ) → record-of 1 a 65535 65535 p ≡ record-at first (seat (leaf (Leaf.character a)) p 0)
+leaf-record : (a p first : ℕ) → record-of character-kind a no-child no-child p 
+    ≡ seat-record first (seat (leaf (Leaf.character a)) p 0)
 leaf-record a p first =
     let character : (1 + 256 * a) % 256 ≡ 1 = omega arith in
     rw (character, ne-eqb (1 + 256 * a) 2 (omega arith), ne-eqb (1 + 256 * a) 3 (omega arith))
@@ -129,17 +131,17 @@ writes (catenation s t) first p n =
     let f = length-seats t in
     writes-append (first + nodes s + nodes t) (simp (length-append, e, f) (omega arith))
     (writes-append (first + nodes s) (simp e) (writes s first _ _) (writes t (first + nodes s) _ _))
-    (record { so = pair-record 2 p first (nodes s) (nodes t) (nodes-positive s) })
+    (record { so = pair-record catenation-kind p first (nodes s) (nodes t) (nodes-positive s) })
 writes (union s t) first p n =
     let e = length-seats s in
     let f = length-seats t in
     writes-append (first + nodes s + nodes t) (simp (length-append, e, f) (omega arith))
     (writes-append (first + nodes s) (simp e) (writes s first _ _) (writes t (first + nodes s) _ _))
-    (record { so = pair-record 3 p first (nodes s) (nodes t) (nodes-positive s) })
+    (record { so = pair-record union-kind p first (nodes s) (nodes t) (nodes-positive s) })
 writes (star s) first p n =
     let e = length-seats s in
     subst (λ (b : Bool). Writes (seats (star s) p n) first (records s (wanted s) first (child-piece b p n) (one b + n)
-    ++ record-of 4 0 (first + nodes s - 1) 65535 p))
+    ++ record-of star-kind 0 (first + nodes s - 1) no-child p))
     (only-left (open-size s))
     (writes-append (first + nodes s) (simp e) (writes s first _ _)
     (record { so = star-record p first (nodes s) (nodes-positive s) }))
@@ -148,26 +150,26 @@ writes (star s) first p n =
 pub encode-written : (t : Tree Leaf) → encode t ≡ written 0 (seats t 0 1)
 encode-written t = writes t 0 0 1 .so
 
--- the records of some seats: 8 bytes each
-pub length-written : (i : ℕ) (xs : List Seat) → length (written i xs) ≡ 8 * length xs
+-- the records of some seats
+pub length-written : (i : ℕ) (xs : List Seat) → length (written i xs) ≡ record-size * length xs
 length-written i [] = refl
 length-written i (x ∷ xs) = omega (arith, length-written (suc i) xs)
 
 -- the records from number j on begin with that of number j
-pub drop-written : (i j : ℕ) (xs : List Seat) → j < length xs → drop (8 * j) (written i xs)
-    ≡ record-at (i + j) (seat-at xs j) ++ drop (8 * j + 8) (written i xs)
+pub drop-written : (i j : ℕ) (xs : List Seat) → j < length xs → drop (record-size * j) (written i xs)
+    ≡ seat-record (i + j) (seat-at xs j) ++ drop (record-size * j + record-size) (written i xs)
 drop-written i j [] h = absurd (not-suc-le-zero h)
-drop-written i zero (x ∷ xs) h = rw add-zero
+drop-written i zero (x ∷ xs) h = rw (add-zero i)
 drop-written i (suc j) (x ∷ xs) h =
     let rest : List ℕ = written (suc i) xs in
-    let past : (k : ℕ) → drop (8 + k) (record-at i x ++ rest) ≡ drop k rest = drop-append-add (record-at i x) rest in
-    let here : 8 * suc j ≡ 8 + 8 * j = omega arith in
-    let next : 8 * suc j + 8 ≡ 8 + (8 * j + 8) = omega arith in
+    let past : (k : ℕ) → drop (record-size + k) (seat-record i x ++ rest) ≡ drop k rest = drop-append-add (seat-record i x) rest in
+    let here : record-size * suc j ≡ record-size + record-size * j = omega arith in
+    let next : record-size * suc j + record-size ≡ record-size + (record-size * j + record-size) = omega arith in
     let number : suc i + j ≡ i + suc j = omega arith in
-    ap (λ (k : ℕ). drop k (record-at i x ++ rest)) here ∙ past (8 * j) ∙ drop-written (suc i) j xs (le-of-suc-le-suc h)
-    ∙ ap (λ (k : ℕ). record-at k (seat-at xs j) ++ drop (8 * j + 8) rest) number
-    ∙ ap (λ (l : List ℕ). record-at (i + suc j) (seat-at xs j) ++ l)
-    (sym (ap (λ (k : ℕ). drop k (record-at i x ++ rest)) next ∙ past (8 * j + 8)))
+    ap (λ (k : ℕ). drop k (seat-record i x ++ rest)) here ∙ past (record-size * j) ∙ drop-written (suc i) j xs (le-of-suc-le-suc h)
+    ∙ ap (λ (k : ℕ). seat-record k (seat-at xs j) ++ drop (record-size * j + record-size) rest) number
+    ∙ ap (λ (l : List ℕ). seat-record (i + suc j) (seat-at xs j) ++ l)
+    (sym (ap (λ (k : ℕ). drop k (seat-record i x ++ rest)) next ∙ past (record-size * j + record-size)))
 
 -- the first two bytes of a record are its label
 pub label-bytes : (u : Tree Leaf) → root-label u < 65536 → two-bytes (root-label u)
@@ -216,22 +218,22 @@ child-older true p m n h k = omega arith
 child-older false p m n h k = omega arith
 
 -- so do the numbers of a pair's children
-small-left : (limit : ℕ) (u s : Tree Leaf) (p n after : ℕ) → cut-edges u ≡ one (left-cut u) + cut-edges s + after
+small-left : (limit : ℕ) (u s : Tree Leaf) (p n after : ℕ) → cut-edges u ≡ one (left-apart u) + cut-edges s + after
     → Small limit (seat u p n)
     → Small limit (seat s (left-piece u p n) (left-new u n))
 small-left limit u s p n after e w = record {
-  older = child-older (left-cut u) p n n (w .older) (le-refl n);
+  older = child-older (left-apart u) p n n (w .older) (le-refl n);
   bounded =
       omega (arith, w .bounded);
 }
 
 -- and those of the right one
 small-right : (limit : ℕ) (u t : Tree Leaf) (p n : ℕ)
-    → cut-edges u ≡ one (left-cut u) + of-left cut-edges u + (one (right-cut u) + cut-edges t)
+    → cut-edges u ≡ one (left-apart u) + of-left cut-edges u + (one (right-apart u) + cut-edges t)
     → Small limit (seat u p n)
     → Small limit (seat t (right-piece u p n) (right-new u n))
 small-right limit u t p n e w = record {
-  older = child-older (right-cut u) p (past-left u n) n (w .older) (omega arith);
+  older = child-older (right-apart u) p (past-left u n) n (w .older) (omega arith);
   bounded = omega (arith, w .bounded);
 }
 

@@ -1,39 +1,38 @@
 // The cut at one node, by the open sizes of its children: 0 stands for a child that is not there.
+use crate::limits::MOST_NODES;
 ghost use mathlib.Core.Path.{_≡_};
 ghost use Prim.Native.Nat.{_+_, _≤_, _<_};
+ghost use Rattle.tree.specs.Limits.{most-nodes};
 ghost use Rattle.tree.specs.Cut.{cut-left, cut-right, kept, one};
 ghost use Rattle.tree.specs.Records.{child-piece};
 ghost use Rattle.tree.specs.Gathered.{open-sum, cut-sum};
 
-// How many nodes a piece has at most.
-const MOST: u16 = 15;
-
 // Whether the left or only child is cut off: it is the larger, or as large, where the two pass 15.
-pub fn left_cut(l: u16, r: u16) -> bool
-    requires { ⌜ (l ≤ 15) × (r ≤ 15) ⌝ }
+pub fn cut_left(l: u16, r: u16) -> bool
+    requires { ⌜ (l ≤ most-nodes) × (r ≤ most-nodes) ⌝ }
     ensures { λ b. ⌜ b ≡ cut-left l r ⌝ }
 {
-    if 1 + l + r <= MOST {
+    if 1 + l + r <= MOST_NODES {
         return false;
     }
     if r <= l {
         return true;
     }
-    MOST < 1 + l
+    MOST_NODES < 1 + l
 }
 
 // Whether the right child is cut off: it is the larger where the two pass 15.
-pub fn right_cut(l: u16, r: u16) -> bool
-    requires { ⌜ (l ≤ 15) × (r ≤ 15) ⌝ }
+pub fn cut_right(l: u16, r: u16) -> bool
+    requires { ⌜ (l ≤ most-nodes) × (r ≤ most-nodes) ⌝ }
     ensures { λ b. ⌜ b ≡ cut-right l r ⌝ }
 {
-    if 1 + l + r <= MOST {
+    if 1 + l + r <= MOST_NODES {
         return false;
     }
     if l < r {
         return true;
     }
-    MOST < 1 + r
+    MOST_NODES < 1 + r
 }
 
 // 1 for a cut edge.
@@ -59,17 +58,17 @@ pub fn piece_below(cut: bool, piece: u16, new: u16) -> u16
 
 // A node's open size.
 pub fn open_size(l: u16, r: u16) -> u16
-    requires { ⌜ (l ≤ 15) × (r ≤ 15) ⌝ }
+    requires { ⌜ (l ≤ most-nodes) × (r ≤ most-nodes) ⌝ }
     ensures { λ n. ⌜ n ≡ open-sum l r ⌝ }
 {
-    1 + kept_size(left_cut(l, r), l) + kept_size(right_cut(l, r), r)
+    1 + kept_size(cut_left(l, r), l) + kept_size(cut_right(l, r), r)
 }
 
 // The cut edges at and below a node.
 pub fn cut_count(l: u16, r: u16, below_left: u16, below_right: u16) -> u16
-    requires { ⌜ (l ≤ 15) × (r ≤ 15) ⌝ }
+    requires { ⌜ (l ≤ most-nodes) × (r ≤ most-nodes) ⌝ }
     requires { ⌜ «below_left» + «below_right» < 65000 ⌝ }
     ensures { λ n. ⌜ n ≡ cut-sum l r «below_left» «below_right» ⌝ }
 {
-    one_if(left_cut(l, r)) + below_left + (one_if(right_cut(l, r)) + below_right)
+    one_if(cut_left(l, r)) + below_left + (one_if(cut_right(l, r)) + below_right)
 }

@@ -1,13 +1,28 @@
-// Whether a lent list is good: its labels are those of one tree, and its bytes are that tree's records.
+// Whether a lent list is good: its labels are those of one tree, and each record is that tree's.
+use crate::hand::hand_down;
+use crate::layout::RECORD_SIZE;
+use crate::layout::character_at;
+use crate::layout::is_record;
+use crate::layout::kind_at;
+use crate::layout::label_of;
+use crate::limits::MOST_PIECES;
+use crate::limits::MOST_RECORDS;
+use crate::limits::SLOT_COUNT;
 use crate::number::piece_count;
-use crate::number::write_records;
 use crate::order::one_tree;
+use crate::slots::child_number;
+use crate::slots::left_slot;
+use crate::slots::right_slot;
 ghost use mathlib.Core.Path.{_≡_};
 ghost use Prim.Native.Nat.{_*_, _/_, _%_, _≤_};
-ghost use lib.ListN.{length, take};
-ghost use Rattle.tree.specs.Records.{label-of};
-ghost use Rattle.tree.specs.Readback.{labels-of-bytes};
-ghost use Rattle.tree.specs.Decide.{Same, Judged};
+ghost use lib.ListN.{length};
+ghost use Rattle.tree.specs.Limits.{most-labels, most-records, slot-count};
+ghost use Rattle.tree.specs.Layout.{record-size};
+ghost use Rattle.tree.specs.Measured.{Postorder, Sized, Room, Measured};
+ghost use Rattle.tree.specs.Handed.{Pieced};
+ghost use Rattle.tree.specs.Readback.{Labels-of};
+ghost use Rattle.tree.specs.Judged.{Judged, Counts-below};
+ghost use Rattle.tree.specs.Decide.{Taken, Compared};
 
 // What deciding on a list answers.
 pub enum Decided {
@@ -15,35 +30,36 @@ pub enum Decided {
     NotGood,
 }
 
-// The label of a record, from its first two bytes.
-fn label_from(kind: u8, character: u8) -> u16
-    ensures { λ r. ⌜ r ≡ label-of kind character ⌝ }
-{
-    kind as u16 + 256 * (character as u16)
-}
-
 // Takes the labels off a list.
 fn take_labels(list: &[u8], labels: &mut [u16])
-    requires { ⌜ 8 * length (now labels) ≤ length (now list) ⌝ }
-    ensures { λ _. ⌜ now (labels .exit) ≡ labels-of-bytes (take (8 * length (now (labels .entry))) (now (list .entry)))
-        ⌝ }
+    requires { ⌜ record-size * length (now labels) ≤ length (now list) ⌝ }
+    ensures { λ _. ⌜ Taken (now (list .entry)) (now (labels .exit)) (length (now (labels .entry))) ⌝ }
 {
     let mut i = 0;
     while i < labels.len() {
-        let at = 8 * i;
-        labels[i] = label_from(list[at], list[at + 1]);
+        let kind = kind_at(list, i);
+        let character = character_at(list, i);
+        labels[i] = label_of(kind, character);
         i += 1;
     }
 }
 
-// Whether `own` begins with the bytes of `list`.
-fn begins(list: &[u8], own: &[u8]) -> bool
-    requires { ⌜ length (now list) ≤ length (now own) ⌝ }
-    ensures { λ r. ⌜ Same (now (list .entry)) (take (length (now (list .entry))) (now (own .entry))) r ⌝ }
+// Whether the list is that of the tree with these labels, by the sizes and the pieces in the slots.
+fn compare(list: &[u8], labels: &[u16], sizes: &[u16], pieces: &[u16]) -> bool
+    requires { ⌜ Postorder (now labels) ⌝ }
+    requires { ⌜ (length (now labels) ≤ most-labels) × (length (now list) ≡ record-size * length (now labels)) ⌝ }
+    requires { ⌜ (length (now sizes) ≡ slot-count) × (length (now pieces) ≡ slot-count) ⌝ }
+    requires { ⌜ Sized (now labels) (now sizes) × Pieced (now labels) (now pieces) ⌝ }
+    ensures { λ b. ⌜ Compared (now (labels .entry)) (now (list .entry)) b ⌝ }
 {
     let mut i = 0;
-    while i < list.len() {
-        if list[i] != own[i] {
+    while i < labels.len() {
+        let label = labels[i];
+        let right = right_slot(label, i);
+        let left = left_slot(label, i, sizes[right]);
+        let left_number = child_number(left);
+        let right_number = child_number(right);
+        if !is_record(list, i, label, left_number, right_number, pieces[i + 1]) {
             return false;
         }
         i += 1;
@@ -51,21 +67,37 @@ fn begins(list: &[u8], own: &[u8]) -> bool
     true
 }
 
-// Decides on a list with these labels: it is good when it is what is written for their tree, into `own`.
-fn decide_by(list: &[u8], labels: &[u16], own: &mut [u8]) -> Decided
-    requires { ⌜ (length (now labels) ≤ 1920) × (length (now list) ≡ 8 * length (now labels)) ⌝ }
-    requires { ⌜ (now labels ≡ labels-of-bytes (now list)) × (length (now own) ≡ 15360) ⌝ }
+// Whether the list is that of the tree with these labels, which is measured.
+fn is_list(list: &[u8], labels: &[u16], sizes: &[u16], opens: &[u16], cuts: &[u16]) -> bool
+    requires { ⌜ Postorder (now labels) ⌝ }
+    requires { ⌜ (length (now labels) ≤ most-labels) × (length (now list) ≡ record-size * length (now labels)) ⌝ }
+    requires { ⌜ Room (now sizes) (now opens) (now cuts) ⌝ }
+    requires { ⌜ Measured (now labels) (now sizes) (now opens) (now cuts) (length (now labels)) ⌝ }
+    ensures { λ b. ⌜ Compared (now (labels .entry)) (now (list .entry)) b ⌝ }
+{
+    let mut pieces = [0u16; SLOT_COUNT];
+    let mut news = [0u16; SLOT_COUNT];
+    hand_down(labels, sizes, opens, cuts, &mut pieces, &mut news);
+    compare(list, labels, sizes, &pieces)
+}
+
+// Decides on a list with these labels, and measures its tree.
+fn decide_by(list: &[u8], labels: &[u16], cuts: &mut [u16]) -> Decided
+    requires { ⌜ Labels-of (now list) (now labels) ⌝ }
+    requires { ⌜ (length (now labels) ≤ most-records) × (length (now cuts) ≡ slot-count) ⌝ }
     ensures { λ r. ⌜ Judged (now (list .entry)) r ⌝ }
+    ensures { λ _. ⌜ Counts-below (now (list .entry)) (now (cuts .exit)) ⌝ }
 {
     if !one_tree(labels) {
         return Decided::NotGood;
     }
-    let pieces = piece_count(labels);
-    if 128 < pieces {
+    let mut sizes = [0u16; SLOT_COUNT];
+    let mut opens = [0u16; SLOT_COUNT];
+    let pieces = piece_count(labels, &mut sizes, &mut opens, cuts);
+    if MOST_PIECES < pieces {
         return Decided::NotGood;
     }
-    write_records(labels, own);
-    if begins(list, own) {
+    if is_list(list, labels, &sizes, &opens, cuts) {
         return Decided::Good {
             records: labels.len(),
             pieces,
@@ -74,28 +106,39 @@ fn decide_by(list: &[u8], labels: &[u16], own: &mut [u8]) -> Decided
     Decided::NotGood
 }
 
-// Decides on a list of whole records, with room for the labels and the records of a good list.
-fn decide_in(list: &[u8], labels: &mut [u16], own: &mut [u8]) -> Decided
-    requires { ⌜ (length (now list) % 8 ≡ 0) × (length (now list) / 8 ≤ 1920) ⌝ }
-    requires { ⌜ (length (now labels) ≡ 1920) × (length (now own) ≡ 15360) ⌝ }
+// Decides on a list of whole records, with room for the labels of a good list.
+fn decide_in(list: &[u8], labels: &mut [u16], cuts: &mut [u16]) -> Decided
+    requires { ⌜ (length (now list) % record-size ≡ 0) × (length (now list) / record-size ≤ most-records) ⌝ }
+    requires { ⌜ (length (now labels) ≡ most-records) × (length (now cuts) ≡ slot-count) ⌝ }
     ensures { λ r. ⌜ Judged (now (list .entry)) r ⌝ }
+    ensures { λ _. ⌜ Counts-below (now (list .entry)) (now (cuts .exit)) ⌝ }
 {
-    let n = list.len() / 8;
+    let n = list.len() / RECORD_SIZE;
     take_labels(list, &mut labels[..n]);
-    decide_by(list, &labels[..n], own)
+    decide_by(list, &labels[..n], cuts)
 }
 
-// Decides whether a list is good, and counts its records and pieces. No good list has more than 1,920 records.
+// Decides whether a list is good, and counts its records and pieces. Of a good list, `cuts` tells the pieces below each
+// record's node. No good list has more than 1,920 records.
+pub fn decide_with(list: &[u8], cuts: &mut [u16]) -> Decided
+    requires { ⌜ length (now cuts) ≡ slot-count ⌝ }
+    ensures { λ r. ⌜ Judged (now (list .entry)) r ⌝ }
+    ensures { λ _. ⌜ Counts-below (now (list .entry)) (now (cuts .exit)) ⌝ }
+{
+    if list.len() % RECORD_SIZE != 0 {
+        return Decided::NotGood;
+    }
+    if MOST_RECORDS < list.len() / RECORD_SIZE {
+        return Decided::NotGood;
+    }
+    let mut labels = [0u16; MOST_RECORDS];
+    decide_in(list, &mut labels, cuts)
+}
+
+// Decides whether a list is good, and counts its records and pieces.
 pub fn decide(list: &[u8]) -> Decided
     ensures { λ r. ⌜ Judged (now (list .entry)) r ⌝ }
 {
-    if list.len() % 8 != 0 {
-        return Decided::NotGood;
-    }
-    if 1920 < list.len() / 8 {
-        return Decided::NotGood;
-    }
-    let mut labels = [0u16; 1920];
-    let mut own = [0u8; 15360];
-    decide_in(list, &mut labels, &mut own)
+    let mut cuts = [0u16; SLOT_COUNT];
+    decide_with(list, &mut cuts)
 }

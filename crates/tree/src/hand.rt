@@ -1,14 +1,15 @@
 // From the root down: the piece of every record, and the number of the first new piece below it, each in the record's
 // slot.
-use crate::cut::left_cut;
+use crate::cut::cut_left;
+use crate::cut::cut_right;
 use crate::cut::one_if;
 use crate::cut::piece_below;
-use crate::cut::right_cut;
-use crate::slots::left_of;
-use crate::slots::right_of;
+use crate::slots::left_slot;
+use crate::slots::right_slot;
 ghost use mathlib.Core.Path.{_≡_};
 ghost use Prim.Native.Nat.{_≤_};
 ghost use lib.ListN.{length};
+ghost use Rattle.tree.specs.Limits.{most-labels, slot-count};
 ghost use Rattle.tree.specs.Measured.{Postorder, Room, Measured};
 ghost use Rattle.tree.specs.Handed.{Pieced};
 
@@ -22,10 +23,10 @@ pub fn hand_down(
     news: &mut [u16],
 )
     requires { ⌜ Postorder (now labels) ⌝ }
-    requires { ⌜ length (now labels) ≤ 2047 ⌝ }
+    requires { ⌜ length (now labels) ≤ most-labels ⌝ }
     requires { ⌜ Room (now sizes) (now opens) (now cuts) ⌝ }
     requires { ⌜ Measured (now labels) (now sizes) (now opens) (now cuts) (length (now labels)) ⌝ }
-    requires { ⌜ (length (now pieces) ≡ 2048) × (length (now news) ≡ 2048) ⌝ }
+    requires { ⌜ (length (now pieces) ≡ slot-count) × (length (now news) ≡ slot-count) ⌝ }
     ensures { λ _. ⌜ Pieced (now (labels .entry)) (now (pieces .exit)) ⌝ }
 {
     let mut i = labels.len();
@@ -36,16 +37,16 @@ pub fn hand_down(
         let new = news[i];
         i -= 1;
         let label = labels[i];
-        let right = right_of(label, i);
-        let left = left_of(label, i, sizes[right]);
+        let right = right_slot(label, i);
+        let left = left_slot(label, i, sizes[right]);
         let left_open = opens[left];
         let right_open = opens[right];
-        let cut_left = left_cut(left_open, right_open);
-        let cut_right = right_cut(left_open, right_open);
-        let past_left = one_if(cut_left) + cuts[left] + new;
-        pieces[left] = piece_below(cut_left, own, new);
-        pieces[right] = piece_below(cut_right, own, past_left);
-        news[left] = one_if(cut_left) + new;
-        news[right] = one_if(cut_right) + past_left;
+        let left_off = cut_left(left_open, right_open);
+        let right_off = cut_right(left_open, right_open);
+        let past_left = one_if(left_off) + cuts[left] + new;
+        pieces[left] = piece_below(left_off, own, new);
+        pieces[right] = piece_below(right_off, own, past_left);
+        news[left] = one_if(left_off) + new;
+        news[right] = one_if(right_off) + past_left;
     }
 }

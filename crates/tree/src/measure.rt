@@ -1,16 +1,17 @@
 // From the leaves up: the nodes, the open size and the cut edges of every subtree, in the slot of its root's record.
 use crate::cut::cut_count;
 use crate::cut::open_size;
-use crate::slots::left_of;
-use crate::slots::right_of;
+use crate::slots::left_slot;
+use crate::slots::right_slot;
 ghost use Prim.Native.Nat.{_≤_};
 ghost use lib.ListN.{length};
+ghost use Rattle.tree.specs.Limits.{most-labels};
 ghost use Rattle.tree.specs.Measured.{Postorder, Room, Measured};
 
 // A child comes before its parent, so its slots are filled when the parent is met.
 pub fn measure(labels: &[u16], sizes: &mut [u16], opens: &mut [u16], cuts: &mut [u16])
     requires { ⌜ Postorder (now labels) ⌝ }
-    requires { ⌜ length (now labels) ≤ 2047 ⌝ }
+    requires { ⌜ length (now labels) ≤ most-labels ⌝ }
     requires { ⌜ Room (now sizes) (now opens) (now cuts) ⌝ }
     ensures { λ _. ⌜ Measured (now (labels .entry)) (now (sizes .exit)) (now (opens .exit)) (now (cuts .exit))
         (length (now (labels .entry))) ⌝ }
@@ -21,9 +22,9 @@ pub fn measure(labels: &[u16], sizes: &mut [u16], opens: &mut [u16], cuts: &mut 
     let mut i = 0;
     while i < labels.len() {
         let label = labels[i];
-        let right = right_of(label, i);
+        let right = right_slot(label, i);
         let right_size = sizes[right];
-        let left = left_of(label, i, right_size);
+        let left = left_slot(label, i, right_size);
         let size = sizes[left] + right_size + 1;
         let left_open = opens[left];
         let right_open = opens[right];

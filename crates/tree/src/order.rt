@@ -1,7 +1,12 @@
 // Whether labels are those of one tree in postorder: a count of the trees that wait for a parent.
+use crate::layout::CATENATION_LABEL;
+use crate::layout::CHARACTER_LABEL;
+use crate::layout::STAR_LABEL;
+use crate::layout::UNION_LABEL;
 ghost use mathlib.Core.Path.{_≡_};
 ghost use Prim.Native.Nat.{_-_, _≤_};
 ghost use lib.ListN.{length};
+ghost use Rattle.tree.specs.Limits.{most-labels};
 ghost use Rattle.tree.specs.Postorder.{asked};
 ghost use Rattle.tree.specs.Depth.{depth-after, One-tree};
 
@@ -17,19 +22,19 @@ fn one_less(n: usize) -> usize
 
 // How many trees wait after a label; 0 where the label has not its operands, or is none.
 fn depth_with(label: u16, depth: usize) -> usize
-    requires { ⌜ depth ≤ 2047 ⌝ }
+    requires { ⌜ depth ≤ most-labels ⌝ }
     ensures { λ r. ⌜ r ≡ depth-after (asked label) depth ⌝ }
 {
-    if label % 256 == 1 {
+    if label % 256 == CHARACTER_LABEL {
         return depth + 1;
     }
-    if label == 2 {
+    if label == CATENATION_LABEL {
         return one_less(depth);
     }
-    if label == 3 {
+    if label == UNION_LABEL {
         return one_less(depth);
     }
-    if label == 4 {
+    if label == STAR_LABEL {
         return depth;
     }
     0
@@ -37,7 +42,7 @@ fn depth_with(label: u16, depth: usize) -> usize
 
 // A parent takes its children's trees and leaves its own, so one tree is left at the end.
 pub fn one_tree(labels: &[u16]) -> bool
-    requires { ⌜ length (now labels) ≤ 2047 ⌝ }
+    requires { ⌜ length (now labels) ≤ most-labels ⌝ }
     ensures { λ b. ⌜ One-tree (now (labels .entry)) b ⌝ }
 {
     let mut depth = 0;

@@ -1,40 +1,45 @@
 // Slots: record i has slot i + 1, and slot 0 stands for a child that is not there.
+use crate::layout::CATENATION_LABEL;
+use crate::layout::CHARACTER_LABEL;
+use crate::layout::NO_CHILD;
+use crate::layout::UNION_LABEL;
 ghost use mathlib.Core.Path.{_≡_};
 ghost use Prim.Native.Nat.{_≤_};
+ghost use Rattle.tree.specs.Limits.{most-labels};
 ghost use Rattle.tree.specs.Seats.{left-slot, right-slot};
 ghost use Rattle.tree.specs.Written.{child-number};
 
 // The slot of the right child of record i: the record before it, for a catenation or a union.
-pub fn right_of(label: u16, i: usize) -> usize
+pub fn right_slot(label: u16, i: usize) -> usize
     ensures { λ r. ⌜ (r ≡ right-slot label i) × (r ≤ i) ⌝ }
 {
-    if label == 2 {
+    if label == CATENATION_LABEL {
         return i;
     }
-    if label == 3 {
+    if label == UNION_LABEL {
         return i;
     }
     0
 }
 
 // The slot of the left or only child of record i: where the right child, of `size` nodes, begins.
-pub fn left_of(label: u16, i: usize, size: u16) -> usize
+pub fn left_slot(label: u16, i: usize, size: u16) -> usize
     requires { ⌜ size ≤ i ⌝ }
     ensures { λ r. ⌜ (r ≡ left-slot label i size) × (r ≤ i) ⌝ }
 {
-    if label % 256 == 1 {
+    if label % 256 == CHARACTER_LABEL {
         return 0;
     }
     i - size as usize
 }
 
 // The record number that a slot stands for, 65,535 for none.
-pub fn number_of(slot: usize) -> u16
-    requires { ⌜ slot ≤ 2047 ⌝ }
+pub fn child_number(slot: usize) -> u16
+    requires { ⌜ slot ≤ most-labels ⌝ }
     ensures { λ n. ⌜ n ≡ child-number slot ⌝ }
 {
     if slot == 0 {
-        return 65535;
+        return NO_CHILD;
     }
     (slot - 1) as u16
 }

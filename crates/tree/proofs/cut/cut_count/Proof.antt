@@ -7,27 +7,27 @@ use borrow.Author.Needs.{needs}
 use Rattle.tree.proofs.cut.cut_count.Statement.{statement}
 use Rattle.tree.proofs.cut.cut_count.Tie as tie
 
-left-cut-requires : tie.Need-left-cut-requires
-left-cut-requires c κs = search needs
+cut-left-requires : tie.Need-cut-left-requires
+cut-left-requires c κs = search needs
 
 one-if-requires : tie.Need-one-if-requires
 one-if-requires c κs = search needs
 
 add-result : tie.Need-add-result
-add-result c = omega (arith, one-le (c .before .left-cut .result))
+add-result c = omega (arith, one-le (c .before .cut-left .result))
 
-right-cut-requires : tie.Need-right-cut-requires
-right-cut-requires c κs = search needs
+cut-right-requires : tie.Need-cut-right-requires
+cut-right-requires c κs = search needs
 
 one-if-requires-2 : tie.Need-one-if-requires-2
 one-if-requires-2 c κs = search needs
 
 add-result-2 : tie.Need-add-result-2
-add-result-2 c = omega (arith, one-le (c .before .right-cut .result))
+add-result-2 c = omega (arith, one-le (c .before .cut-right .result))
 
 add-result-3 : tie.Need-add-result-3
 add-result-3 c =
-    omega (arith, one-le (c .before .right-cut .result), one-le (c .before .before .before .left-cut .result))
+    omega (arith, one-le (c .before .cut-right .result), one-le (c .before .before .before .cut-left .result))
 
 returns : tie.Need-returns
 returns c = cc
@@ -36,10 +36,10 @@ pub cut-count-spec : {M : Type 1} → statement M
 cut-count-spec =
     tie.close
     (tie.spec
-    left-cut-requires
+    cut-left-requires
     one-if-requires
     add-result
-    right-cut-requires
+    cut-right-requires
     one-if-requires-2
     add-result-2
     add-result-3

@@ -1,11 +1,33 @@
 -- `tree::good::decide_by` meets its contract: each return has its reason, by what the calls before it promise.
--- Assumes nothing.
 use native.Mathlib.Omega.{arith}
+use mathlib.Core.Path.{subst}
+use mathlib.Core.Bool.{Bool}
 use borrow.Author.Tests.{not-true, not-false}
-use Rattle.tree.specs.Decide.{not-by-labels, not-by-pieces, not-by-bytes, good-by-bytes}
+use Rattle.tree.specs.Decide.{
+  Compared,
+  not-by-labels,
+  not-by-pieces,
+  not-by-records,
+  good-by-records,
+  counts-below,
+  counts-nothing,
+}
 use borrow.Author.Needs.{needs}
 use Rattle.tree.proofs.good.decide_by.Statement.{statement}
 use Rattle.tree.proofs.good.decide_by.Tie as tie
+
+-- the places: where the labels are known to be those of a tree, where it is measured, and where the list is compared
+abbrev ordered : tie.After-piece-count → tie.Else1
+ordered m = m .before .before .before .before
+
+abbrev measured : tie.Else2 → tie.After-piece-count
+measured c = c .before .before .before .before .before
+
+abbrev compared : tie.After-is-list → tie.Else2
+compared c = c .before .before .before .before
+
+abbrev start : tie.Else1 → tie.Start
+start c = c .before .before .before .before .before
 
 one-tree-requires : tie.Need-one-tree-requires
 one-tree-requires c κs = search needs
@@ -13,58 +35,90 @@ one-tree-requires c κs = search needs
 returns : tie.Need-returns
 returns c =
     let s = c .before .before .before .before .before in
-    not-by-labels (s .args .list .now) (s .args .labels .now) (s .pre .1 .0)
-    (c .before .one-tree .ensures .if-not (not-true (c .before .one-tree .result) (c .if1 .taken)))
+    let judged = not-by-labels (s .args .list .now) (s .args .labels .now) (s .pre .0)
+    (c .before .one-tree .ensures .if-not (not-true _ (c .if1 .taken))) in
+    (judged, counts-nothing (s .args .list .now) (s .args .cuts .now) judged)
+
+slice-aggregate-piece-count : tie.Need-slice-aggregate-piece-count
+slice-aggregate-piece-count c = search needs
+
+slice-aggregate-piece-count-2 : tie.Need-slice-aggregate-piece-count-2
+slice-aggregate-piece-count-2 c = search needs
 
 piece-count-requires : tie.Need-piece-count-requires
 piece-count-requires c κs =
-    let s = c .before .before .before .before .before in
-    (c .before .one-tree .ensures .if-so (not-false (c .before .one-tree .result) (c .if1 .left)), omega arith)
-
-returns-2 : tie.Need-returns-2
-returns-2 c =
-    let p = c .before in
-    let s = p .before .before .before .before .before .before in
-    not-by-pieces (s .args .list .now) (s .args .labels .now) (p .piece-count .result) (s .pre .1 .0)
-    (p .piece-count .ensures) (c .if2 .taken)
-
-write-records-requires : tie.Need-write-records-requires
-write-records-requires c κs =
-    let e = c .before .before .before in (
-      e .before .one-tree .ensures .if-so (not-false (e .before .one-tree .result) (e .if1 .left)),
-      (omega arith, omega arith),
+    let o = c .before .before .before in
+    let s = start o in (
+      o .before .one-tree .ensures .if-so (not-false _ (o .if1 .left)),
+      (omega arith, record { for-sizes = search needs; for-opens = search needs; for-cuts = s .pre .1 .1 }),
     )
-
-begins-requires : tie.Need-begins-requires
-begins-requires c κs = search needs
 
 same-length : tie.Need-same-length
 same-length c = search needs
 
-returns-3 : tie.Need-returns-3
-returns-3 c =
-    let b = c .before in
-    let w = b .before .before .before .before in
-    let p = w .before .before .before in
-    let e = p .before in
-    let s = e .before .before .before .before .before in
-    good-by-bytes (s .args .list .now) (s .args .labels .now) (s .args .own .now) (w .write-records .last .1 .0)
-    (p .piece-count .result)
-    (e .before .one-tree .ensures .if-so (not-false (e .before .one-tree .result) (e .if1 .left))) (s .pre .0 .1)
-    (w .write-records .ensures) (p .piece-count .ensures) (w .before .before .if2 .left)
-    (b .begins .ensures .if-so (c .if3 .taken))
+returns-2 : tie.Need-returns-2
+returns-2 c =
+    let m = c .before .before .before .before .before in
+    let s = start (ordered m) in
+    let judged = not-by-pieces (s .args .list .now) (s .args .labels .now) (s .pre .0) (m .piece-count .result)
+    (m .piece-count .ensures .1) (c .if2 .taken) in
+    (judged, counts-nothing (s .args .list .now) (m .piece-count .last .1 .1 .1 .0) judged)
+
+slice-aggregate-is-list : tie.Need-slice-aggregate-is-list
+slice-aggregate-is-list c = search needs
+
+slice-aggregate-is-list-2 : tie.Need-slice-aggregate-is-list-2
+slice-aggregate-is-list-2 c = search needs
+
+is-list-requires : tie.Need-is-list-requires
+is-list-requires c κs =
+    let m = measured (c .before .before .before) in
+    let o = ordered m in
+    let s = start o in (
+      o .before .one-tree .ensures .if-so (not-false _ (o .if1 .left)),
+      (
+        (omega arith, s .pre .0 .long),
+        (
+          record {
+            for-sizes = m .piece-count .kept .1 .0;
+            for-opens = m .piece-count .kept .1 .1 .0;
+            for-cuts = search needs;
+          },
+          m .piece-count .ensures .0,
+        ),
+      ),
+    )
 
 same-length-2 : tie.Need-same-length-2
 same-length-2 c = search needs
 
+returns-3 : tie.Need-returns-3
+returns-3 c =
+    let e = compared (c .before) in
+    let m = measured e in
+    let o = ordered m in
+    let s = start o in (
+      good-by-records (s .args .list .now) (s .args .labels .now) (s .pre .0) (m .piece-count .result)
+          (o .before .one-tree .ensures .if-so (not-false _ (o .if1 .left))) (m .piece-count .ensures .1) (e .if2 .left)
+          (subst (λ (b : Bool). Compared (s .args .labels .now) (s .args .list .now) b) (c .if3 .taken)
+          (c .before .is-list .ensures)),
+      counts-below (s .args .list .now) (s .args .labels .now) (m .piece-count .last .1 .0)
+          (m .piece-count .last .1 .1 .0) (m .piece-count .last .1 .1 .1 .0) (s .pre .0) (m .piece-count .ensures .0),
+    )
+
+same-length-3 : tie.Need-same-length-3
+same-length-3 c = search needs
+
 returns-4 : tie.Need-returns-4
 returns-4 c =
-    let b = c .before in
-    let w = b .before .before .before .before in
-    let s = w .before .before .before .before .before .before .before .before .before in
-    not-by-bytes (s .args .list .now) (s .args .labels .now) (s .args .own .now) (w .write-records .last .1 .0)
-    (s .pre .1 .0) (s .pre .0 .1) (w .write-records .ensures)
-    (b .begins .ensures .if-not (c .if3 .left))
+    let m = measured (compared (c .before)) in
+    let s = start (ordered m) in (
+      not-by-records (s .args .list .now) (s .args .labels .now) (s .pre .0)
+          (subst (λ (b : Bool). Compared (s .args .labels .now) (s .args .list .now) b) (c .if3 .left)
+          (c .before .is-list .ensures)),
+      counts-below (s .args .list .now) (s .args .labels .now) (m .piece-count .last .1 .0)
+          (m .piece-count .last .1 .1 .0) (m .piece-count .last .1 .1 .1 .0) (s .pre .0) (m .piece-count .ensures .0),
+    )
 
 pub decide-by-spec : {M : Type 1} → statement M
 decide-by-spec =
@@ -72,11 +126,15 @@ decide-by-spec =
     (tie.spec
     one-tree-requires
     returns
+    slice-aggregate-piece-count
+    slice-aggregate-piece-count-2
     piece-count-requires
-    returns-2
-    write-records-requires
-    begins-requires
     same-length
-    returns-3
+    returns-2
+    slice-aggregate-is-list
+    slice-aggregate-is-list-2
+    is-list-requires
     same-length-2
+    returns-3
+    same-length-3
     returns-4)

@@ -14,12 +14,12 @@ use Rattle.tree.proofs.hand.hand_down.Statement.{statement}
 use Rattle.tree.proofs.hand.hand_down.Tie as tie
 use Rattle.tree.proofs.hand.hand_down.Reads as reads
 use Rattle.tree.proofs.hand.hand_down.Lts as lts
-use Rattle.tree.proofs.cut.left_cut.Reads as left-cut-reads
+use Rattle.tree.proofs.cut.cut_left.Reads as cut-left-reads
 use Rattle.tree.proofs.cut.one_if.Reads as one-if-reads
 use Rattle.tree.proofs.cut.piece_below.Reads as piece-below-reads
-use Rattle.tree.proofs.cut.right_cut.Reads as right-cut-reads
-use Rattle.tree.proofs.slots.left_of.Reads as left-of-reads
-use Rattle.tree.proofs.slots.right_of.Reads as right-of-reads
+use Rattle.tree.proofs.cut.cut_right.Reads as cut-right-reads
+use Rattle.tree.proofs.slots.left_slot.Reads as left-slot-reads
+use Rattle.tree.proofs.slots.right_slot.Reads as right-slot-reads
 
 abbrev Inv-loop : tie.InvT-loop
 Inv-loop labels sizes opens cuts pieces₀ news₀ i₀ pieces news i = (i ≤ length labels) × (length pieces ≡ 2048)
@@ -75,42 +75,42 @@ mul-label c = omega arith
 shared-slice-read-label : tie.Need-shared-slice-read-label Inv-loop μ-loop
 shared-slice-read-label c = omega arith
 
-right-of-requires : tie.Need-right-of-requires Inv-loop μ-loop
-right-of-requires c κs = tt
+right-slot-requires : tie.Need-right-slot-requires Inv-loop μ-loop
+right-slot-requires c κs = tt
 
-mul-left-of : tie.Need-mul-left-of Inv-loop μ-loop
-mul-left-of c = omega arith
+mul-left-slot : tie.Need-mul-left-slot Inv-loop μ-loop
+mul-left-slot c = omega arith
 
-shared-slice-read-left-of : tie.Need-shared-slice-read-left-of Inv-loop μ-loop
-shared-slice-read-left-of c = omega arith
+shared-slice-read-left-slot : tie.Need-shared-slice-read-left-slot Inv-loop μ-loop
+shared-slice-read-left-slot c = omega arith
 
-left-of-requires : tie.Need-left-of-requires Inv-loop μ-loop
-left-of-requires c κs =
+left-slot-requires : tie.Need-left-slot-requires Inv-loop μ-loop
+left-slot-requires c κs =
     let r = c .before in
     let l = r .before .before .before .before .before in
     let s = start l in
     let ls = s .args .labels .now in
     let less = measured-less ls (s .args .sizes .now) (s .args .opens .now) (s .args .cuts .now) (l .loop .i - 1)
     (length ls) (omega arith) (s .pre .1 .1 .1 .0) in
-    right-size-le ls (s .pre .0 .tree) (l .loop .i - 1) (r .right-of .result) (s .args .sizes .now) (s .pre .0 .same)
+    right-size-le ls (s .pre .0 .tree) (l .loop .i - 1) (r .right-slot .result) (s .args .sizes .now) (s .pre .0 .same)
     (omega arith)
-    (less .sized (s .pre .0 .tree) (s .pre .0 .same)) (r .right-of .ensures .0)
+    (less .sized (s .pre .0 .tree) (s .pre .0 .same)) (r .right-slot .ensures .0)
 
 -- the children's open sizes and the right child's first new piece are small
-small : (c : tie.After-left-of Inv-loop μ-loop)
+small : (c : tie.After-left-slot Inv-loop μ-loop)
     → let l = c .before .before .before .before .before .before .before in
     let s = start l in
-    let left = c .left-of .result in
-    let right = c .before .before .right-of .result in
+    let left = c .left-slot .result in
+    let right = c .before .before .right-slot .result in
     Turn-small left right (l .loop .i) (s .args .opens .now) (s .args .cuts .now) (l .loop .news)
 small c =
     let r = c .before .before in
     let l = r .before .before .before .before .before in
     let s = start l in
-    turn-small (s .args .labels .now) (l .loop .i - 1) (l .loop .i) (c .left-of .result) (r .right-of .result)
+    turn-small (s .args .labels .now) (l .loop .i - 1) (l .loop .i) (c .left-slot .result) (r .right-slot .result)
     (s .args .sizes .now) (s .args .opens .now) (s .args .cuts .now)
     (l .loop .pieces) (l .loop .news) (omega arith) (omega arith) (s .pre .1 .1 .1 .0) (l .loop .inv .3)
-    (r .right-of .ensures .0) (c .left-of .ensures .0) (s .pre .0) (s .pre .1 .0)
+    (r .right-slot .ensures .0) (c .left-slot .ensures .0) (s .pre .0) (s .pre .1 .0)
 
 mul-left-open : tie.Need-mul-left-open Inv-loop μ-loop
 mul-left-open c = omega arith
@@ -124,11 +124,11 @@ mul-right-open c = omega arith
 shared-slice-read-right-open : tie.Need-shared-slice-read-right-open Inv-loop μ-loop
 shared-slice-read-right-open c = omega arith
 
-left-cut-requires : tie.Need-left-cut-requires Inv-loop μ-loop
-left-cut-requires c κs = (small (c .before .before) .left-le, small (c .before .before) .right-le)
+cut-left-requires : tie.Need-cut-left-requires Inv-loop μ-loop
+cut-left-requires c κs = (small (c .before .before) .left-le, small (c .before .before) .right-le)
 
-right-cut-requires : tie.Need-right-cut-requires Inv-loop μ-loop
-right-cut-requires c κs = (small (c .before .before .before) .left-le, small (c .before .before .before) .right-le)
+cut-right-requires : tie.Need-cut-right-requires Inv-loop μ-loop
+cut-right-requires c κs = (small (c .before .before .before) .left-le, small (c .before .before .before) .right-le)
 
 one-if-requires : tie.Need-one-if-requires Inv-loop μ-loop
 one-if-requires c κs = tt
@@ -143,16 +143,16 @@ add-past-left : tie.Need-add-past-left Inv-loop μ-loop
 add-past-left c = omega (
   arith,
   small (c .before .before .before .before .before .before) .all-new,
-  ap one (c .before .before .before .left-cut .ensures),
-  ap one (c .before .before .right-cut .ensures),
+  ap one (c .before .before .before .cut-left .ensures),
+  ap one (c .before .before .cut-right .ensures),
 )
 
 add-past-left-2 : tie.Need-add-past-left-2 Inv-loop μ-loop
 add-past-left-2 c = omega (
   arith,
   small (c .before .before .before .before .before .before) .all-new,
-  ap one (c .before .before .before .left-cut .ensures),
-  ap one (c .before .before .right-cut .ensures),
+  ap one (c .before .before .before .cut-left .ensures),
+  ap one (c .before .before .cut-right .ensures),
 )
 
 piece-below-requires : tie.Need-piece-below-requires Inv-loop μ-loop
@@ -180,8 +180,8 @@ add-news : tie.Need-add-news Inv-loop μ-loop
 add-news c = omega (
   arith,
   small (c .before .before .before .before .before .before .before .before .before) .all-new,
-  ap one (c .before .before .before .before .before .before .left-cut .ensures),
-  ap one (c .before .before .before .before .before .right-cut .ensures),
+  ap one (c .before .before .before .before .before .before .cut-left .ensures),
+  ap one (c .before .before .before .before .before .cut-right .ensures),
 )
 
 mul-news-2 : tie.Need-mul-news-2 Inv-loop μ-loop
@@ -198,8 +198,8 @@ add-news-2 c =
     omega (
       arith,
       small (c .before .before .before .before .before .before .before .before .before .before) .all-new,
-      ap one (c .before .before .before .before .before .before .before .left-cut .ensures),
-      ap one (c .before .before .before .before .before .before .right-cut .ensures),
+      ap one (c .before .before .before .before .before .before .before .cut-left .ensures),
+      ap one (c .before .before .before .before .before .before .cut-right .ensures),
     )
 
 mul-news-3 : tie.Need-mul-news-3 Inv-loop μ-loop
@@ -221,15 +221,15 @@ loop-again c =
       omega arith,
       simp length-set (l .loop .inv .1),
       simp length-set (l .loop .inv .2),
-      turn-stored (s .args .labels .now) (l .loop .i - 1) (l .loop .i) (f .left-of .result) (r .right-of .result)
+      turn-stored (s .args .labels .now) (l .loop .i - 1) (l .loop .i) (f .left-slot .result) (r .right-slot .result)
           (s .args .sizes .now) (s .args .opens .now) (s .args .cuts .now)
           (l .loop .pieces) (l .loop .news) (omega arith) (omega arith) (s .pre .1 .1 .1 .0) (l .loop .inv .3)
-          (r .right-of .ensures .0) (f .left-of .ensures .0)
-          (m .before .left-cut .result) (m .right-cut .result) (c .before .before .before .piece-below .result)
+          (r .right-slot .ensures .0) (f .left-slot .ensures .0)
+          (m .before .cut-left .result) (m .cut-right .result) (c .before .before .before .piece-below .result)
           (c .before .before .piece-below2 .result)
           (c .before .before .before .before .before .one-if .result) (c .before .one-if2 .result) (c .one-if3 .result)
-          (omega arith) (omega arith) (f .left-of .ensures .1) (r .right-of .ensures .1) (m .before .left-cut .ensures)
-          (m .right-cut .ensures)
+          (omega arith) (omega arith) (f .left-slot .ensures .1) (r .right-slot .ensures .1) (m .before .cut-left .ensures)
+          (m .cut-right .ensures)
           (c .before .before .before .before .before .one-if .ensures) (c .before .one-if2 .ensures)
           (c .one-if3 .ensures)
           (c .before .before .before .piece-below .ensures) (c .before .before .piece-below2 .ensures),
@@ -266,16 +266,16 @@ hand-down-spec =
     sub-i
     mul-label
     shared-slice-read-label
-    right-of-requires
-    mul-left-of
-    shared-slice-read-left-of
-    left-of-requires
+    right-slot-requires
+    mul-left-slot
+    shared-slice-read-left-slot
+    left-slot-requires
     mul-left-open
     shared-slice-read-left-open
     mul-right-open
     shared-slice-read-right-open
-    left-cut-requires
-    right-cut-requires
+    cut-left-requires
+    cut-right-requires
     one-if-requires
     mul-past-left
     shared-slice-read-past-left

@@ -28,8 +28,8 @@ use Rattle.tree.proofs.measure.measure.Reads as reads
 use Rattle.tree.proofs.measure.measure.Lts as lts
 use Rattle.tree.proofs.cut.cut_count.Reads as cut-count-reads
 use Rattle.tree.proofs.cut.open_size.Reads as open-size-reads
-use Rattle.tree.proofs.slots.left_of.Reads as left-of-reads
-use Rattle.tree.proofs.slots.right_of.Reads as right-of-reads
+use Rattle.tree.proofs.slots.left_slot.Reads as left-slot-reads
+use Rattle.tree.proofs.slots.right_slot.Reads as right-slot-reads
 
 abbrev Inv-loop : tie.InvT-loop
 Inv-loop labels sizes₀ opens₀ cuts₀ i₀ sizes opens cuts i = (i ≤ length labels) × Room sizes opens cuts
@@ -66,8 +66,8 @@ mul-label c = omega arith
 shared-slice-read-label : tie.Need-shared-slice-read-label Inv-loop μ-loop
 shared-slice-read-label c = omega arith
 
-right-of-requires : tie.Need-right-of-requires Inv-loop μ-loop
-right-of-requires c κs = tt
+right-slot-requires : tie.Need-right-slot-requires Inv-loop μ-loop
+right-slot-requires c κs = tt
 
 mul-right-size : tie.Need-mul-right-size Inv-loop μ-loop
 mul-right-size c = omega arith
@@ -75,22 +75,22 @@ mul-right-size c = omega arith
 slice-read-right-size : tie.Need-slice-read-right-size Inv-loop μ-loop
 slice-read-right-size c = omega arith
 
-left-of-requires : tie.Need-left-of-requires Inv-loop μ-loop
-left-of-requires c κs =
+left-slot-requires : tie.Need-left-slot-requires Inv-loop μ-loop
+left-slot-requires c κs =
     let r = c .before in
     let l = r .before .before .before in
     let s = start l in
-    right-size-le (s .args .labels .now) (s .pre .0 .tree) (l .loop .i) (r .right-of .result) (l .loop .sizes)
+    right-size-le (s .args .labels .now) (s .pre .0 .tree) (l .loop .i) (r .right-slot .result) (l .loop .sizes)
     (s .pre .0 .same)
     (r .before .before .loop-test .taken) (l .loop .inv .2 .sized (s .pre .0 .tree) (s .pre .0 .same))
-    (r .right-of .ensures .0)
+    (r .right-slot .ensures .0)
 
 -- what is gathered once both slots are known, for every tree with these labels
-found : (c : tie.After-left-of Inv-loop μ-loop) (t : Tree Leaf)
+found : (c : tie.After-left-slot Inv-loop μ-loop) (t : Tree Leaf)
     → (start (c .before .before .before .before .before) .args .labels .now) ≡ labels t
     → let l = c .before .before .before .before .before in
-    let left = c .left-of .result in
-    let right = c .before .before .right-of .result in
+    let left = c .left-slot .result in
+    let right = c .before .before .right-slot .result in
     Gathered t (l .loop .i) (getD (l .loop .sizes) left 0 + getD (l .loop .sizes) right 0 + 1)
     (getD (l .loop .opens) left 0) (getD (l .loop .opens) right 0)
     (getD (l .loop .cuts) left 0) (getD (l .loop .cuts) right 0)
@@ -98,10 +98,10 @@ found c t e =
     let r = c .before .before in
     let l = r .before .before .before in
     let s = start l in
-    gathered t (l .loop .i) (c .left-of .result) (r .right-of .result) (l .loop .sizes) (l .loop .opens) (l .loop .cuts)
-    (children (s .args .labels .now) t (l .loop .i) (c .left-of .result) (r .right-of .result) (l .loop .sizes)
+    gathered t (l .loop .i) (c .left-slot .result) (r .right-slot .result) (l .loop .sizes) (l .loop .opens) (l .loop .cuts)
+    (children (s .args .labels .now) t (l .loop .i) (c .left-slot .result) (r .right-slot .result) (l .loop .sizes)
     (l .loop .opens) (l .loop .cuts) e
-    (r .before .before .loop-test .taken) (l .loop .inv .2) (r .right-of .ensures .0) (c .left-of .ensures .0))
+    (r .before .before .loop-test .taken) (l .loop .inv .2) (r .right-slot .ensures .0) (c .left-slot .ensures .0))
 
 mul-size : tie.Need-mul-size Inv-loop μ-loop
 mul-size c = omega arith
@@ -232,10 +232,10 @@ measure-spec =
     loop-holds
     mul-label
     shared-slice-read-label
-    right-of-requires
+    right-slot-requires
     mul-right-size
     slice-read-right-size
-    left-of-requires
+    left-slot-requires
     mul-size
     slice-read-size
     add-size

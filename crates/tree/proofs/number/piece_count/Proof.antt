@@ -1,20 +1,18 @@
 -- `tree::number::piece_count` meets its contract: the root's slot holds the cut edges of the whole tree, fewer than
 -- there are labels.
--- Assumes nothing.
 use native.Mathlib.Omega.{arith}
 use Rattle.tree.specs.Measured.{counted-all, root-cuts-lt}
 use borrow.Author.Needs.{needs}
 use Rattle.tree.proofs.number.piece_count.Statement.{statement}
 use Rattle.tree.proofs.number.piece_count.Tie as tie
 
-slice-aggregate-measure : tie.Need-slice-aggregate-measure
-slice-aggregate-measure c = search needs
+-- where the tree has been measured, from the reading of the root's slot
+abbrev measured : tie.After-slice-known7 → tie.After-measure
+measured c = c .before .before .before .before .before .before .before
 
-slice-aggregate-measure-2 : tie.Need-slice-aggregate-measure-2
-slice-aggregate-measure-2 c = search needs
-
-slice-aggregate-measure-3 : tie.Need-slice-aggregate-measure-3
-slice-aggregate-measure-3 c = search needs
+-- where the function starts
+abbrev start : tie.After-measure → tie.Start
+start m = m .before .before .before .before .before .before .before .before
 
 measure-requires : tie.Need-measure-requires
 measure-requires c κs = search needs
@@ -22,41 +20,54 @@ measure-requires c κs = search needs
 mul-result : tie.Need-mul-result
 mul-result c = search needs
 
-array-read-result : tie.Need-array-read-result
-array-read-result c = search needs
+slice-read-result : tie.Need-slice-read-result
+slice-read-result c = search needs
 
 cast-result : tie.Need-cast-result
-cast-result c = let s = c .before .before .before .before .before .before .before .before in omega (
-  arith,
-  root-cuts-lt (s .args .labels .now) (c .before .before .before .measure .last .1 .0)
-      (c .before .before .before .measure .last .1 .1 .0) (c .before .before .before .measure .last .1 .1 .1 .0)
-      (s .pre .0) (c .before .before .before .measure .ensures),
-)
+cast-result c =
+    let m = measured c in
+    omega (
+      arith,
+      root-cuts-lt (start m .args .labels .now) (m .measure .last .1 .0) (m .measure .last .1 .1 .0)
+          (m .measure .last .1 .1 .1 .0) (start m .pre .0) (m .measure .ensures),
+    )
 
 add-result : tie.Need-add-result
-add-result c = let s = c .before .before .before .before .before .before .before .before in omega (
-  arith,
-  root-cuts-lt (s .args .labels .now) (c .before .before .before .measure .last .1 .0)
-      (c .before .before .before .measure .last .1 .1 .0) (c .before .before .before .measure .last .1 .1 .1 .0)
-      (s .pre .0) (c .before .before .before .measure .ensures),
-)
+add-result c =
+    let m = measured c in
+    omega (
+      arith,
+      root-cuts-lt (start m .args .labels .now) (m .measure .last .1 .0) (m .measure .last .1 .1 .0)
+          (m .measure .last .1 .1 .1 .0) (start m .pre .0) (m .measure .ensures),
+    )
+
+same-length : tie.Need-same-length
+same-length c = search needs
+
+same-length-2 : tie.Need-same-length-2
+same-length-2 c = search needs
+
+same-length-3 : tie.Need-same-length-3
+same-length-3 c = search needs
 
 returns : tie.Need-returns
-returns c = let s = c .before .before .before .before .before .before .before .before in counted-all
-    (s .args .labels .now) (c .before .before .before .measure .last .1 .0)
-    (c .before .before .before .measure .last .1 .1 .0) (c .before .before .before .measure .last .1 .1 .1 .0)
-    (c .before .before .before .measure .ensures)
+returns c =
+    let m = measured c in (
+      m .measure .ensures,
+      counted-all (start m .args .labels .now) (m .measure .last .1 .0) (m .measure .last .1 .1 .0)
+          (m .measure .last .1 .1 .1 .0) (m .measure .ensures),
+    )
 
 pub piece-count-spec : {M : Type 1} → statement M
 piece-count-spec =
     tie.close
     (tie.spec
-    slice-aggregate-measure
-    slice-aggregate-measure-2
-    slice-aggregate-measure-3
     measure-requires
     mul-result
-    array-read-result
+    slice-read-result
     cast-result
     add-result
+    same-length
+    same-length-2
+    same-length-3
     returns)

@@ -13,10 +13,10 @@ use Rattle.tree.proofs.write.write_all.Statement.{statement}
 use Rattle.tree.proofs.write.write_all.Tie as tie
 use Rattle.tree.proofs.write.write_all.Reads as reads
 use Rattle.tree.proofs.write.write_all.Lts as lts
-use Rattle.tree.proofs.bytes.write_record.Reads as write-record-reads
-use Rattle.tree.proofs.slots.left_of.Reads as left-of-reads
-use Rattle.tree.proofs.slots.number_of.Reads as number-of-reads
-use Rattle.tree.proofs.slots.right_of.Reads as right-of-reads
+use Rattle.tree.proofs.layout.write_record.Reads as write-record-reads
+use Rattle.tree.proofs.slots.left_slot.Reads as left-slot-reads
+use Rattle.tree.proofs.slots.child_number.Reads as child-number-reads
+use Rattle.tree.proofs.slots.right_slot.Reads as right-slot-reads
 
 abbrev Inv-loop : tie.InvT-loop
 Inv-loop labels sizes pieces out₀ i₀ out i = (i ≤ length labels) × (length out ≡ length out₀) × Stored labels out₀ out i
@@ -39,30 +39,30 @@ mul-label c = omega arith
 shared-slice-read-label : tie.Need-shared-slice-read-label Inv-loop μ-loop
 shared-slice-read-label c = omega arith
 
-right-of-requires : tie.Need-right-of-requires Inv-loop μ-loop
-right-of-requires c κs = tt
+right-slot-requires : tie.Need-right-slot-requires Inv-loop μ-loop
+right-slot-requires c κs = tt
 
-mul-left-of : tie.Need-mul-left-of Inv-loop μ-loop
-mul-left-of c = omega arith
+mul-left-slot : tie.Need-mul-left-slot Inv-loop μ-loop
+mul-left-slot c = omega arith
 
-shared-slice-read-left-of : tie.Need-shared-slice-read-left-of Inv-loop μ-loop
-shared-slice-read-left-of c = omega arith
+shared-slice-read-left-slot : tie.Need-shared-slice-read-left-slot Inv-loop μ-loop
+shared-slice-read-left-slot c = omega arith
 
-left-of-requires : tie.Need-left-of-requires Inv-loop μ-loop
-left-of-requires c κs =
+left-slot-requires : tie.Need-left-slot-requires Inv-loop μ-loop
+left-slot-requires c κs =
     let r = c .before in
     let l = r .before .before .before in
     let s = start l in
-    right-size-le (s .args .labels .now) (s .pre .0 .tree) (l .loop .i) (r .right-of .result) (s .args .sizes .now)
+    right-size-le (s .args .labels .now) (s .pre .0 .tree) (l .loop .i) (r .right-slot .result) (s .args .sizes .now)
     (s .pre .0 .same) (r .before .before .loop-test .taken)
     (holds-less (l .loop .i) (l .loop .inv .0) (s .pre .1 .1 .1 .0 .0 .sized (s .pre .0 .tree) (s .pre .0 .same)))
-    (r .right-of .ensures .0)
+    (r .right-slot .ensures .0)
 
-number-of-requires : tie.Need-number-of-requires Inv-loop μ-loop
-number-of-requires c κs = omega arith
+child-number-requires : tie.Need-child-number-requires Inv-loop μ-loop
+child-number-requires c κs = omega arith
 
-number-of-requires-2 : tie.Need-number-of-requires-2 Inv-loop μ-loop
-number-of-requires-2 c κs = omega arith
+child-number-requires-2 : tie.Need-child-number-requires-2 Inv-loop μ-loop
+child-number-requires-2 c κs = omega arith
 
 add-write-record : tie.Need-add-write-record Inv-loop μ-loop
 add-write-record c = omega arith
@@ -93,20 +93,20 @@ loop-again c =
     let ls = s .args .labels .now in (
       omega arith,
       w .write-record .kept .0 ∙ l .loop .inv .1,
-      stored-more ls (s .args .out .now) (l .loop .out) (w .write-record .last .0) (l .loop .i) (f .left-of .result)
-          (r .right-of .result) (getD ls (l .loop .i) 0)
-          (n .before .number-of .result) (n .number-of2 .result) (getD (s .args .pieces .now) (l .loop .i + 1) 0)
+      stored-more ls (s .args .out .now) (l .loop .out) (w .write-record .last .0) (l .loop .i) (f .left-slot .result)
+          (r .right-slot .result) (getD ls (l .loop .i) 0)
+          (n .before .child-number .result) (n .child-number2 .result) (getD (s .args .pieces .now) (l .loop .i + 1) 0)
           (s .args .sizes .now) (r .before .before .loop-test .taken)
           (λ t e. (
-            slots ls t (l .loop .i) (f .left-of .result) (r .right-of .result) (s .args .sizes .now) e
+            slots ls t (l .loop .i) (f .left-slot .result) (r .right-slot .result) (s .args .sizes .now) e
                 (r .before .before .loop-test .taken)
-                (holds-less (l .loop .i) (l .loop .inv .0) (s .pre .1 .1 .1 .0 .0 .sized t e)) (r .right-of .ensures .0)
-                (f .left-of .ensures .0),
+                (holds-less (l .loop .i) (l .loop .inv .0) (s .pre .1 .1 .1 .0 .0 .sized t e)) (r .right-slot .ensures .0)
+                (f .left-slot .ensures .0),
             s .pre .1 .1 .1 .0 .1 .at-record t e (l .loop .i)
                 (in-tree ls t (l .loop .i) e (r .before .before .loop-test .taken)),
           ))
-          refl (r .before .shared-slice-known4 .given (l .loop .i) .fits) (n .before .number-of .ensures)
-          (n .number-of2 .ensures) (w .write-record .ensures) (l .loop .inv .2),
+          refl (r .before .shared-slice-known4 .given (l .loop .i) .fits) (n .before .child-number .ensures)
+          (n .child-number2 .ensures) (omega arith) (w .write-record .ensures) (l .loop .inv .2),
     )
 
 same-length : tie.Need-same-length Inv-loop μ-loop
@@ -128,12 +128,12 @@ write-all-spec =
     loop-holds
     mul-label
     shared-slice-read-label
-    right-of-requires
-    mul-left-of
-    shared-slice-read-left-of
-    left-of-requires
-    number-of-requires
-    number-of-requires-2
+    right-slot-requires
+    mul-left-slot
+    shared-slice-read-left-slot
+    left-slot-requires
+    child-number-requires
+    child-number-requires-2
     add-write-record
     mul-write-record
     shared-slice-read-write-record

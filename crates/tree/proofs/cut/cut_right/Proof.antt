@@ -1,9 +1,9 @@
--- `tree::cut::right_cut` meets its contract: each return is the test of `cut-right`, computed by the branches taken.
+-- `tree::cut::cut_right` meets its contract: each return is the test of `cut-right`, computed by the branches taken.
 -- Assumes nothing.
 use borrow.Author.Tests.{lt-ltb, le-ltb}
 use borrow.Author.Needs.{needs}
-use Rattle.tree.proofs.cut.right_cut.Statement.{statement}
-use Rattle.tree.proofs.cut.right_cut.Tie as tie
+use Rattle.tree.proofs.cut.cut_right.Statement.{statement}
+use Rattle.tree.proofs.cut.cut_right.Tie as tie
 
 add-if1 : tie.Need-add-if1
 add-if1 c = search needs
@@ -23,5 +23,5 @@ add-result c = search needs
 returns-3 : tie.Need-returns-3
 returns-3 c = simp (lt-ltb _ _ (c .before .if1 .left), le-ltb _ _ (c .if2 .left))
 
-pub right-cut-spec : {M : Type 1} → statement M
-right-cut-spec = tie.close (tie.spec add-if1 add-if1-2 returns returns-2 add-result returns-3)
+pub cut-right-spec : {M : Type 1} → statement M
+cut-right-spec = tie.close (tie.spec add-if1 add-if1-2 returns returns-2 add-result returns-3)

@@ -1,9 +1,9 @@
--- `tree::slots::right_of` meets its contract: each return is the test of `right-slot`, computed by the branches taken.
+-- `tree::slots::right_slot` meets its contract: each return is the test of `right-slot`, computed by the branches taken.
 -- Assumes nothing.
 use native.Mathlib.Omega.{arith}
 use borrow.Author.Tests.{eq-eqb, ne-eqb}
-use Rattle.tree.proofs.slots.right_of.Statement.{statement}
-use Rattle.tree.proofs.slots.right_of.Tie as tie
+use Rattle.tree.proofs.slots.right_slot.Statement.{statement}
+use Rattle.tree.proofs.slots.right_slot.Tie as tie
 
 returns : tie.Need-returns
 returns c = (simp (eq-eqb _ _ (c .if1 .taken)), omega arith)
@@ -14,5 +14,5 @@ returns-2 c = (simp (ne-eqb _ _ (c .before .if1 .left), eq-eqb _ _ (c .if2 .take
 returns-3 : tie.Need-returns-3
 returns-3 c = (simp (ne-eqb _ _ (c .before .if1 .left), ne-eqb _ _ (c .if2 .left)), omega arith)
 
-pub right-of-spec : {M : Type 1} → statement M
-right-of-spec = tie.close (tie.spec returns returns-2 returns-3)
+pub right-slot-spec : {M : Type 1} → statement M
+right-slot-spec = tie.close (tie.spec returns returns-2 returns-3)

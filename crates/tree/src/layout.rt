@@ -1,0 +1,155 @@
+// The layout of a tree record: no other file of code knows which byte holds what.
+ghost use mathlib.Core.Path.{_≡_};
+ghost use Prim.Native.Nat.{_+_, _*_, _%_, _/_, _≤_, _<_};
+ghost use lib.ListN.{length};
+ghost use lib.Seq.{sets};
+ghost use Rattle.tree.specs.Says.{Says};
+ghost use Rattle.tree.specs.Layout.{
+    record-size, two-bytes, labelled-record, record-at, label-of, number-at, Holds-number, kind-at, character-at, left-at,
+    right-at, piece-at
+};
+
+// How many bytes a record has.
+pub const RECORD_SIZE: usize = 8;
+
+// The kinds of a record.
+pub const CHARACTER: u8 = 1;
+pub const CATENATION: u8 = 2;
+pub const UNION: u8 = 3;
+pub const STAR: u8 = 4;
+
+// A character's label, but for the character, and the labels of the other kinds.
+pub const CHARACTER_LABEL: u16 = CHARACTER as u16;
+pub const CATENATION_LABEL: u16 = CATENATION as u16;
+pub const UNION_LABEL: u16 = UNION as u16;
+pub const STAR_LABEL: u16 = STAR as u16;
+
+// What stands in the place of a child's record number where there is no child.
+pub const NO_CHILD: u16 = 65535;
+
+// A byte as a number.
+pub fn wide(byte: u8) -> usize
+    ensures { λ r. ⌜ (r ≡ byte) × (r < 256) ⌝ }
+{
+    byte as usize
+}
+
+// Kind and character as one number.
+pub fn label_of(kind: u8, character: u8) -> u16
+    ensures { λ r. ⌜ r ≡ label-of kind character ⌝ }
+{
+    kind as u16 + 256 * (character as u16)
+}
+
+// The number in two bytes, the low one first.
+fn number_at(list: &[u8], at: usize) -> usize
+    requires { ⌜ at + 1 < length (now list) ⌝ }
+    ensures { λ n. ⌜ n ≡ number-at (now (list .entry)) at ⌝ }
+{
+    wide(list[at]) + 256 * wide(list[at + 1])
+}
+
+// The kind of a record.
+pub fn kind_at(list: &[u8], i: usize) -> u8
+    requires { ⌜ record-size * i + record-size ≤ length (now list) ⌝ }
+    ensures { λ n. ⌜ n ≡ kind-at (now (list .entry)) i ⌝ }
+{
+    list[RECORD_SIZE * i]
+}
+
+// Its character.
+pub fn character_at(list: &[u8], i: usize) -> u8
+    requires { ⌜ record-size * i + record-size ≤ length (now list) ⌝ }
+    ensures { λ n. ⌜ n ≡ character-at (now (list .entry)) i ⌝ }
+{
+    list[RECORD_SIZE * i + 1]
+}
+
+// The record number of its left or only child.
+pub fn left_at(list: &[u8], i: usize) -> usize
+    requires { ⌜ record-size * i + record-size ≤ length (now list) ⌝ }
+    ensures { λ n. ⌜ n ≡ left-at (now (list .entry)) i ⌝ }
+{
+    number_at(list, RECORD_SIZE * i + 2)
+}
+
+// The record number of its right child.
+pub fn right_at(list: &[u8], i: usize) -> usize
+    requires { ⌜ record-size * i + record-size ≤ length (now list) ⌝ }
+    ensures { λ n. ⌜ n ≡ right-at (now (list .entry)) i ⌝ }
+{
+    number_at(list, RECORD_SIZE * i + 4)
+}
+
+// The number of its piece.
+pub fn piece_at(list: &[u8], i: usize) -> usize
+    requires { ⌜ record-size * i + record-size ≤ length (now list) ⌝ }
+    ensures { λ n. ⌜ n ≡ piece-at (now (list .entry)) i ⌝ }
+{
+    number_at(list, RECORD_SIZE * i + 6)
+}
+
+// The low byte of a number.
+fn low(n: u16) -> u8
+    ensures { λ r. ⌜ r ≡ n % 256 ⌝ }
+{
+    (n % 256) as u8
+}
+
+// The high byte of a number.
+fn high(n: u16) -> u8
+    ensures { λ r. ⌜ r ≡ n / 256 % 256 ⌝ }
+{
+    (n / 256) as u8
+}
+
+// Writes a number into two bytes, the low one first, and nothing else.
+fn write_number(out: &mut [u8], at: usize, n: u16)
+    requires { ⌜ at + 2 ≤ length (now out) ⌝ }
+    ensures { λ _. ⌜ now (out .exit) ≡ sets (now (out .entry)) at (two-bytes n) ⌝ }
+{
+    out[at] = low(n);
+    out[at + 1] = high(n);
+}
+
+// Writes a record, its kind and character given by the label, and nothing else.
+pub fn write_record(out: &mut [u8], i: usize, label: u16, left: u16, right: u16, piece: u16)
+    requires { ⌜ record-size * i + record-size ≤ length (now out) ⌝ }
+    ensures { λ _. ⌜ now (out .exit) ≡ sets (now (out .entry)) (record-size * i)
+        (labelled-record label left right piece) ⌝ }
+{
+    let at = RECORD_SIZE * i;
+    write_number(out, at, label);
+    write_number(out, at + 2, left);
+    write_number(out, at + 4, right);
+    write_number(out, at + 6, piece);
+}
+
+// Whether two bytes hold this number.
+fn holds_number(list: &[u8], at: usize, n: u16) -> bool
+    requires { ⌜ at + 2 ≤ length (now list) ⌝ }
+    ensures { λ b. ⌜ Says (Holds-number (now (list .entry)) at n) b ⌝ }
+{
+    if list[at] != low(n) {
+        return false;
+    }
+    list[at + 1] == high(n)
+}
+
+// Whether a record is the one with these fields, its kind and character given by the label.
+pub fn is_record(list: &[u8], i: usize, label: u16, left: u16, right: u16, piece: u16) -> bool
+    requires { ⌜ record-size * i + record-size ≤ length (now list) ⌝ }
+    ensures { λ b. ⌜ Says (record-at (now (list .entry)) i ≡ labelled-record label left right piece) b ⌝ }
+{
+    let at = RECORD_SIZE * i;
+    if !holds_number(list, at, label) {
+        return false;
+    }
+    if !holds_number(list, at + 2, left) {
+        return false;
+    }
+    if !holds_number(list, at + 4, right) {
+        return false;
+    }
+    holds_number(list, at + 6, piece)
+}

@@ -1,0 +1,18 @@
+// The limits, by the names of specs/Limits.antt.
+
+// How many nodes a piece has at most.
+pub const MOST_NODES: u16 = 15;
+// How many states a piece has at most.
+pub const MOST_STATES: usize = 62;
+// How many pieces a good list has at most.
+pub const MOST_PIECES: usize = 128;
+// How many records a good list has at most.
+pub const MOST_RECORDS: usize = 1920;
+// How many bytes an expression has at most.
+pub const LONGEST_EXPRESSION: usize = 1024;
+// How many nodes the tree of an expression has at most.
+pub const MOST_LABELS: usize = 2047;
+// The slots of the nodes of such a tree, and slot 0.
+pub const SLOT_COUNT: usize = 2048;
+// How many bytes a text has at most.
+pub const LONGEST_TEXT: usize = 65536;
