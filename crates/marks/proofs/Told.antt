@@ -5,7 +5,7 @@ use mathlib.Core.List.{List, [], _∷_}
 use native.Mathlib.Omega.{arith}
 use lib.ListN.{getD}
 use denote.Enum.Declared.{tagOf}
-use Rattle.tree.specs.Decide.{Judged}
+use Rattle.tree.specs.Judged.{Judged}
 use Rattle.tree.specs.declared.good.Decided.{Decided}
 use Rattle.tree.specs.declared.good.Decided.the-variants.{Good as good, NotGood as not-good}
 use Rattle.tree.proofs.good.Decided.{the-type}

@@ -11,6 +11,7 @@ use lib.ListN.{length}
 use lib.Dec.{ltb}
 use borrow.Author.Tests.{ltb-true, ltb-false}
 use Rattle.language.specs.Tree.{Tree, nodes}
+use Rattle.tree.specs.Limits.{longest-expression}
 use Rattle.tree.specs.Leaf.{Leaf}
 use Rattle.reader.specs.Scanner.{Outcome, tree, refused, due, nothing, scan, scanned}
 use Rattle.reader.specs.Grammar.{
@@ -60,29 +61,29 @@ written-size w = omega (arith, reads-size w)
 -- what scanning a whole expression comes to: 1 for no bytes, 2 for more than 1,024, and else what the scan gives
 pub data Case (bytes : List ℕ) : Outcome → Type 0 where
   empty : bytes ≡ [] → Case bytes (refused 1 0)
-  long : 1024 < length bytes → Case bytes (refused 2 1024)
-  usual : 0 < length bytes → length bytes ≤ 1024 → Case bytes (scan bytes 0 due nothing [])
+  long : longest-expression < length bytes → Case bytes (refused 2 longest-expression)
+  usual : 0 < length bytes → length bytes ≤ longest-expression → Case bytes (scan bytes 0 due nothing [])
 
 -- every expression is one of the three
 pub cases : (bytes : List ℕ) → Case bytes (scanned bytes)
 unfolding scanned
 cases [] = empty refl
-cases (b ∷ rest) = go (ltb 1024 (suc (length rest))) refl
+cases (b ∷ rest) = go (ltb longest-expression (suc (length rest))) refl
   where
-    go : (test : Bool) → ltb 1024 (suc (length rest)) ≡ test
-        → Case (b ∷ rest) (cond test (refused 2 1024) (scan (b ∷ rest) 0 due nothing []))
-    go true e = long (ltb-true 1024 (suc (length rest)) e)
-    go false e = usual (omega arith) (ltb-false 1024 (suc (length rest)) e)
+    go : (test : Bool) → ltb longest-expression (suc (length rest)) ≡ test
+        → Case (b ∷ rest) (cond test (refused 2 longest-expression) (scan (b ∷ rest) 0 due nothing []))
+    go true e = long (ltb-true longest-expression (suc (length rest)) e)
+    go false e = usual (omega arith) (ltb-false longest-expression (suc (length rest)) e)
 
 -- an outcome that is a tree comes from a written expression of at most 1,024 bytes
 tree-case : {bytes : List ℕ} {outcome : Outcome} {t : Tree Leaf} → Case bytes outcome → outcome ≡ tree t
-    → (length bytes ≤ 1024) × Written bytes t
+    → (length bytes ≤ longest-expression) × Written bytes t
 tree-case (empty p) e = no-tree e
 tree-case (long h) e = no-tree e
 tree-case {bytes = bytes} {t = t} (usual h k) e = (k, scanner-reads bytes t e)
 
 -- a written expression of at most 1,024 bytes has its tree for an outcome
-written-case : {bytes : List ℕ} {outcome : Outcome} {t : Tree Leaf} → Case bytes outcome → length bytes ≤ 1024
+written-case : {bytes : List ℕ} {outcome : Outcome} {t : Tree Leaf} → Case bytes outcome → length bytes ≤ longest-expression
     → Written bytes t → outcome ≡ tree t
 written-case {bytes = bytes} (empty p) h w = let none : length bytes ≡ 0 =
     rw p in absurd (omega (arith, written-size w))
@@ -91,7 +92,7 @@ written-case (usual k l) h w = scanner-gives w
 
 -- an expression is taken with the tree t exactly when it has at most 1,024 bytes and is a written t
 pub scanned-exactly : (bytes : List ℕ) (t : Tree Leaf) → (scanned bytes ≡ tree t)
-    ↔ ((length bytes ≤ 1024) × Written bytes t)
+    ↔ ((length bytes ≤ longest-expression) × Written bytes t)
 scanned-exactly bytes t = (tree-case (cases bytes), λ (h, w). written-case (cases bytes) h w)
 
 -- the number of a refusal tells the case apart, since the scan itself gives none below 3
@@ -104,13 +105,13 @@ module _ {bytes : List ℕ} {place : ℕ} where
 
   -- 2 comes from more than 1,024 bytes alone
   long-case : {outcome : Outcome} → Case bytes outcome → outcome ≡ refused 2 place
-      → (1024 < length bytes) × (place ≡ 1024)
+      → (longest-expression < length bytes) × (place ≡ longest-expression)
   long-case (empty p) e = let z : _≡_ {A = ℕ} 1 2 = cc in absurd (omega arith)
   long-case (long h) e = (h, cc)
   long-case (usual h k) e = absurd (omega (arith, refused-cases bytes 2 place e))
 
   -- and more than 1,024 bytes give 2
-  long-given : {outcome : Outcome} → Case bytes outcome → 1024 < length bytes → place ≡ 1024 → outcome ≡ refused 2 place
+  long-given : {outcome : Outcome} → Case bytes outcome → longest-expression < length bytes → place ≡ longest-expression → outcome ≡ refused 2 place
   long-given (empty p) h q = let none : length bytes ≡ 0 = rw p in absurd (omega arith)
   long-given (long k) h q = rw q
   long-given (usual k l) h q = absurd (omega arith)
@@ -122,21 +123,21 @@ one-exactly bytes place = (empty-case (cases bytes), λ (p, q). rw (p, q))
 
 -- 2 is given exactly when it has more than 1,024 bytes, at place 1,024
 pub two-exactly : (bytes : List ℕ) (place : ℕ) → (scanned bytes ≡ refused 2 place)
-    ↔ ((1024 < length bytes) × (place ≡ 1024))
+    ↔ ((longest-expression < length bytes) × (place ≡ longest-expression))
 two-exactly bytes place = (long-case (cases bytes), λ (h, q). long-given (cases bytes) h q)
 
 -- a refusal of an expression by its bytes alone: its number is one of 1 to 7, its place is at most 1,024
 pub record Refusal (number place : ℕ) : Type 0 where
   pub least : 1 ≤ number
   pub most : number ≤ 7
-  pub inside : place ≤ 1024
+  pub inside : place ≤ longest-expression
 
 -- in each of the three cases
 refusal-case : {bytes : List ℕ} {outcome : Outcome} {number place : ℕ} → Case bytes outcome
     → outcome ≡ refused number place → Refusal number place
 refusal-case {number = number} {place = place} (empty p) e = let n : 1 ≡ number = cc in let at : 0 ≡ place =
     cc in omega arith
-refusal-case {number = number} {place = place} (long h) e = let n : 2 ≡ number = cc in let at : 1024 ≡ place =
+refusal-case {number = number} {place = place} (long h) e = let n : 2 ≡ number = cc in let at : longest-expression ≡ place =
     cc in omega arith
 refusal-case {bytes = bytes} (usual h k) e = omega (arith, refused-cases bytes _ _ e)
 

@@ -6,6 +6,8 @@ use mathlib.Core.List.{List, _++_}
 use lib.ListN.{length, drop}
 use lib.Dec.{ltb}
 use Rattle.language.specs.Tree.{Tree, nodes}
+use Rattle.tree.specs.Limits.{most-pieces}
+use Rattle.tree.specs.Layout.{record-size}
 use Rattle.tree.specs.Leaf.{Leaf}
 use Rattle.tree.specs.Records.{encode, piece-count}
 use Rattle.reader.specs.Scanner.{Outcome, tree, refused, scanned}
@@ -37,15 +39,15 @@ numbers (Refused number place) = refusing number place
 abbrev pub answer-for : Outcome → (room : ℕ) → Numbers
 answer-for (refused number place) room = refusing number place
 answer-for (tree t) room =
-    cond (ltb 128 (piece-count t)) (refusing 8 0) (cond (ltb room (8 * nodes t)) (refusing 9 0) (reading t))
+    cond (ltb most-pieces (piece-count t)) (refusing 8 0) (cond (ltb room (record-size * nodes t)) (refusing 9 0) (reading t))
 
 -- what the buffer holds afterwards: the records, and past them what it held; the same as before where the expression is
 -- refused
 abbrev pub buffer-for : Outcome → List ℕ → List ℕ
 buffer-for (refused number place) buffer = buffer
 buffer-for (tree t) buffer =
-    cond (ltb 128 (piece-count t)) buffer
-    (cond (ltb (length buffer) (8 * nodes t)) buffer (encode t ++ drop (8 * nodes t) buffer))
+    cond (ltb most-pieces (piece-count t)) buffer
+    (cond (ltb (length buffer) (record-size * nodes t)) buffer (encode t ++ drop (record-size * nodes t) buffer))
 
 -- what `read` answers for these bytes and a buffer of this length
 abbrev pub answered : List ℕ → (room : ℕ) → Numbers

@@ -13,6 +13,8 @@ use lib.ListN.{length}
 use lib.Dec.{ltb}
 use borrow.Author.Tests.{ltb-false, le-ltb}
 use Rattle.language.specs.Tree.{Tree, nodes}
+use Rattle.tree.specs.Limits.{most-pieces, longest-expression, most-labels}
+use Rattle.tree.specs.Layout.{record-size}
 use Rattle.tree.specs.Leaf.{Leaf}
 use Rattle.tree.specs.Cut.{Cut, Fits, pieces, wanted}
 use Rattle.tree.specs.Records.{piece-count}
@@ -24,19 +26,19 @@ use Rattle.reader.specs.Answer.{refusing, reading, answer-for, answered}
 
 -- some cut of t with pieces of at most 15 nodes has at most 128 of them
 abbrev pub Small-enough : Tree Leaf → Type 0
-Small-enough t = (c : Cut t) × Fits t c × (pieces t c ≤ 128)
+Small-enough t = (c : Cut t) × Fits t c × (pieces t c ≤ most-pieces)
 
 -- then the wanted cut has at most 128, since it has the fewest; and the other way round
-pub small-enough-exactly : (t : Tree Leaf) → (piece-count t ≤ 128) ↔ Small-enough t
+pub small-enough-exactly : (t : Tree Leaf) → (piece-count t ≤ most-pieces) ↔ Small-enough t
 small-enough-exactly t = (λ few. (wanted t, wanted-fits t, few), λ (c, fits, few). omega (arith, least t c fits))
 
 -- the expression has the tree t, which is small enough, and there is room for its records
 pub record Fit-to-read (bytes : List ℕ) (room : ℕ) : Type 0 where
-  pub few : length bytes ≤ 1024
+  pub few : length bytes ≤ longest-expression
   pub t : Tree Leaf
   pub written : Written bytes t
   pub small : Small-enough t
-  pub fits : 8 * nodes t ≤ room
+  pub fits : record-size * nodes t ≤ room
 
 -- of the answers to a tree, only the one past both tests is no refusal
 past-both : (t : Tree Leaf) (many short : Bool)
@@ -51,14 +53,14 @@ taken-outcome : (bytes : List ℕ) (room : ℕ) (outcome : Outcome) → scanned 
 taken-outcome bytes room (refused number place) scans e =
     absurd (omega (arith, scanned-refusal bytes number place scans .least))
 taken-outcome bytes room (tree t) scans e =
-    let tests = past-both t (ltb 128 (piece-count t)) (ltb room (8 * nodes t)) e in
+    let tests = past-both t (ltb most-pieces (piece-count t)) (ltb room (record-size * nodes t)) e in
     let (few, written) = scanned-exactly bytes t .0 scans in
     record {
       few = few;
       t = t;
       written = written;
-      small = small-enough-exactly t .0 (ltb-false 128 (piece-count t) (tests .0));
-      fits = ltb-false room (8 * nodes t) (tests .1);
+      small = small-enough-exactly t .0 (ltb-false most-pieces (piece-count t) (tests .0));
+      fits = ltb-false room (record-size * nodes t) (tests .1);
     }
 
 -- what is fit to be read is read
@@ -66,8 +68,8 @@ fit-taken : (bytes : List ℕ) (room : ℕ) → Fit-to-read bytes room → answe
 fit-taken bytes room fit =
     rw (
       scanned-exactly bytes (fit .t) .1 (fit .few, fit .written),
-      le-ltb 128 (piece-count (fit .t)) (small-enough-exactly (fit .t) .1 (fit .small)),
-      le-ltb room (8 * nodes (fit .t)) (fit .fits),
+      le-ltb most-pieces (piece-count (fit .t)) (small-enough-exactly (fit .t) .1 (fit .small)),
+      le-ltb room (record-size * nodes (fit .t)) (fit .fits),
     )
 
 -- an expression is read exactly when it is fit
@@ -77,9 +79,9 @@ fit-exactly bytes room = (taken-outcome bytes room (scanned bytes) refl, fit-tak
 -- the expression has at most 1,024 bytes, is written by the grammar, and its tree can be cut into few enough small
 -- pieces
 abbrev pub Expressible : List ℕ → Type 0
-Expressible bytes = (length bytes ≤ 1024) × ((t : Tree Leaf) × Written bytes t × Small-enough t)
+Expressible bytes = (length bytes ≤ longest-expression) × ((t : Tree Leaf) × Written bytes t × Small-enough t)
 
-module _ (bytes : List ℕ) (room : ℕ) (enough : 8 * 2047 ≤ room) where
+module _ (bytes : List ℕ) (room : ℕ) (enough : record-size * most-labels ≤ room) where
   -- with room for 2,047 records it is read exactly then: it has no more
   pub expression-read-exactly : (answered bytes room .refusal ≡ 0) ↔ Expressible bytes
   expression-read-exactly = (

@@ -8,6 +8,7 @@ use mathlib.Core.List.{List, [], _∷_}
 use lib.ListN.{length, take}
 use borrow.Author.Tests.{lt-ltb, le-ltb}
 use Rattle.language.specs.Tree.{Tree}
+use Rattle.tree.specs.Limits.{longest-expression, most-labels}
 use Rattle.tree.specs.Leaf.{Leaf}
 use Rattle.tree.specs.Records.{labels}
 use Rattle.reader.specs.Scanner.{tree, refused, due, nothing, scan, scanned}
@@ -23,7 +24,7 @@ pub record Expression-read (bytes later : List ℕ) (total : ℕ) : Type 0 where
   pub read : Tree Leaf
   pub scans : scanned bytes ≡ tree read
   pub written : take total later ≡ labels read
-  pub bounded : total ≤ 2047
+  pub bounded : total ≤ most-labels
 
 -- the expression is refused
 pub record Expression-refused (bytes : List ℕ) (number place : ℕ) : Type 0 where
@@ -41,23 +42,23 @@ empty [] e = record { scans = refl }
 empty (b ∷ bytes) e = absurd (omega arith)
 
 -- too many bytes
-pub too-long : (bytes : List ℕ) → 1024 < length bytes → Expression-refused bytes 2 1024
+pub too-long : (bytes : List ℕ) → longest-expression < length bytes → Expression-refused bytes 2 longest-expression
 unfolding scanned
 too-long [] h = absurd (omega arith)
 too-long (b ∷ bytes) h =
     record {
-      scans = ap (λ (t : Bool). cond t (refused 2 1024) (scan (b ∷ bytes) 0 due nothing []))
-          (lt-ltb 1024 (length (b ∷ bytes)) h);
+      scans = ap (λ (t : Bool). cond t (refused 2 longest-expression) (scan (b ∷ bytes) 0 due nothing []))
+          (lt-ltb longest-expression (length (b ∷ bytes)) h);
     }
 
 -- else the scan decides
-sized : (bytes : List ℕ) → (length bytes ≡ 0 → ⊥) → length bytes ≤ 1024 → scanned bytes ≡ from bytes 0 due nothing []
+sized : (bytes : List ℕ) → (length bytes ≡ 0 → ⊥) → length bytes ≤ longest-expression → scanned bytes ≡ from bytes 0 due nothing []
 unfolding scanned from
 sized [] some h = absurd (some refl)
-sized (b ∷ bytes) some h = ap (λ (t : Bool). cond t (refused 2 1024) (scan (b ∷ bytes) 0 due nothing []))
-    (le-ltb 1024 (length (b ∷ bytes)) h)
+sized (b ∷ bytes) some h = ap (λ (t : Bool). cond t (refused 2 longest-expression) (scan (b ∷ bytes) 0 due nothing []))
+    (le-ltb longest-expression (length (b ∷ bytes)) h)
 
-module _ (bytes : List ℕ) (some : length bytes ≡ 0 → ⊥) (few : length bytes ≤ 1024) where
+module _ (bytes : List ℕ) (some : length bytes ≡ 0 → ⊥) (few : length bytes ≤ longest-expression) where
   -- the union that the expression is was refused
   pub faulty : {number place : ℕ} → Fails united bytes 0 0 number place → Expression-refused bytes number place
   faulty f = record { scans = sized bytes some few ∙ f .onward nothing [] refl }

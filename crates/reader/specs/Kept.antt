@@ -11,6 +11,8 @@ use lib.Seq.{take-at, drop-at}
 use lib.Dec.{ltb}
 use borrow.Author.Tests.{ltb-false}
 use Rattle.language.specs.Tree.{Tree, nodes}
+use Rattle.tree.specs.Limits.{most-pieces}
+use Rattle.tree.specs.Layout.{record-size}
 use Rattle.tree.specs.Leaf.{Leaf}
 use Rattle.tree.specs.Records.{encode, piece-count, Good}
 use Rattle.tree.specs.Lengths.{nodes-positive, length-encode}
@@ -52,7 +54,7 @@ sure-pick t false false e f = omega (arith, nodes-positive t)
 sure-answer : (bytes : List ℕ) (room : ℕ) (outcome : Outcome) → scanned bytes ≡ outcome
     → answer-for outcome room .refusal ≡ 0 → answer-for outcome room .records ≡ 0 → ⊥
 sure-answer bytes room (refused number place) scans e f = omega (arith, scanned-refusal bytes number place scans .least)
-sure-answer bytes room (tree t) scans e f = sure-pick t (ltb 128 (piece-count t)) (ltb room (8 * nodes t)) e f
+sure-answer bytes room (tree t) scans e f = sure-pick t (ltb most-pieces (piece-count t)) (ltb room (record-size * nodes t)) e f
 
 -- two answers that both fit the promise are equal
 pub answer-unique : (bytes : List ℕ) (room : ℕ) (r s : Answer) → numbers r ≡ answered bytes room
@@ -67,14 +69,14 @@ pub record Kept (bytes before after : List ℕ) (records pieces : ℕ) : Type 0 
   pub scans : scanned bytes ≡ tree read
   pub counted : records ≡ nodes read
   pub parted : pieces ≡ piece-count read
-  pub fits : 8 * records ≤ length before
-  pub good : Good (take (8 * records) after) read
-  pub rest : drop (8 * records) after ≡ drop (8 * records) before
+  pub fits : record-size * records ≤ length before
+  pub good : Good (take (record-size * records) after) read
+  pub rest : drop (record-size * records) after ≡ drop (record-size * records) before
 
 kept-pick : (bytes before after : List ℕ) (records pieces : ℕ) (t : Tree Leaf) → scanned bytes ≡ tree t
-    → (many short : Bool) → ltb 128 (piece-count t) ≡ many → ltb (length before) (8 * nodes t) ≡ short
+    → (many short : Bool) → ltb most-pieces (piece-count t) ≡ many → ltb (length before) (record-size * nodes t) ≡ short
     → numbers (Read records pieces) ≡ cond many (refusing 8 0) (cond short (refusing 9 0) (reading t))
-    → after ≡ cond many before (cond short before (encode t ++ drop (8 * nodes t) before))
+    → after ≡ cond many before (cond short before (encode t ++ drop (record-size * nodes t) before))
     → Kept bytes before after records pieces
 kept-pick bytes before after records pieces t scans true short m h e f =
     absurd (omega (arith, ap (λ (n : Numbers). n .refusal) e))
@@ -82,18 +84,18 @@ kept-pick bytes before after records pieces t scans false true m h e f =
     absurd (omega (arith, ap (λ (n : Numbers). n .refusal) e))
 kept-pick bytes before after records pieces t scans false false m h e f =
     let counted : records ≡ nodes t = ap (λ (n : Numbers). n .records) e in
-    let long : length (encode t) ≡ 8 * nodes t = length-encode t in
+    let long : length (encode t) ≡ record-size * nodes t = length-encode t in
     record {
       read = t;
       scans = scans;
       counted = counted;
       parted = ap (λ (n : Numbers). n .pieces) e;
-      fits = omega (arith, ltb-false (length before) (8 * nodes t) h);
+      fits = omega (arith, ltb-false (length before) (record-size * nodes t) h);
       good = record {
-        of-tree = rw (f, counted) (take-at (encode t) (drop (8 * nodes t) before) (8 * nodes t) long);
-        few = ltb-false 128 (piece-count t) m;
+        of-tree = rw (f, counted) (take-at (encode t) (drop (record-size * nodes t) before) (record-size * nodes t) long);
+        few = ltb-false most-pieces (piece-count t) m;
       };
-      rest = rw (f, counted) (drop-at (encode t) (drop (8 * nodes t) before) (8 * nodes t) long);
+      rest = rw (f, counted) (drop-at (encode t) (drop (record-size * nodes t) before) (record-size * nodes t) long);
     }
 
 kept-outcome : (bytes before after : List ℕ) (records pieces : ℕ) (outcome : Outcome) → scanned bytes ≡ outcome
@@ -102,7 +104,7 @@ kept-outcome : (bytes before after : List ℕ) (records pieces : ℕ) (outcome :
 kept-outcome bytes before after records pieces (refused number place) scans e f =
     absurd (omega (arith, ap (λ (n : Numbers). n .refusal) e, scanned-refusal bytes number place scans .least))
 kept-outcome bytes before after records pieces (tree t) scans e f =
-    kept-pick bytes before after records pieces t scans (ltb 128 (piece-count t)) (ltb (length before) (8 * nodes t))
+    kept-pick bytes before after records pieces t scans (ltb most-pieces (piece-count t)) (ltb (length before) (record-size * nodes t))
     refl refl e f
 
 -- from what `read` promises, where it answers that the records were written
@@ -113,7 +115,7 @@ kept bytes before after records pieces e f = kept-outcome bytes before after rec
 -- where it answers a refusal, no byte of the buffer differs
 same-pick : (before : List ℕ) (number place : ℕ) (t : Tree Leaf) (many short : Bool) → numbers (Refused number place)
     ≡ cond many (refusing 8 0) (cond short (refusing 9 0) (reading t))
-    → cond many before (cond short before (encode t ++ drop (8 * nodes t) before)) ≡ before
+    → cond many before (cond short before (encode t ++ drop (record-size * nodes t) before)) ≡ before
 same-pick before number place t true short e = refl
 same-pick before number place t false true e = refl
 same-pick before number place t false false e =
@@ -123,7 +125,7 @@ same-outcome : (before : List ℕ) (number place : ℕ) (outcome : Outcome) → 
     ≡ answer-for outcome (length before) → buffer-for outcome before ≡ before
 same-outcome before number place (refused number′ place′) e = refl
 same-outcome before number place (tree t) e =
-    same-pick before number place t (ltb 128 (piece-count t)) (ltb (length before) (8 * nodes t)) e
+    same-pick before number place t (ltb most-pieces (piece-count t)) (ltb (length before) (record-size * nodes t)) e
 
 pub refusal-keeps : (bytes before after : List ℕ) (number place : ℕ) → numbers (Refused number place)
     ≡ answered bytes (length before) → after ≡ records-after bytes before → after ≡ before

@@ -11,7 +11,8 @@ use lib.ListN.{length, take, getD, set}
 use lib.Seq.{take-suc-set}
 use Rattle.language.specs.Tree.{Tree, leaf, catenation, union, star}
 use Rattle.tree.specs.Leaf.{Leaf, character}
-use Rattle.tree.specs.Records.{labels, label-of}
+use Rattle.tree.specs.Layout.{label-of}
+use Rattle.tree.specs.Records.{labels}
 use Rattle.reader.specs.Bytes.{sign-of}
 use Rattle.reader.specs.Grammar.{Level, starred, joined, united}
 use Rattle.reader.specs.Stopping.{Stops, beginning, closes-united}

@@ -7,6 +7,7 @@ use mathlib.Core.List.{List, [], _∷_}
 use lib.ListN.{length}
 use lib.Dec.{ltb}
 use Rattle.language.specs.Tree.{Tree, leaf, catenation, union, star}
+use Rattle.tree.specs.Limits.{longest-expression}
 use Rattle.tree.specs.Leaf.{Leaf, character}
 use Rattle.reader.specs.Bytes.{Sign, opening, closing, bar, asterisk, backslash, plain, sign-of, special}
 
@@ -110,4 +111,4 @@ scan (b ∷ rest) place phase before groups = byte-at b place phase (scan rest (
 -- or its tree
 unfoldable pub scanned : List ℕ → Outcome
 scanned [] = refused 1 0
-scanned (b ∷ rest) = cond (ltb 1024 (length (b ∷ rest))) (refused 2 1024) (scan (b ∷ rest) 0 due nothing [])
+scanned (b ∷ rest) = cond (ltb longest-expression (length (b ∷ rest))) (refused 2 longest-expression) (scan (b ∷ rest) 0 due nothing [])

@@ -9,6 +9,8 @@ use lib.ListN.{length, drop}
 use lib.Dec.{ltb}
 use borrow.Author.Tests.{lt-ltb, le-ltb}
 use Rattle.language.specs.Tree.{Tree, nodes}
+use Rattle.tree.specs.Limits.{most-pieces}
+use Rattle.tree.specs.Layout.{record-size}
 use Rattle.tree.specs.Leaf.{Leaf}
 use Rattle.tree.specs.Records.{labels, encode, piece-count}
 use Rattle.tree.specs.Lengths.{length-labels}
@@ -24,35 +26,35 @@ pub record Store-answer (ls before after : List ℕ) (r : Answer) : Type 0 where
 
 module _ (ls before : List ℕ) (n : ℕ) (count : (t : Tree Leaf) → ls ≡ labels t → n ≡ piece-count t) where
   -- the tests, as the tree has them
-  many : (t : Tree Leaf) → ls ≡ labels t → 128 < n → ltb 128 (piece-count t) ≡ true
-  many t e h = lt-ltb 128 (piece-count t) (omega (arith, count t e))
+  many : (t : Tree Leaf) → ls ≡ labels t → most-pieces < n → ltb most-pieces (piece-count t) ≡ true
+  many t e h = lt-ltb most-pieces (piece-count t) (omega (arith, count t e))
 
-  not-many : (t : Tree Leaf) → ls ≡ labels t → n ≤ 128 → ltb 128 (piece-count t) ≡ false
-  not-many t e h = le-ltb 128 (piece-count t) (omega (arith, count t e))
+  not-many : (t : Tree Leaf) → ls ≡ labels t → n ≤ most-pieces → ltb most-pieces (piece-count t) ≡ false
+  not-many t e h = le-ltb most-pieces (piece-count t) (omega (arith, count t e))
 
   long : (t : Tree Leaf) → ls ≡ labels t → length ls ≡ nodes t
   long t e = ap length e ∙ length-labels t
 
-  pub stored-many : 128 < n → Store-answer ls before before (Refused 8 0)
+  pub stored-many : most-pieces < n → Store-answer ls before before (Refused 8 0)
   stored-many h = record { answer = λ t e. rw (many t e h); buffer = λ t e. rw (many t e h) }
 
-  pub stored-short : n ≤ 128 → length before < 8 * length ls → Store-answer ls before before (Refused 9 0)
+  pub stored-short : n ≤ most-pieces → length before < record-size * length ls → Store-answer ls before before (Refused 9 0)
   stored-short h short =
       record {
-        answer = λ t e. rw (not-many t e h, lt-ltb (length before) (8 * nodes t) (omega (arith, long t e)));
-        buffer = λ t e. rw (not-many t e h, lt-ltb (length before) (8 * nodes t) (omega (arith, long t e)));
+        answer = λ t e. rw (not-many t e h, lt-ltb (length before) (record-size * nodes t) (omega (arith, long t e)));
+        buffer = λ t e. rw (not-many t e h, lt-ltb (length before) (record-size * nodes t) (omega (arith, long t e)));
       }
 
-  pub stored-whole : {after : List ℕ} → n ≤ 128 → 8 * length ls ≤ length before
-      → ((t : Tree Leaf) → ls ≡ labels t → after ≡ encode t ++ drop (8 * nodes t) before)
+  pub stored-whole : {after : List ℕ} → n ≤ most-pieces → record-size * length ls ≤ length before
+      → ((t : Tree Leaf) → ls ≡ labels t → after ≡ encode t ++ drop (record-size * nodes t) before)
       → Store-answer ls before after (Read (length ls) n)
   stored-whole h room wrote =
       record {
         answer = λ t e. rw (
           not-many t e h,
-          le-ltb (length before) (8 * nodes t) (omega (arith, long t e)),
+          le-ltb (length before) (record-size * nodes t) (omega (arith, long t e)),
           long t e,
           count t e,
         );
-        buffer = λ t e. rw (not-many t e h, le-ltb (length before) (8 * nodes t) (omega (arith, long t e))) (wrote t e);
+        buffer = λ t e. rw (not-many t e h, le-ltb (length before) (record-size * nodes t) (omega (arith, long t e))) (wrote t e);
       }

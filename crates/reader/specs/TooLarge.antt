@@ -10,6 +10,8 @@ use lib.ListN.{length}
 use lib.Dec.{ltb}
 use borrow.Author.Tests.{ltb-true, lt-ltb}
 use Rattle.language.specs.Tree.{Tree, nodes}
+use Rattle.tree.specs.Limits.{most-pieces, longest-expression}
+use Rattle.tree.specs.Layout.{record-size}
 use Rattle.tree.specs.Leaf.{Leaf}
 use Rattle.tree.specs.Cut.{Cut, Fits, pieces}
 use Rattle.tree.specs.Records.{piece-count}
@@ -27,17 +29,17 @@ eight-first t false true e = absurd (omega (arith, ap (λ (n : Numbers). n .refu
 eight-first t false false e = absurd (omega (arith, ap (λ (n : Numbers). n .refusal) e))
 
 -- the cut decides
-eight-tree : (t : Tree Leaf) (room : ℕ) → (answer-for (tree t) room ≡ refusing 8 0) ↔ (128 < piece-count t)
+eight-tree : (t : Tree Leaf) (room : ℕ) → (answer-for (tree t) room ≡ refusing 8 0) ↔ (most-pieces < piece-count t)
 eight-tree t room = (
-  λ e. ltb-true 128 (piece-count t) (eight-first t (ltb 128 (piece-count t)) (ltb room (8 * nodes t)) e),
-  λ many. ap (λ (b : Bool). cond b (refusing 8 0) (cond (ltb room (8 * nodes t)) (refusing 9 0) (reading t)))
-      (lt-ltb 128 (piece-count t) many),
+  λ e. ltb-true most-pieces (piece-count t) (eight-first t (ltb most-pieces (piece-count t)) (ltb room (record-size * nodes t)) e),
+  λ many. ap (λ (b : Bool). cond b (refusing 8 0) (cond (ltb room (record-size * nodes t)) (refusing 9 0) (reading t)))
+      (lt-ltb most-pieces (piece-count t) many),
 )
 
 -- an expression with no fault in its writing or length is refused as 8 exactly when every cut with pieces of at most 15
 -- nodes has more than 128 pieces
-pub too-large-exactly : (bytes : List ℕ) (room : ℕ) (t : Tree Leaf) → length bytes ≤ 1024 → Written bytes t
-    → (answered bytes room ≡ refusing 8 0) ↔ ((c : Cut t) → Fits t c → 128 < pieces t c)
+pub too-large-exactly : (bytes : List ℕ) (room : ℕ) (t : Tree Leaf) → length bytes ≤ longest-expression → Written bytes t
+    → (answered bytes room ≡ refusing 8 0) ↔ ((c : Cut t) → Fits t c → most-pieces < pieces t c)
 too-large-exactly bytes room t few w =
     let scans : scanned bytes ≡ tree t = scanned-exactly bytes t .1 (few, w) in (
       λ e. too-many-exactly t .0 (eight-tree t room .0 (rw scans at e)),

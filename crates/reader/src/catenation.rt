@@ -1,6 +1,7 @@
 // A catenation: operands one after the other, up to a `|`, a `)` or the end.
 use crate::operand::operand;
 use crate::part::Part;
+use tree::layout::CATENATION_LABEL;
 ghost use Rattle.reader.specs.Grammar.{joined};
 ghost use Rattle.reader.specs.Reading.{Scratch-room, Part-answer};
 
@@ -27,7 +28,7 @@ pub fn catenation(expr: &[u8], at: usize, depth: usize, labels: &mut [u16], coun
         let Part::Read { next, count } = part else {
             return part;
         };
-        labels[count] = 2;
+        labels[count] = CATENATION_LABEL;
         n = count + 1;
         place = next;
     }

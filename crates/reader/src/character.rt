@@ -1,9 +1,10 @@
 // One character: a byte that stands for itself, or a special byte after a `\`.
 use crate::part::Part;
+use tree::layout::CHARACTER_LABEL;
 ghost use mathlib.Core.Path.{_≡_};
 ghost use Prim.Native.Nat.{_+_, _<_};
 ghost use lib.ListN.{length, getD, set};
-ghost use Rattle.tree.specs.Records.{label-of};
+ghost use Rattle.tree.specs.Layout.{label-of, character-kind};
 ghost use Rattle.reader.specs.Bytes.{sign-of, special};
 ghost use Rattle.reader.specs.Reading.{Scratch-room, Character-answer};
 
@@ -30,9 +31,9 @@ fn is_special(byte: u8) -> bool
 fn leaf(byte: u8, next: usize, labels: &mut [u16], count: usize) -> Part
     requires { ⌜ count < length (now labels) ⌝ }
     ensures answer { λ r. ⌜ r ≡ Part.Read next (count + 1) ⌝ }
-    ensures written { λ r. ⌜ now (labels .exit) ≡ set (now (labels .entry)) count (label-of 1 byte) ⌝ }
+    ensures written { λ r. ⌜ now (labels .exit) ≡ set (now (labels .entry)) count (label-of character-kind byte) ⌝ }
 {
-    labels[count] = 1 + 256 * (byte as u16);
+    labels[count] = CHARACTER_LABEL + 256 * (byte as u16);
     Part::Read {
         next,
         count: count + 1,

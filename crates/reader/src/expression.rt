@@ -1,13 +1,15 @@
 // A whole expression.
 use crate::part::Part;
 use crate::union::union;
+use tree::limits::LONGEST_EXPRESSION;
 ghost use Prim.Native.Nat.{_≤_};
 ghost use lib.ListN.{length};
+ghost use Rattle.tree.specs.Limits.{most-labels};
 ghost use Rattle.reader.specs.Expression.{Expression-answer};
 
 // Writes the labels of an expression's tree: refuses by 1, 2, or the first fault from left to right.
 pub fn expression(expr: &[u8], labels: &mut [u16]) -> Part
-    requires { ⌜ 2047 ≤ length (now labels) ⌝ }
+    requires { ⌜ most-labels ≤ length (now labels) ⌝ }
     ensures { λ r. ⌜ Expression-answer (now (expr .entry)) (now (labels .exit)) r ⌝ }
 {
     if expr.len() == 0 {
@@ -16,10 +18,10 @@ pub fn expression(expr: &[u8], labels: &mut [u16]) -> Part
             place: 0,
         };
     }
-    if expr.len() > 1024 {
+    if expr.len() > LONGEST_EXPRESSION {
         return Part::Refused {
             number: 2,
-            place: 1024,
+            place: LONGEST_EXPRESSION,
         };
     }
     let whole = union(expr, 0, 0, labels, 0);

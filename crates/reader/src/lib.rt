@@ -13,6 +13,7 @@ pub use answer::Answer;
 use expression::expression;
 use part::Part;
 use store::store;
+use tree::limits::MOST_LABELS;
 ghost use mathlib.Core.Path.{_≡_};
 ghost use lib.ListN.{length};
 ghost use Rattle.reader.specs.Answer.{numbers, answered, records-after};
@@ -23,7 +24,7 @@ pub fn read(expr: &[u8], records: &mut [u8]) -> Answer
     ensures answer { λ r. ⌜ numbers r ≡ answered (now (expr .entry)) (length (now (records .entry))) ⌝ }
     ensures buffer { λ r. ⌜ now (records .exit) ≡ records-after (now (expr .entry)) (now (records .entry)) ⌝ }
 {
-    let mut labels = [0u16; 2047];
+    let mut labels = [0u16; MOST_LABELS];
     let whole = expression(expr, &mut labels);
     match whole {
         Part::Refused { number, place } => Answer::Refused { number, place },

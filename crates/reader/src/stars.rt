@@ -1,5 +1,6 @@
 // The stars after an operand.
 use crate::part::Part;
+use tree::layout::STAR_LABEL;
 ghost use Prim.Native.Nat.{_+_, _≤_};
 ghost use lib.ListN.{length};
 ghost use Rattle.reader.specs.Reading.{Stars-answer};
@@ -16,7 +17,7 @@ pub fn stars(expr: &[u8], at: usize, labels: &mut [u16], count: usize) -> Part
         if expr[place] != b'*' {
             break;
         }
-        labels[n] = 4;
+        labels[n] = STAR_LABEL;
         n += 1;
         place += 1;
     }

@@ -1,6 +1,7 @@
 // A union: catenations with `|` between them, up to a `)` or the end.
 use crate::catenation::catenation;
 use crate::part::Part;
+use tree::layout::UNION_LABEL;
 ghost use Rattle.reader.specs.Grammar.{united};
 ghost use Rattle.reader.specs.Reading.{Scratch-room, Part-answer};
 
@@ -23,7 +24,7 @@ pub fn union(expr: &[u8], at: usize, depth: usize, labels: &mut [u16], count: us
         let Part::Read { next, count } = part else {
             return part;
         };
-        labels[count] = 3;
+        labels[count] = UNION_LABEL;
         n = count + 1;
         place = next;
     }

@@ -9,7 +9,7 @@ use Rattle.language.specs.Tree.{Tree, nodes}
 use Rattle.language.specs.Nested.{Nested, leaf, catenation, union, star, below, own}
 use Rattle.tree.specs.Leaf.{Leaf}
 use Rattle.tree.specs.Records.{Good, piece-count}
-use Rattle.tree.specs.Nesting.{Small, Every-below}
+use Rattle.tree.specs.Parts.{Small, Every-below}
 use Rattle.tree.specs.Stored.{stored}
 use Rattle.tree.specs.Pieces.{cut-up, stated, good-small, good-tells}
 use Rattle.tables.specs.Words.{width}

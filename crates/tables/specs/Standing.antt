@@ -10,7 +10,8 @@ use lib.Seq.{getD-append-add}
 use Rattle.language.specs.Tree.{nodes}
 use Rattle.language.specs.Nested.{Nested, leaf, catenation, union, star, below, whole}
 use Rattle.tree.specs.Leaf.{Leaf}
-use Rattle.tree.specs.Records.{record-of, leaf-kind, leaf-character}
+use Rattle.tree.specs.Layout.{record-of}
+use Rattle.tree.specs.Records.{leaf-kind, leaf-character}
 use Rattle.tree.specs.Stored.{stored}
 use Rattle.tables.specs.Words.{width, run}
 

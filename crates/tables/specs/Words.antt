@@ -7,7 +7,7 @@ use lib.ListN.{getD, drop}
 use Rattle.language.specs.Automaton.{State, start, accepting, left, right, States}
 use Rattle.language.specs.Nested.{Nested, leaf, catenation, union, star, below, Has, origin}
 -- how long the run of words below the top piece's word is: one word for each piece
-pub use Rattle.tree.specs.Nesting.{pieces-below as run}
+pub use Rattle.tree.specs.Parts.{pieces-below as run}
 
 -- bit i of w, counted from the low end, is set
 abbrev pub Bit : ℕ → ℕ → Type 0

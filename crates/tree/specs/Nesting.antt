@@ -20,6 +20,15 @@ use Rattle.tree.specs.Cut.{Cut, kept, one, part, cuts, Fits, edge, nest}
 use Rattle.tree.specs.Parts.{pieces-below, top-nodes, child-pieces, Every-below, Every-piece, Small}
 use Rattle.tree.specs.Least.{part-at-most}
 
+-- what follows from P for one piece follows for every piece below another
+pub every-below : {A : Type 0} {P Q : Nested A → Type 0} → ((x : Nested A) → P x → Q x) → (x : Nested A)
+    → Every-below P x → Every-below Q x
+every-below f (nested-leaf a) h = tt
+every-below f (nested-catenation x y) h = (every-below f x (h .0), every-below f y (h .1))
+every-below f (nested-union x y) h = (every-below f x (h .0), every-below f y (h .1))
+every-below f (nested-star x) h = every-below f x h
+every-below f (below x) h = (f x (h .0), every-below f x (h .1))
+
 -- an edge, cut or not, leaves the tree under it
 pub whole-edge : {A : Type 0} (b : Bool) (x : Nested A) → whole (edge b x) ≡ whole x
 whole-edge true x = refl

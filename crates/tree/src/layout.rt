@@ -5,8 +5,18 @@ ghost use lib.ListN.{length};
 ghost use lib.Seq.{sets};
 ghost use Rattle.tree.specs.Says.{Says};
 ghost use Rattle.tree.specs.Layout.{
-    record-size, two-bytes, labelled-record, record-at, label-of, number-at, Holds-number, kind-at, character-at, left-at,
-    right-at, piece-at
+  record-size,
+  two-bytes,
+  labelled-record,
+  record-at,
+  label-of,
+  number-at,
+  Holds-number,
+  kind-at,
+  character-at,
+  left-at,
+  right-at,
+  piece-at,
 };
 
 // How many bytes a record has.
@@ -14,14 +24,20 @@ pub const RECORD_SIZE: usize = 8;
 
 // The kinds of a record.
 pub const CHARACTER: u8 = 1;
+
 pub const CATENATION: u8 = 2;
+
 pub const UNION: u8 = 3;
+
 pub const STAR: u8 = 4;
 
 // A character's label, but for the character, and the labels of the other kinds.
 pub const CHARACTER_LABEL: u16 = CHARACTER as u16;
+
 pub const CATENATION_LABEL: u16 = CATENATION as u16;
+
 pub const UNION_LABEL: u16 = UNION as u16;
+
 pub const STAR_LABEL: u16 = STAR as u16;
 
 // What stands in the place of a child's record number where there is no child.

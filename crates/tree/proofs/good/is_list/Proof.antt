@@ -25,8 +25,7 @@ slice-aggregate-compare c = search needs
 compare-requires : tie.Need-compare-requires
 compare-requires c κs =
     let h = c .before .before .before in
-    let pre = start (h .before) .pre in
-    (
+    let pre = start (h .before) .pre in (
       pre .0,
       (
         pre .1 .0,

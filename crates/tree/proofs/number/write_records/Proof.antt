@@ -25,8 +25,7 @@ slice-aggregate-write-all c = search needs
 write-all-requires : tie.Need-write-all-requires
 write-all-requires c κs =
     let h = c .before .before .before .before in
-    let pre = start (h .before) .pre in
-    (
+    let pre = start (h .before) .pre in (
       pre .0,
       (
         pre .1 .0,
