@@ -16,6 +16,8 @@ pub mod Bounds
 pub mod Nesting
 pub mod Numbering
 pub mod Walk
+pub mod Ways
+pub mod SamePiece
 pub mod Stored
 pub mod Pieces
 pub mod Seats
@@ -29,3 +31,4 @@ pub mod NumbersShown
 pub mod Depth
 pub mod Judged
 pub mod Decide
+pub mod NotGood
