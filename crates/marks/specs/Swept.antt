@@ -9,7 +9,7 @@ use lib.Bits.{bitOr}
 use Rattle.language.specs.Automaton.{State, start, Path-of}
 use Rattle.language.specs.Nested.{Nested, leaf, catenation, union, star, below, Has, Sweep, Own-empty}
 use Rattle.tree.specs.Leaf.{Leaf, meaning}
-use Rattle.tree.specs.Nesting.{Every-below}
+use Rattle.tree.specs.Parts.{Every-below}
 use Rattle.tables.specs.Words.{Bit, width, run, Own, number, Holds, Clean}
 use Rattle.tables.specs.Plan.{Pieces, Piece-at, Children-at, row, Reaches, Each-below, Closes}
 use Rattle.marks.specs.EachClosed.{Each-closed, Each-closed-below}

@@ -117,7 +117,7 @@ star-record : (p first m : ℕ) → 1 ≤ m → record-of star-kind 0 (first + m
 star-record p first m h = rw (number-of (first + m - 0) (first + m - 1) (omega arith))
 
 -- a leaf's children are none
-leaf-record : (a p first : ℕ) → record-of character-kind a no-child no-child p 
+leaf-record : (a p first : ℕ) → record-of character-kind a no-child no-child p
     ≡ seat-record first (seat (leaf (Leaf.character a)) p 0)
 leaf-record a p first =
     let character : (1 + 256 * a) % 256 ≡ 1 = omega arith in
