@@ -13,7 +13,7 @@ use Rattle.language.specs.Models.{State-of, started-state, stepped-state
 
 module _ {A : Type 0} (M : Meaning A) (t : Tree A) where
   -- after one text and then another
-  pub after-append : (v w : List ℕ) (X : States) → After M t (v ++ w) X ≡ After M t w (After M t v X)
+  after-append : (v w : List ℕ) (X : States) → After M t (v ++ w) X ≡ After M t w (After M t v X)
   after-append [] w X = refl
   after-append (b ∷ v) w X = after-append v w (Stepped M t b X)
 
@@ -23,12 +23,12 @@ module _ {A : Type 0} (M : Meaning A) (t : Tree A) where
   after-step w b X = after-append w (b ∷ []) X
 
   -- where no mark is left, none comes back
-  pub after-none : (w : List ℕ) (X : States) → ((p : State) → X p → ⊥) → (p : State) → After M t w X p → ⊥
+  after-none : (w : List ℕ) (X : States) → ((p : State) → X p → ⊥) → (p : State) → After M t w X p → ⊥
   after-none [] X none = none
   after-none (b ∷ w) X none = after-none w (Stepped M t b X) (none-left M t b none)
 
   -- the marks after a text are states that there are, where those before it were
-  pub after-state : (w : List ℕ) (X : States) → X ⊆ State-of t → After M t w X ⊆ State-of t
+  after-state : (w : List ℕ) (X : States) → X ⊆ State-of t → After M t w X ⊆ State-of t
   after-state [] X states = states
   after-state (b ∷ w) X states = after-state w (Stepped M t b X) (stepped-state M t b X)
 

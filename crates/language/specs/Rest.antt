@@ -25,25 +25,25 @@ use Rattle.language.specs.Automaton.{
 }
 
 -- a text of L before one of M
-abbrev pub Joined : (List ℕ → Type 0) → (List ℕ → Type 0) → List ℕ → Type 0
-Joined L M w = (u : List ℕ) × (v : List ℕ) × (w ≡ u ++ v) × L u × M v
+abbrev Followed : (List ℕ → Type 0) → (List ℕ → Type 0) → List ℕ → Type 0
+Followed L M w = (u : List ℕ) × (v : List ℕ) × (w ≡ u ++ v) × L u × M v
 
 -- one more text of L before a repetition is a repetition
-repeated-more : {L : List ℕ → Type 0} {w : List ℕ} → Joined L (Repeated L) w → Repeated L w
+repeated-more : {L : List ℕ → Type 0} {w : List ℕ} → Followed L (Repeated L) w → Repeated L w
 repeated-more j = rw (j .2) (more (j .3) (j .4))
 
 module _ {A : Type 0} (M : Meaning A) where
   -- the texts that lead from a state to the accepting state
-  abbrev pub Rest : Tree A → State → List ℕ → Type 0
+  abbrev Rest : Tree A → State → List ℕ → Type 0
   Rest t start w = Language M t w
   Rest t accepting w = w ≡ []
   Rest (leaf a) (left p) w = ⊥
   Rest (leaf a) (right p) w = ⊥
-  Rest (catenation s t) (left p) w = Joined (Rest s p) (Language M t) w
+  Rest (catenation s t) (left p) w = Followed (Rest s p) (Language M t) w
   Rest (catenation s t) (right p) w = Rest t p w
   Rest (union s t) (left p) w = Rest s p w
   Rest (union s t) (right p) w = Rest t p w
-  Rest (star s) (left p) w = Joined (Rest s p) (Repeated (Language M s)) w
+  Rest (star s) (left p) w = Followed (Rest s p) (Repeated (Language M s)) w
   Rest (star s) (right p) w = ⊥
 
   -- what an empty transition ends in, its beginning has too
@@ -78,12 +78,12 @@ module _ {A : Type 0} (M : Meaning A) where
       (b ∷ r .0, r .1, ap (λ (v : List ℕ). b ∷ v) (r .2), rest-reads e (r .0) (r .3), r .4)
 
   -- a path of empty transitions likewise
-  pub rest-path : {t : Tree A} {p q : State} → Path-of (Empty M t) p q → (w : List ℕ) → Rest t q w → Rest t p w
+  rest-path : {t : Tree A} {p q : State} → Path-of (Empty M t) p q → (w : List ℕ) → Rest t q w → Rest t p w
   rest-path here w r = r
   rest-path (step e path) w r = rest-empty e w (rest-path path w r)
 
   -- marks that come to the accepting state hold one from which the text leads there
-  pub after-rest : (t : Tree A) (w : List ℕ) (X : States) → After M t w X accepting → (p : State) × X p × Rest t p w
+  after-rest : (t : Tree A) (w : List ℕ) (X : States) → After M t w X accepting → (p : State) × X p × Rest t p w
   after-rest t [] X x = (accepting, x, refl)
   after-rest t (b ∷ w) X a =
       let (p, (m, (o, x, e), path), r) = after-rest t w (Stepped M t b X) a in

@@ -41,37 +41,37 @@ module _ {A : Type 0} (M : Meaning A) where
   run-out (reads d run) e = reads d (run-out run e)
 
   -- s stands at e in t: its transitions are transitions of t
-  record Within (s t : Tree A) (e : State → State) : Type 0 where
+  record Inside (s t : Tree A) (e : State → State) : Type 0 where
     empties : (p q : State) → Empty M s p q → Empty M t (e p) (e q)
     readings : (b : ℕ) (p q : State) → Reads M b s p q → Reads M b t (e p) (e q)
 
   -- so its runs are runs of t
-  run-within : {s t : Tree A} {e : State → State} {p q : State} {w : List ℕ} → Within s t e → Run s p w q
+  run-inside : {s t : Tree A} {e : State → State} {p q : State} {w : List ℕ} → Inside s t e → Run s p w q
       → Run t (e p) w (e q)
-  run-within i done = done
-  run-within i (empty {p} {q} e run) = empty (i .empties p q e) (run-within i run)
-  run-within i (reads {b} {p} {q} e run) = reads (i .readings b p q e) (run-within i run)
+  run-inside i done = done
+  run-inside i (empty {p} {q} e run) = empty (i .empties p q e) (run-inside i run)
+  run-inside i (reads {b} {p} {q} e run) = reads (i .readings b p q e) (run-inside i run)
 
-  in-catenation-left : (s t : Tree A) → Within s (catenation s t) left
+  in-catenation-left : (s t : Tree A) → Inside s (catenation s t) left
   in-catenation-left s t = record { empties = λ p q. Empty.catenation-left; readings = λ b p q. Reads.catenation-left }
 
-  in-catenation-right : (s t : Tree A) → Within t (catenation s t) right
+  in-catenation-right : (s t : Tree A) → Inside t (catenation s t) right
   in-catenation-right s t =
       record { empties = λ p q. Empty.catenation-right; readings = λ b p q. Reads.catenation-right }
 
-  in-union-left : (s t : Tree A) → Within s (union s t) left
+  in-union-left : (s t : Tree A) → Inside s (union s t) left
   in-union-left s t = record { empties = λ p q. Empty.union-left; readings = λ b p q. Reads.union-left }
 
-  in-union-right : (s t : Tree A) → Within t (union s t) right
+  in-union-right : (s t : Tree A) → Inside t (union s t) right
   in-union-right s t = record { empties = λ p q. Empty.union-right; readings = λ b p q. Reads.union-right }
 
-  in-star : (s : Tree A) → Within s (star s) left
+  in-star : (s : Tree A) → Inside s (star s) left
   in-star s = record { empties = λ p q. Empty.star-inside; readings = λ b p q. Reads.star-inside }
 
   -- through a child: in, a run of the child, out
-  through : {s t : Tree A} {e : State → State} {p q : State} {w : List ℕ} → Within s t e → Empty M t p (e start)
+  through : {s t : Tree A} {e : State → State} {p q : State} {w : List ℕ} → Inside s t e → Empty M t p (e start)
       → Run s start w accepting → Empty M t (e accepting) q → Run t p w q
-  through i enter run leave = empty enter (run-out (run-within i run) leave)
+  through i enter run leave = empty enter (run-out (run-inside i run) leave)
 
   -- round a star: from where one can enter or leave it, a run for each text joined
   round : (s : Tree A) → ((w : List ℕ) → Language M s w → Run s start w accepting) → (p : State) →
@@ -79,17 +79,17 @@ module _ {A : Type 0} (M : Meaning A) where
       → Run (star s) p w accepting
   round s runs p enter leave none = empty leave done
   round s runs p enter leave (more {u} l rest) =
-      run-then (empty enter (run-within (in-star s) (runs u l)))
+      run-then (empty enter (run-inside (in-star s) (runs u l)))
       (round s runs (left accepting) Empty.star-back Empty.star-out rest)
 
   -- each text of the language has a run from the start to the accepting state
-  pub language-run : (t : Tree A) (w : List ℕ) → Language M t w → Run t start w accepting
+  language-run : (t : Tree A) (w : List ℕ) → Language M t w → Run t start w accepting
   language-run (leaf a) w (inl (b, one, takes)) = rw one (reads (Reads.at-leaf takes) done)
   language-run (leaf a) w (inr (nothing, has)) = rw nothing (empty (Empty.leaf-past has) done)
   language-run (catenation s t) w (u, v, joined, first, second) =
       rw joined (run-then
       (through (in-catenation-left s t) Empty.catenation-in (language-run s u first) Empty.catenation-over)
-      (run-out (run-within (in-catenation-right s t) (language-run t v second)) Empty.catenation-out))
+      (run-out (run-inside (in-catenation-right s t) (language-run t v second)) Empty.catenation-out))
   language-run (union s t) w (inl l) = through (in-union-left s t) Empty.union-in-left (language-run s w l)
       Empty.union-out-left
   language-run (union s t) w (inr l) = through (in-union-right s t) Empty.union-in-right (language-run t w l)
@@ -97,7 +97,7 @@ module _ {A : Type 0} (M : Meaning A) where
   language-run (star s) w l = round s (language-run s) start Empty.star-in Empty.star-past l
 
   -- a run from marks that are closed is followed by the simulation
-  pub run-after : {t : Tree A} {p q : State} {w : List ℕ} {X : States} → Settled-by (Empty M t) X → X p → Run t p w q
+  run-after : {t : Tree A} {p q : State} {w : List ℕ} {X : States} → Settled-by (Empty M t) X → X p → Run t p w q
       → After M t w X q
   run-after settled x done = x
   run-after settled x (empty {p} {q} e run) = run-after settled (settled p q e x) run

@@ -1,11 +1,8 @@
--- The plain simulation as a function of its marks: more marks give more, the same marks give the same, and no mark
--- gives none.
+-- The plain simulation as a function of its marks: more marks give more, and no mark gives none.
 use Prim.Native.Nat.{ℕ}
-use mathlib.Core.List.{List, [], _∷_}
-use mathlib.Core.Logic.{_↔_}
 use Rattle.language.specs.Tree.{Tree}
 use Rattle.language.specs.Meaning.{Meaning}
-use Rattle.language.specs.Automaton.{State, States, Empty, Path-of, here, step, Closed, Stepped, After}
+use Rattle.language.specs.Automaton.{State, States, Empty, Path-of, here, step, Closed, Stepped}
 
 -- each state of X is one of Y
 infix 4 _⊆_
@@ -47,16 +44,6 @@ module _ {A : Type 0} (M : Meaning A) (t : Tree A) where
   -- more marks step to more
   pub stepped-more : (b : ℕ) {X Y : States} → X ⊆ Y → Stepped M t b X ⊆ Stepped M t b Y
   stepped-more b more = closed-more M t (λ p m. (m .0, more (m .0) (m .1), m .2))
-
-  -- more marks come to more after a text
-  pub after-more : (w : List ℕ) {X Y : States} → X ⊆ Y → After M t w X ⊆ After M t w Y
-  after-more [] more = more
-  after-more (b ∷ w) more = after-more w (stepped-more b more)
-
-  -- the same marks come to the same after a text
-  pub after-same : (w : List ℕ) {X Y : States} → ((p : State) → X p ↔ Y p) → (p : State)
-      → After M t w X p ↔ After M t w Y p
-  after-same w same p = (after-more w (λ q. same q .0) p, after-more w (λ q. same q .1) p)
 
   -- no mark stays no mark
   pub none-left : (b : ℕ) {X : States} → ((p : State) → X p → ⊥) → (p : State) → Stepped M t b X p → ⊥

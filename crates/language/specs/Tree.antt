@@ -1,4 +1,4 @@
--- The tree of an expression. Which leaves there are is left open: a leaf holds an A, and Meaning.antt says what it means.
+-- The tree of an expression. Which leaves there are is left open: a leaf holds an A, and its meaning is a parameter.
 use Prim.Native.Nat.{ℕ, _+_}
 
 pub data Tree (A : Type 0) : Type 0 where

@@ -40,8 +40,8 @@ up-within e child X Z within inside up q (inr (inr (stands, m))) = rw stands (up
 
 module _ {A : Type 0} (M : Meaning A) where
   -- x stands at e in a piece whose own tree is r: its own empty transitions are the piece's
-  abbrev Stands : Tree (Own-leaf A) → (State → State) → Nested A → Type 0
-  Stands r e x = (p q : State) → Own-empty M x p q → Empty (own-meaning M) r (e p) (e q)
+  abbrev Part-of-piece : Tree (Own-leaf A) → (State → State) → Nested A → Type 0
+  Part-of-piece r e x = (p q : State) → Own-empty M x p q → Empty (own-meaning M) r (e p) (e q)
 
   -- going through the child pieces loses no mark
   visit-keeps : (r : Tree (Own-leaf A)) (x : Nested A) (e : State → State) (X : States) → X
@@ -66,7 +66,7 @@ module _ {A : Type 0} (M : Meaning A) where
   -- is there already,
   -- but for what child pieces lead to, and after each of them the piece is closed again
   abbrev Walks : Tree (Own-leaf A) → Nested A → Type 1
-  Walks r x = (e : State → State) (X : States) → Stands r e x → Settled-by (Empty (own-meaning M) r) X
+  Walks r x = (e : State → State) (X : States) → Part-of-piece r e x → Settled-by (Empty (own-meaning M) r) X
       → Walked M x (λ p. X (e p)) ⊆ (λ q. Visit M x e (Closed (own-meaning M) r) X (e q))
 
   -- a leaf that has the empty text leads to its accepting state: the piece is closed
@@ -79,7 +79,7 @@ module _ {A : Type 0} (M : Meaning A) where
 
   -- a left or only child is entered from the start above it
   first-walks : (r : Tree (Own-leaf A)) (x : Nested A) → Walks r x → (e : State → State) (X : States)
-      → Stands r (λ p. e (left p)) x → Settled-by (Empty (own-meaning M) r) X →
+      → Part-of-piece r (λ p. e (left p)) x → Settled-by (Empty (own-meaning M) r) X →
       Empty (own-meaning M) r (e start) (e (left start))
       → First (Walked M x) (λ p. X (e p)) ⊆ (λ q. Visit M x (λ p. e (left p)) (Closed (own-meaning M) r) X (e (left q)))
   first-walks r x walks e X stands settled enter q m =
@@ -87,7 +87,7 @@ module _ {A : Type 0} (M : Meaning A) where
 
   -- a right child, visited when the marks X have grown to Y, is entered where that marked its start
   second-walks : (r : Tree (Own-leaf A)) (y : Nested A) → Walks r y → (e : State → State) (X Y : States)
-      → Stands r (λ p. e (right p)) y → Settled-by (Empty (own-meaning M) r) Y → X ⊆ Y →
+      → Part-of-piece r (λ p. e (right p)) y → Settled-by (Empty (own-meaning M) r) Y → X ⊆ Y →
       {P : Type 0} → (P → Y (e (right start)))
       → Second (Walked M y) P (λ p. X (e p)) ⊆
       (λ q. Visit M y (λ p. e (right p)) (Closed (own-meaning M) r) Y (e (right q)))
