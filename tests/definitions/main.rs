@@ -80,19 +80,21 @@ fn edits() -> BTreeSet<String> {
 
 /// A table of definitions, file by file in reading order, and how many lines they have together.
 fn table(specs: &Specs, names: &BTreeSet<Name>) -> String {
-    let mut text = String::from("| File | Definitions | Lines |\n|---|---|---|\n");
-    let mut total = 0;
+    let mut text = String::from("| File | Definitions | Lines | Lines of lemmas beside them |\n|---|---|---|---|\n");
+    let (mut total, mut beside) = (0, 0);
     for path in crates().iter().flat_map(|c| reading_order(c)) {
         let Some(file) = specs.file(&path) else { continue };
         let here: Vec<&String> = file.order.iter().filter(|n| names.contains(&(path.clone(), n.to_string()))).collect();
         let lines: usize = here.iter().map(|n| file.items[*n].lines.len()).sum();
         if lines > 0 {
             let list: Vec<String> = here.iter().map(|n| format!("`{n}`")).collect();
-            text += &format!("| `{path}` | {} | {lines} |\n", list.join(", "));
+            let lemmas: usize = file.items.values().filter(|i| !i.is_definition).map(|i| i.lines.len()).sum();
+            text += &format!("| `{path}` | {} | {lines} | {lemmas} |\n", list.join(", "));
             total += lines;
+            beside += lemmas;
         }
     }
-    text + &format!("| together | | {total} |\n")
+    text + &format!("| together | | {total} | {beside} |\n")
 }
 
 fn main() {
