@@ -1,16 +1,18 @@
-// Both sides of each limit and refusal of docs/REFERENCE.md: what is refused and what is not, a line each.
+// Both sides of each limit and refusal of docs/REFERENCE.md: what is refused and what is not, a line each. The cases
+// that a line can hold come from standard input; long texts, buffers and words of a given length and damaged lists
+// stand here.
+mod cases;
 mod finding;
 mod marking;
 mod reading;
 mod say;
 
+use cases::each_case;
 use finding::match_list;
 use finding::match_named;
-use finding::match_shown;
 use finding::search_list;
 use finding::search_named;
-use finding::search_shown;
-use marking::marks_after;
+use libc::STDIN_FILENO;
 use marking::marks_in_one_word;
 use marking::marks_in_three_words;
 use marking::step_from_one;
@@ -20,24 +22,6 @@ use reading::list_shown;
 use reading::read_into_enough;
 use reading::read_into_too_few;
 use reading::read_named;
-use reading::read_shown;
-
-// P1 to P6, and the fault that is met first.
-fn faults() {
-    read_named(b"the empty expression", b"");
-    read_shown(b"a|");
-    read_shown(b"()");
-    read_shown(b"((a)");
-    read_shown(b"a)");
-    read_shown(b")");
-    read_shown(b"a\\b");
-    read_shown(b"(a\\b");
-}
-
-fn groups() {
-    read_shown(b"((((((((((((((((((((((((((((((((a))))))))))))))))))))))))))))))))");
-    read_shown(b"(((((((((((((((((((((((((((((((((a)))))))))))))))))))))))))))))))))");
-}
 
 fn letters() {
     let letters = [b'a'; 1025];
@@ -56,78 +40,6 @@ fn buffers() {
     read_into_too_few(b"897 letters into 14343 bytes", &letters);
 }
 
-// P7: the marks of one piece, step by step.
-fn one_piece() {
-    marks_after(b"a*b", b"", 1);
-    marks_after(b"a*b", b"a", 1);
-    marks_after(b"a*b", b"ab", 1);
-    marks_after(b"a*b", b"aba", 1);
-}
-
-// P8 to P10.
-fn small_texts() {
-    read_shown(b"ac|a*b");
-    match_shown(b"ac|a*b", b"ac");
-    match_shown(b"ac|a*b", b"b");
-    match_shown(b"ac|a*b", b"a");
-    search_shown(b"ab*", b"xabbab");
-    search_shown(b"a*", b"b");
-    search_named(b"b in the empty text", b"b", b"");
-}
-
-// A tree of three pieces under a star: the second round goes back through pieces that were already swept.
-fn rounds() {
-    read_shown(b"(abcdefgh(ijklmnop))*");
-    match_shown(b"(abcdefgh(ijklmnop))*", b"abcdefghijklmno");
-    match_shown(
-        b"(abcdefgh(ijklmnop))*",
-        b"abcdefghijklmnopabcdefghijklmnop",
-    );
-    match_shown(
-        b"(abcdefgh(ijklmnop))*",
-        b"abcdefghijklmnopabcdefghijklmnopabcdefghijklmnop",
-    );
-}
-
-// Stars in stars, with cut edges between them.
-fn stars() {
-    read_shown(b"((abcdefgh)*(ijklmnop)*)*");
-    match_named(
-        b"((abcdefgh)*(ijklmnop)*)* on the empty text",
-        b"((abcdefgh)*(ijklmnop)*)*",
-        b"",
-    );
-    match_shown(b"((abcdefgh)*(ijklmnop)*)*", b"ijklmnopabcdefgh");
-    match_shown(
-        b"((abcdefgh)*(ijklmnop)*)*",
-        b"ijklmnopijklmnopabcdefghabcdefghijklmnop",
-    );
-    match_shown(b"((abcdefgh)*(ijklmnop)*)*", b"ijklmnopabcdefgijklmnop");
-    read_shown(b"(((abcdefgh)*i)*(jklmnopq)*)*");
-    match_shown(
-        b"(((abcdefgh)*i)*(jklmnopq)*)*",
-        b"jklmnopqiabcdefghabcdefghi",
-    );
-    match_shown(b"(((abcdefgh)*i)*(jklmnopq)*)*", b"jklmnopqabcdefgh");
-    read_shown(b"(abcdefgh(ijklmnop(qrstuvwx)))*");
-    match_shown(
-        b"(abcdefgh(ijklmnop(qrstuvwx)))*",
-        b"abcdefghijklmnopqrstuvwxabcdefghijklmnopqrstuvwx",
-    );
-}
-
-// The tree of 16 times 8 letters: its root's piece has 15 nodes and 16 stand-ins, so 62 states.
-const FULL: [u8; 143] =
-    *b"aaaaaaaa|bbbbbbbb|cccccccc|dddddddd|eeeeeeee|ffffffff|gggggggg|hhhhhhhh|iiiiiiii|jjjjjjjj|kkkkkkkk|llllllll|mmmmmmmm|nnnnnnnn|oooooooo|pppppppp";
-
-fn full_piece() {
-    read_shown(&FULL);
-    marks_after(&FULL, b"", 1);
-    marks_after(&FULL, b"aaaaaaaa", 1);
-    marks_after(&FULL, b"pppppppp", 1);
-    marks_after(&FULL, b"ppppppp", 1);
-}
-
 // 128 pieces, each below the one before it.
 fn most_pieces() {
     let letters = [b'a'; 897];
@@ -135,14 +47,6 @@ fn most_pieces() {
     match_named(b"897 letters on 896", &letters, &text[..896]);
     match_named(b"897 letters on 897", &letters, &text[..897]);
     match_named(b"897 letters on 898", &letters, &text);
-}
-
-// A piece and one below it: the start, a step in the lower one, the way up, and the end.
-fn two_pieces() {
-    marks_after(b"abcdefghi", b"", 2);
-    marks_after(b"abcdefghi", b"a", 2);
-    marks_after(b"abcdefghi", b"abcdefgh", 2);
-    marks_after(b"abcdefghi", b"abcdefghi", 2);
 }
 
 // A word too few is refused, and a word too many is left as it was.
@@ -211,29 +115,13 @@ fn last_byte() {
     search_named(b"c in 65535 letters and c", b"c", &text);
 }
 
-// The earliest start and then the furthest end; an empty part, which is found at the start if anywhere.
-fn parts() {
-    search_shown(b"ab", b"abxabxab");
-    search_shown(b"a|bbb", b"abbb");
-    search_shown(b"a|abcd", b"xabcd");
-    search_shown(b"a|abcd", b"xabcx");
-    search_shown(b"b", b"aab");
-    search_shown(b"x*", b"ax");
-    search_named(b"x* in the empty text", b"x*", b"");
-}
-
 fn main() {
-    faults();
-    groups();
+    let mut input = io::large_buffer();
+    let n = io::read_full(STDIN_FILENO, &mut input);
+    each_case(&input[..n]);
     letters();
     buffers();
-    one_piece();
-    small_texts();
-    rounds();
-    stars();
-    full_piece();
     most_pieces();
-    two_pieces();
     counts_of_words();
     last_bits();
     shared_bits();
@@ -241,5 +129,4 @@ fn main() {
     other_piece();
     long_texts();
     last_byte();
-    parts();
 }

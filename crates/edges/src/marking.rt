@@ -5,14 +5,15 @@ use crate::say::say_refused;
 use crate::say::say_yes;
 use libc::STDOUT_FILENO;
 use marks::Answer;
+use marks::numbers::numbers_of;
 
 fn say_answer(answer: Answer) {
-    match answer {
-        Answer::Marked { accepting } => say_yes(accepting),
-        Answer::NotGood => say_refused(10, 0),
-        Answer::TooFewWords => say_refused(12, 0),
-        Answer::NotMarks => say_refused(13, 0),
+    let numbers = numbers_of(answer);
+    if numbers.refusal != 0 {
+        say_refused(numbers.refusal, numbers.place);
+        return;
     }
+    say_yes(numbers.accepting);
 }
 
 // One word, in decimal and in hex.
