@@ -21,7 +21,7 @@ use Rattle.marks.specs.Spots.{
   shift,
   enter,
   spot,
-  Held,
+  Set-at,
   holds-held,
   own-spot,
   widths,
@@ -87,7 +87,7 @@ spot-onto x zero b h l = let (q, o, e) = number-onto x b l in (q, own-has x q o,
 spot-onto x (suc o) b h l = under-onto x o b (omega arith) l
 
 -- the bit of that spot
-held-bit : (k b : ℕ) (words : List ℕ) → Held (at k b) words ↔ Bit (getD words k 0) b
+held-bit : (k b : ℕ) (words : List ℕ) → Set-at (at k b) words ↔ Bit (getD words k 0) b
 held-bit zero b words = (λ h. h, λ h. h)
 held-bit (suc o) b words = (λ h. h, λ h. h)
 

@@ -9,14 +9,14 @@ use Rattle.language.specs.Automaton.{State}
 use Rattle.language.specs.Nested.{Nested, Has}
 use Rattle.tables.specs.Words.{Bit, width, run, Holds}
 use Rattle.marks.specs.Bits.{bit-zero}
-use Rattle.marks.specs.Spots.{Spot, own, under, spot, Held, holds-held, Within, spot-within}
+use Rattle.marks.specs.Spots.{Spot, own, under, spot, Set-at, holds-held, Spot-within, spot-within}
 
 -- the first so many words are 0
 abbrev pub All-zero : ℕ → List ℕ → Type 0
 All-zero count words = (k : ℕ) → k < count → getD words k 0 ≡ 0
 
 -- no bit is set in words that are 0
-unlit : (s : Spot) (k m : ℕ) (words : List ℕ) → All-zero (1 + m) words → Within k m s → Held s words → ⊥
+unlit : (s : Spot) (k m : ℕ) (words : List ℕ) → All-zero (1 + m) words → Spot-within k m s → Set-at s words → ⊥
 unlit (own b) k m words zeros within held = bit-zero b (subst (λ (n : ℕ). Bit n b) (zeros 0 (omega arith)) held)
 unlit (under o b) k m words zeros within held =
     bit-zero b (subst (λ (n : ℕ). Bit n b) (zeros (suc o) (omega arith)) held)

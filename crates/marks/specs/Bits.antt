@@ -146,16 +146,16 @@ equal-bits v i w j = (
 )
 
 -- the answer of a test tells whether P holds
-pub record Told (P : Type 0) (answer : Bool) : Type 0 where
+pub record Tells (P : Type 0) (answer : Bool) : Type 0 where
   pub holds : answer ≡ true → P
   pub fails : answer ≡ false → P → ⊥
 
 -- the answer no, where P does not hold
-pub told-no : {P : Type 0} → (P → ⊥) → Told P false
+pub told-no : {P : Type 0} → (P → ⊥) → Tells P false
 told-no h = record { holds = λ e. absurd (let z : _≡_ {A = ℕ} 0 1 = cc in omega arith); fails = λ _. h }
 
 -- the answer yes, where P holds
-pub told-yes : {P : Type 0} → P → Told P true
+pub told-yes : {P : Type 0} → P → Tells P true
 told-yes p = record { holds = λ _. p; fails = λ e. absurd (let z : _≡_ {A = ℕ} 0 1 = cc in omega arith) }
 
 -- words whose meet is 0 have no bit in common

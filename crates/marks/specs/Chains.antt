@@ -20,7 +20,7 @@ use Rattle.marks.specs.Swept.{
   Apart,
   Narrow-below,
   tables,
-  Laid,
+  In-tables,
   Sweepable,
   Swept,
   Child,
@@ -33,7 +33,7 @@ use Rattle.marks.specs.Closing.{closes-again}
 use Rattle.marks.specs.Reclosing.{closed-nearly}
 use Rattle.marks.specs.Spots.{widths, Bounded, clean-words, below-power}
 use Rattle.marks.specs.Places.{
-  Seat,
+  Part-seat,
   seat-in,
   place-whole,
   catenation-left,
@@ -52,7 +52,7 @@ use Rattle.marks.specs.Settling.{
   settled-words,
 }
 
-module _ (x : Nested Leaf) (c : Child) (n : ℕ) (seat : Seat x (below (c .tree)) (c .stand) n) (from : c .from ≡ suc n)
+module _ (x : Nested Leaf) (c : Child) (n : ℕ) (seat : Part-seat x (below (c .tree)) (c .stand) n) (from : c .from ≡ suc n)
   where
     -- the widths of the child piece and of those below it, among the parent's
     seat-widths : (o : ℕ) → o < 1 + run (c .tree) → getD (widths x) (n + o) 0
@@ -156,18 +156,18 @@ gone-further {before} {after} {settled' = settled'} {at = at} further on c gone 
 module _ (reach runs stands tops : List ℕ) where
   -- the child piece c of x, whose top piece is the piece k of the tables, is where its numbers say, and its run is
   -- closed piece by piece
-  pub record Standing (begun : List ℕ) (x : Nested Leaf) (k : ℕ) (c : Child) : Type 0 where
+  pub record Child-stands (begun : List ℕ) (x : Nested Leaf) (k : ℕ) (c : Child) : Type 0 where
     pub place : ℕ
     pub placed : c .from ≡ suc place
-    pub seat : Seat x (below (c .tree)) (c .stand) place
+    pub seat : Part-seat x (below (c .tree)) (c .stand) place
     pub stood : getD stands (k + c .from) 0 ≡ c .stand
-    pub laid : Laid reach runs stands tops (c .tree) (k + c .from)
+    pub laid : In-tables reach runs stands tops (c .tree) (k + c .from)
     pub closed : Each-closed (c .tree) (part c begun)
 
   -- the child pieces stand one after the other, the first at `at`, and the last ends at `end`
   abbrev pub Lined-up : List ℕ → Nested Leaf → ℕ → List Child → ℕ → ℕ → Type 0
   Lined-up begun x k [] at end = at ≡ end
-  Lined-up begun x k (c ∷ cs) at end = (c .from ≡ at) × Standing begun x k c
+  Lined-up begun x k (c ∷ cs) at end = (c .from ≡ at) × Child-stands begun x k c
       × Lined-up begun x k cs (at + (1 + run (c .tree))) end
 
   chain-append : (begun : List ℕ) (x : Nested Leaf) (k : ℕ) (cs ds : List Child) (at between end : ℕ)
@@ -184,7 +184,7 @@ module _ (reach runs stands tops : List ℕ) where
       omega (arith, chain-length begun x k cs (at + (1 + run (c .tree))) end rest)
 
   -- the child pieces below a part of the piece
-  chain-of : (begun : List ℕ) (whole x : Nested Leaf) (k i n f new end : ℕ) (labels : List ℕ) → Seat whole x i n
+  chain-of : (begun : List ℕ) (whole x : Nested Leaf) (k i n f new end : ℕ) (labels : List ℕ) → Part-seat whole x i n
       → f ≡ suc n → new ≡ k + f → end ≡ f + run x
       → Children-at (tables labels runs stands tops) x i new → Each-below Reaches reach x new → Narrow-below x
       → Each-closed-below x (drop f begun) → Lined-up begun whole k (children-of x i f) f end
@@ -215,7 +215,7 @@ module _ (reach runs stands tops : List ℕ) where
   chain-of begun whole (below x) k i n f new end labels seat from number ends at reaches narrow closed =
       (refl, standing, omega arith)
     where
-      laid : Laid reach runs stands tops x new
+      laid : In-tables reach runs stands tops x new
       laid = record {
         labels = labels;
         piece = at .1;
@@ -227,13 +227,13 @@ module _ (reach runs stands tops : List ℕ) where
         narrow-below = narrow .1;
       }
 
-      standing : Standing begun whole k (record { stand = i; from = f; tree = x })
+      standing : Child-stands begun whole k (record { stand = i; from = f; tree = x })
       standing = record {
         place = n;
         placed = from;
         seat = seat;
         stood = subst (λ (m : ℕ). getD stands m 0 ≡ i) number (at .0);
-        laid = subst (Laid reach runs stands tops x) number laid;
+        laid = subst (In-tables reach runs stands tops x) number laid;
         closed = closed-same x (drop f begun) (part (record { stand = i; from = f; tree = x }) begun)
             (λ o l. getD-drop f begun o 0 ∙ sym (part-at (record { stand = i; from = f; tree = x }) begun o l)) closed;
       }
@@ -245,7 +245,7 @@ module _ (reach runs stands tops : List ℕ) where
     pub after-own : 0 < at
     pub stood : getD stands (k + at) 0 ≡ c .stand
     pub inside : c .stand + 1 < width x
-    pub laid : Laid reach runs stands tops (c .tree) (k + at)
+    pub laid : In-tables reach runs stands tops (c .tree) (k + at)
     pub room : at + (1 + run (c .tree)) ≤ length words
     pub reaches : Reaches x (row reach k (width x))
     pub narrow : width x ≤ 62
@@ -311,7 +311,7 @@ module _ (reach runs stands tops : List ℕ) where
             after-own = omega (arith, standing .placed);
             stood = subst (λ (a : ℕ). getD stands (k + a) 0 ≡ c .stand) here (standing .stood);
             inside = omega (arith, standing .seat .wide);
-            laid = subst (λ (a : ℕ). Laid reach runs stands tops (c .tree) (k + a)) here (standing .laid);
+            laid = subst (λ (a : ℕ). In-tables reach runs stands tops (c .tree) (k + a)) here (standing .laid);
             room = chain-length begun x k cs (at + (1 + run (c .tree))) (length words) rest;
             reaches = sweepable .laid .reaches;
             narrow = sweepable .laid .narrow;

@@ -17,7 +17,7 @@ use Rattle.tree.specs.Leaf.{Leaf}
 use Rattle.tables.specs.Words.{Bit, width, run, number, Clean-below, Clean, Agreeing}
 use Rattle.tables.specs.Plan.{Pieces, Piece-at, Children-at, Planned}
 use Rattle.marks.specs.Numbers.{width-two, number-accepting}
-use Rattle.marks.specs.Bits.{Told}
+use Rattle.marks.specs.Bits.{Tells}
 use Rattle.marks.specs.Parents.{Parent, parent-unique, Every-child, hanging-child, every-of-all, all-of-every}
 use Rattle.marks.specs.Agreed.{Pairs, agreeing-pairs}
 
@@ -43,8 +43,8 @@ pub record All-agree (runs stands tops words : List ℕ) (n : ℕ) : Type 0 wher
 
 -- the test of the one piece that a child piece hangs below tells it
 pub told-child : {runs stands tops words : List ℕ} {c k : ℕ} {answer : Bool} → Parent runs c k
-    → Told (Agrees-at stands tops words k c) answer
-    → Told (Child-agrees runs stands tops words c) answer
+    → Tells (Agrees-at stands tops words k c) answer
+    → Tells (Child-agrees runs stands tops words c) answer
 told-child {runs} {stands} {tops} {words} {c} p told = record {
   holds = λ e.
       record { agrees = λ l q. subst (λ (n : ℕ). Agrees-at stands tops words n c) (parent-unique p q) (told .holds e) };
@@ -186,10 +186,10 @@ children-more {runs} {stands} {tops} {words} {n} h k c l m = elim (ℕ-discrete 
 
 -- the answer for the words by the tables is the answer for the marks
 pub told-all : {runs stands tops words : List ℕ} {n : ℕ} {answer : Bool}
-    → Told (All-agree runs stands tops words n) answer
+    → Tells (All-agree runs stands tops words n) answer
     → (tables : Pieces) (x : Nested Leaf) → tables .runs ≡ runs → tables .stands ≡ stands → tables .tops ≡ tops
     → Planned tables x → 1 + run x ≡ n
-    → Told (Clean x words × Agreeing x words) answer
+    → Tells (Clean x words × Agreeing x words) answer
 told-all {runs} {stands} {tops} {words} {n} {answer} told tables x e f g at size = record {
   holds = λ a. same .0 (told .holds a);
   fails = λ a h. told .fails a (same .1 h);

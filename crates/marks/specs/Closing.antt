@@ -13,13 +13,13 @@ use Rattle.tables.specs.Words.{Bit, width, number}
 use Rattle.tables.specs.Plan.{row, Reaches, Closes}
 use Rattle.marks.specs.Bits.{bit-zero, bit-below, below-of-bits}
 use Rattle.marks.specs.Rows.{row-at}
-use Rattle.marks.specs.Joining.{Joined}
+use Rattle.marks.specs.Joining.{Rows-joined}
 use Rattle.marks.specs.Numbers.{number-below, number-onto}
 
 -- joining the rows of the states in w closes it: a path from one of them is a bit of its row
 pub closed-by-joining : (reach : List ℕ) (piece w rest r : ℕ) (x : Nested Leaf) → Reaches x (row reach piece (width x))
     → w < 2 ^ width x
-    → rest ≡ 0 → Joined reach (64 * piece) w rest r → Closes x w r
+    → rest ≡ 0 → Rows-joined reach (64 * piece) w rest r → Closes x w r
 closed-by-joining reach piece w rest r x reaches small nothing joined = record {
   exactly = λ q o. (
     λ b. let (i, c, _, at) = joined .exactly (number x q) .0 b in

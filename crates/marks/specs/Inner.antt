@@ -23,11 +23,11 @@ use Rattle.tree.specs.Nesting.{every-below}
 use Rattle.tree.specs.Pieces.{cut-up, stated}
 use Rattle.tables.specs.Words.{Bit, width, run, Holds, Clean, Agreeing, Set-of}
 use Rattle.tables.specs.Plan.{Pieces, Planned}
-use Rattle.marks.specs.Bits.{Told}
+use Rattle.marks.specs.Bits.{Tells}
 use Rattle.tables.specs.Tables.{Prepared, Roomy, Ready, Holding, Answered}
 use Rattle.marks.specs.Promise.{Hold, Marks-of}
 use Rattle.marks.specs.EachClosed.{Each-closed-below}
-use Rattle.marks.specs.Swept.{Nearly-closed, Quiet, Narrow-below, Laid}
+use Rattle.marks.specs.Swept.{Nearly-closed, Quiet, Narrow-below, In-tables}
 use Rattle.marks.specs.Reclosing.{closed-nearly}
 use Rattle.tables.specs.Given
 use Rattle.tables.specs.Given.{small-narrow}
@@ -60,7 +60,7 @@ use Rattle.marks.specs.Texts.{all-words, holding-first, holding-next, ac
 use Rattle.marks.specs.Visiting.{accepting-holds}
 
 -- a test that tells a fact passes exactly when the fact holds
-told-exactly : {P : Type 0} (answer : Bool) → Told P answer → (answer ≡ true) ↔ P
+told-exactly : {P : Type 0} (answer : Bool) → Tells P answer → (answer ≡ true) ↔ P
 told-exactly true told = (told .holds, λ p. refl)
 told-exactly false told = (told .holds, λ p. absurd (told .fails refl p))
 
@@ -123,7 +123,7 @@ running ready long clean =
 module _ {t : Tree Leaf} {reach labels runs stands tops : List ℕ} {count : ℕ}
     (prepared : Prepared t reach labels runs stands tops count) where
   -- the tables speak of every piece
-  pub prepared-laid : Laid reach runs stands tops (cut-up t) 0
+  pub prepared-laid : In-tables reach runs stands tops (cut-up t) 0
   prepared-laid = laid-whole reach labels runs stands tops (cut-up t) (prepared .planned) (prepared .reached) (narrow t)
       (all-narrow t)
 
@@ -168,7 +168,7 @@ module _ {t : Tree Leaf} {reach labels runs stands tops : List ℕ} {count : ℕ
 
   -- the bit of the last state of the top piece tells whether the accepting state is marked
   pub answer-told : (words : List ℕ) (X : States) (yes' : Bool) → Models (cut-up t) (Holds (cut-up t) words) X
-      → Told (Bit (getD words 0 0) (getD tops 0 0)) yes' → (yes' ≡ true) ↔ X accepting
+      → Tells (Bit (getD words 0 0) (getD tops 0 0)) yes' → (yes' ≡ true) ↔ X accepting
   answer-told words X yes' models told =
       Iff·trans (told-exactly yes' told)
       (Iff·trans (same-bit (prepared .planned .0 .topped)) (accepting-bit (cut-up t) words X models))
@@ -189,8 +189,8 @@ module _ {t : Tree Leaf} {reach labels runs stands tops : List ℕ} {count : ℕ
   -- and what the test tells
   pub prepared-told : (words : List ℕ) {answer : Bool}
       → ((tables : Pieces) (x : Nested Leaf) → tables .runs ≡ runs → tables .stands ≡ stands → tables .tops ≡ tops
-      → Planned tables x → 1 + run x ≡ count → Told (Clean x words × Agreeing x words) answer)
-      → Told (Clean (cut-up t) words × Agreeing (cut-up t) words) answer
+      → Planned tables x → 1 + run x ≡ count → Tells (Clean x words × Agreeing x words) answer)
+      → Tells (Clean (cut-up t) words × Agreeing (cut-up t) words) answer
   prepared-told words tells = tells (record { labels = labels; runs = runs; stands = stands; tops = tops }) (cut-up t)
       refl refl refl (prepared .planned) (sym prepared-count)
 
@@ -198,7 +198,7 @@ module _ {t : Tree Leaf} {reach labels runs stands tops : List ℕ} {count : ℕ
   pub begun : (marked closed lent after : List ℕ) (yes' : Bool) → Start-marked (cut-up t) marked
       → Closed-twice reach runs stands tops count marked closed
       → count ≤ length closed → count ≤ length lent → after ≡ take count closed ++ drop count lent
-      → Told (Bit (getD after 0 0) (getD tops 0 0)) yes' → Begun t lent after yes'
+      → Tells (Bit (getD after 0 0) (getD tops 0 0)) yes' → Begun t lent after yes'
   begun marked closed lent after yes' starts twice enough room put told =
       let x = cut-up t in
       let on = prepared-run (start-clean x marked starts) (start-nearly x marked starts)
@@ -239,7 +239,7 @@ module _ {t : Tree Leaf} {reach labels runs stands tops : List ℕ} {count : ℕ
   -- from words moved along the byte, and closed twice
   pub advanced : (byte : ℕ) (before moved after : List ℕ) (yes' : Bool) → Marks-of t before
       → Moved-closed reach labels before moved byte count → Closed-twice reach runs stands tops count moved after
-      → length after ≡ length moved → Told (Bit (getD after 0 0) (getD tops 0 0)) yes'
+      → length after ≡ length moved → Tells (Bit (getD after 0 0) (getD tops 0 0)) yes'
       → Advanced t byte before after yes'
   advanced byte before moved after yes' marks went twice long told =
       let x = cut-up t in

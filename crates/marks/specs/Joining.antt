@@ -12,21 +12,21 @@ use Rattle.marks.specs.Bits.{bit-zero, bit-or}
 use Rattle.marks.specs.LowestBit.{Lowest}
 
 -- of the words of the table from base on, those numbered by the bits of w that are no longer in rest are joined in r
-pub record Joined (table : List ℕ) (base w rest r : ℕ) : Type 0 where
+pub record Rows-joined (table : List ℕ) (base w rest r : ℕ) : Type 0 where
   pub among : (i : ℕ) → Bit rest i → Bit w i
   pub exactly : (j : ℕ) → Bit r j ↔ ((i : ℕ) × Bit w i × (Bit rest i → ⊥) × Bit (getD table (base + i) 0) j)
 
 -- at first none are
-pub joined-none : (table : List ℕ) (base w : ℕ) → Joined table base w w 0
+pub joined-none : (table : List ℕ) (base w : ℕ) → Rows-joined table base w w 0
 joined-none table base w =
     record { among = λ i b. b; exactly = λ j. (λ b. absurd (bit-zero j b), λ (i, b, gone, _). absurd (gone b)) }
 
 -- the word of the lowest bit that is left is joined
-pub joined-more : {table : List ℕ} {base w rest rest′ r r′ s : ℕ} → Joined table base w rest r → Lowest rest s
+pub joined-more : {table : List ℕ} {base w rest rest′ r r′ s : ℕ} → Rows-joined table base w rest r → Lowest rest s
     → r′ ≡ bitOr r (getD table (base + s) 0)
-    → rest′ ≡ bitAnd rest (rest - 1) → Joined table base w rest′ r′
+    → rest′ ≡ bitAnd rest (rest - 1) → Rows-joined table base w rest′ r′
 joined-more {table} {base} {w} {rest} {r = r} {s = s} so-far lowest joins takes =
-    subst₂ (λ (m v : ℕ). Joined table base w m v) (sym takes) (sym joins) record {
+    subst₂ (λ (m v : ℕ). Rows-joined table base w m v) (sym takes) (sym joins) record {
       among = λ i b. so-far .among i (lowest .left i .0 b .0);
       exactly = λ j. (
         λ c. ⊎-elim

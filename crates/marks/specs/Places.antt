@@ -10,11 +10,11 @@ use lib.ListN.{getD}
 use Rattle.language.specs.Automaton.{State, start, accepting, left, right}
 use Rattle.language.specs.Nested.{Nested, catenation, union, star, Has}
 use Rattle.tables.specs.Words.{width, run}
-use Rattle.marks.specs.Spots.{Spot, own, under, shift, spot, Within, spot-within, widths, getD-left, getD-right}
+use Rattle.marks.specs.Spots.{Spot, own, under, shift, spot, Spot-within, spot-within, widths, getD-left, getD-right}
 
 -- the states of x are numbered from i in the own word of whole, and the words of the child pieces below x stand from n
 -- among those below whole
-pub record Seat {A : Type 0} (whole x : Nested A) (i n : ℕ) : Type 0 where
+pub record Part-seat {A : Type 0} (whole x : Nested A) (i n : ℕ) : Type 0 where
   pub wide : i + width x ≤ width whole
   pub long : n + run x ≤ run whole
   pub same-widths : (o : ℕ) → o < run x → getD (widths whole) (n + o) 0 ≡ getD (widths x) o 0
@@ -27,14 +27,14 @@ Outside i k n m (under o b) = (o < n) ⊎ (n + m ≤ o)
 -- x stands at e in whole: the states of whole are those of x, at the spots of its seat, and states whose spots are
 -- outside
 pub record Placed {A : Type 0} (whole x : Nested A) (e : State → State) (i n : ℕ) : Type 0 where
-  pub seat : Seat whole x i n
+  pub seat : Part-seat whole x i n
   pub has : (q : State) → Has whole (e q) ↔ Has x q
   pub spots : (q : State) → Has x q → spot whole (e q) ≡ shift i n (spot x q)
   pub apart : (q : State) → Has whole q → ((p : State) × (q ≡ e p)) ⊎ Outside i (width x) n (run x) (spot whole q)
 
 -- a seat in a seat
-pub seat-in : {A : Type 0} {whole x y : Nested A} {i n j m : ℕ} (i' n' : ℕ) → i' ≡ i + j → n' ≡ n + m → Seat whole x i n
-    → Seat x y j m → Seat whole y i' n'
+pub seat-in : {A : Type 0} {whole x y : Nested A} {i n j m : ℕ} (i' n' : ℕ) → i' ≡ i + j → n' ≡ n + m → Part-seat whole x i n
+    → Part-seat x y j m → Part-seat whole y i' n'
 seat-in {whole = whole} {y = y} {i = i} {n = n} {j = j} {m = m} i' n' e f outer inner = record {
   wide = omega (arith, outer .wide, inner .wide);
   long = omega (arith, outer .long, inner .long);
@@ -99,7 +99,7 @@ place-whole x = record {
     shift-none (own b) = ap own (omega arith)
     shift-none (under o b) = ap (λ (k : ℕ). under k b) (omega arith)
 
-before : (s : Spot) (i k n l i' k' n' l' : ℕ) → i + k ≤ i' → n + l ≤ n' → Within k l s
+before : (s : Spot) (i k n l i' k' n' l' : ℕ) → i + k ≤ i' → n + l ≤ n' → Spot-within k l s
     → Outside i' k' n' l' (shift i n s)
 before (own b) i k n l i' k' n' l' e f h = inl (omega arith)
 before (under o b) i k n l i' k' n' l' e f h = inl (omega arith)

@@ -19,17 +19,17 @@ use Rattle.tables.specs.Plan.{Planned, Each, Reaches}
 use Rattle.marks.specs.Numbers.{width-two, number-injective}
 use Rattle.marks.specs.Bits.{bit-zero, bit-power}
 use Rattle.marks.specs.EachClosed.{Each-closed-below, zeros-closed}
-use Rattle.marks.specs.Swept.{Nearly-closed, Narrow-below, tables, Laid}
+use Rattle.marks.specs.Swept.{Nearly-closed, Narrow-below, tables, In-tables}
 use Rattle.marks.specs.Spots.{
   Spot,
   own,
   under,
   spot,
-  Held,
+  Set-at,
   holds-held,
-  Within,
+  Spot-within,
   spot-within,
-  First,
+  In-first-word,
   first-start,
   Bounded,
   clean-words,
@@ -42,7 +42,7 @@ use Rattle.marks.specs.Twice.{Run-of, Closed-twice}
 -- the tables speak of all pieces of x, from piece 0 on
 pub laid-whole : (reach labels runs stands tops : List ℕ) (x : Nested Leaf) → Planned (tables labels runs stands tops) x
     → Each Reaches reach x
-    → width x ≤ 62 → Narrow-below x → Laid reach runs stands tops x 0
+    → width x ≤ 62 → Narrow-below x → In-tables reach runs stands tops x 0
 laid-whole reach labels runs stands tops x planned reached narrow narrow-below = record {
   labels = labels;
   piece = planned .0;
@@ -59,7 +59,7 @@ pub record Start-marked (x : Nested Leaf) (words : List ℕ) : Type 0 where
   pub others : (o : ℕ) → o < run x → getD words (suc o) 0 ≡ 0
 
 module _ (x : Nested Leaf) (words : List ℕ) (marked : Start-marked x words) where
-  first-held : (s : Spot) → Within (width x) (run x) s → Held s words ↔ First s
+  first-held : (s : Spot) → Spot-within (width x) (run x) s → Set-at s words ↔ In-first-word s
   first-held (own b) l = (
     λ h. bit-power 0 b .0 (subst (λ (w : ℕ). Bit w b) (marked .first) h),
     λ h. subst (λ (w : ℕ). Bit w b) (sym (marked .first)) (bit-power 0 b .1 h),
@@ -72,7 +72,7 @@ module _ (x : Nested Leaf) (words : List ℕ) (marked : Start-marked x words) wh
       Iff·trans (holds-held x words q h)
       (Iff·trans (first-held (spot x q) (spot-within x q h)) (
         first-start x q h,
-        λ e. subst (λ (p : State). First (spot x p)) (sym e) refl,
+        λ e. subst (λ (p : State). In-first-word (spot x p)) (sym e) refl,
       ))
 
   -- and no bit past a last state

@@ -54,9 +54,9 @@ Lit (own b) w i ws = Bit w (i + b)
 Lit (under o b) w i ws = Bit (getD ws o 0) b
 
 -- the bit of a spot is set in the words of a run
-abbrev pub Held : Spot → List ℕ → Type 0
-Held (own b) words = Bit (getD words 0 0) b
-Held (under o b) words = Bit (getD words (suc o) 0) b
+abbrev pub Set-at : Spot → List ℕ → Type 0
+Set-at (own b) words = Bit (getD words 0 0) b
+Set-at (under o b) words = Bit (getD words (suc o) 0) b
 
 abbrev pub iff-either : {A B C D : Type 0} → A ↔ B → C ↔ D → (A ⊎ C) ↔ (B ⊎ D)
 iff-either f g = (⊎-elim (λ h. inl (f .0 h)) (λ h. inr (g .0 h)), ⊎-elim (λ h. inl (f .1 h)) (λ h. inr (g .1 h)))
@@ -68,8 +68,8 @@ pub bit-of : {v w : ℕ} (i : ℕ) → v ≡ w → Bit v i ↔ Bit w i
 bit-of i e = (subst (λ (n : ℕ). Bit n i) e, subst (λ (n : ℕ). Bit n i) (sym e))
 
 -- the same spot
-pub held-at : (words : List ℕ) {s t : Spot} → s ≡ t → Held s words ↔ Held t words
-held-at words e = (subst (λ (s : Spot). Held s words) e, subst (λ (s : Spot). Held s words) (sym e))
+pub held-at : (words : List ℕ) {s t : Spot} → s ≡ t → Set-at s words ↔ Set-at t words
+held-at words e = (subst (λ (s : Spot). Set-at s words) e, subst (λ (s : Spot). Set-at s words) (sym e))
 
 lit-shift : (s : Spot) (w i j n : ℕ) (ws : List ℕ) → Lit s w (i + j) (drop n ws) ↔ Lit (shift j n s) w i ws
 lit-shift (own b) w i j n ws = bit-at w (add-assoc i j b)
@@ -109,30 +109,30 @@ marked-lit (below x) w i ws (left q) h =
     Iff·trans (marked-lit x (getD ws 0 0) 0 (drop 1 ws) q h) (lit-enter (spot x q) w i ws)
 marked-lit (below x) w i ws (right q) h = absurd h
 
-lit-held : (s : Spot) (words : List ℕ) → Lit s (getD words 0 0) 0 (drop 1 words) ↔ Held s words
+lit-held : (s : Spot) (words : List ℕ) → Lit s (getD words 0 0) 0 (drop 1 words) ↔ Set-at s words
 lit-held (own b) words = bit-at (getD words 0 0) (zero-add b)
 lit-held (under o b) words = bit-of b (getD-drop 1 words o 0 ∙ ap (λ (k : ℕ). getD words k 0) (omega arith))
 
 -- the words of a run hold a state exactly when the bit of its spot is set
 pub holds-held : {A : Type 0} (x : Nested A) (words : List ℕ) (q : State) → Has x q
-    → Holds x words q ↔ Held (spot x q) words
+    → Holds x words q ↔ Set-at (spot x q) words
 holds-held x words q h = Iff·trans (marked-lit x (getD words 0 0) 0 (drop 1 words) q h) (lit-held (spot x q) words)
 
 -- a spot within so many bits and so many words below
-abbrev pub Within : ℕ → ℕ → Spot → Type 0
-Within k m (own b) = b < k
-Within k m (under o b) = o < m
+abbrev pub Spot-within : ℕ → ℕ → Spot → Type 0
+Spot-within k m (own b) = b < k
+Spot-within k m (under o b) = o < m
 
-within-shift : (s : Spot) (i n k m k' m' : ℕ) → i + k ≤ k' → n + m ≤ m' → Within k m s → Within k' m' (shift i n s)
+within-shift : (s : Spot) (i n k m k' m' : ℕ) → i + k ≤ k' → n + m ≤ m' → Spot-within k m s → Spot-within k' m' (shift i n s)
 within-shift (own b) i n k m k' m' e f h = omega arith
 within-shift (under o b) i n k m k' m' e f h = omega arith
 
-within-enter : (s : Spot) (k m k' : ℕ) → Within k m s → Within k' (1 + m) (enter s)
+within-enter : (s : Spot) (k m k' : ℕ) → Spot-within k m s → Spot-within k' (1 + m) (enter s)
 within-enter (own b) k m k' h = omega arith
 within-enter (under o b) k m k' h = omega arith
 
 -- each state's spot is within the piece's states and the words below it
-pub spot-within : {A : Type 0} (x : Nested A) (q : State) → Has x q → Within (width x) (run x) (spot x q)
+pub spot-within : {A : Type 0} (x : Nested A) (q : State) → Has x q → Spot-within (width x) (run x) (spot x q)
 spot-within (leaf a) start h = omega arith
 spot-within (leaf a) accepting h = omega arith
 spot-within (leaf a) (left q) h = absurd h
@@ -213,20 +213,20 @@ own-or-under (below x) (left q) h = inr (under-enter (spot x q))
 own-or-under (below x) (right q) h = absurd h
 
 -- the spot of the start
-abbrev pub First : Spot → Type 0
-First (own b) = b ≡ 0
-First (under o b) = ⊥
+abbrev pub In-first-word : Spot → Type 0
+In-first-word (own b) = b ≡ 0
+In-first-word (under o b) = ⊥
 
-not-first : (s : Spot) (i n : ℕ) → First (shift (1 + i) n s) → ⊥
+not-first : (s : Spot) (i n : ℕ) → In-first-word (shift (1 + i) n s) → ⊥
 not-first (own b) i n h = omega arith
 not-first (under o b) i n h = h
 
-under-not-first : (s : Spot) → First (enter s) → ⊥
+under-not-first : (s : Spot) → In-first-word (enter s) → ⊥
 under-not-first (own b) h = h
 under-not-first (under o b) h = h
 
 -- no other state has the start's spot
-pub first-start : {A : Type 0} (x : Nested A) (q : State) → Has x q → First (spot x q) → q ≡ start
+pub first-start : {A : Type 0} (x : Nested A) (q : State) → Has x q → In-first-word (spot x q) → q ≡ start
 first-start x start h e = refl
 first-start (leaf a) accepting h e = absurd (omega arith)
 first-start (catenation x y) accepting h e = absurd (omega arith)

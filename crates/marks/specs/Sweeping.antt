@@ -35,8 +35,8 @@ use Rattle.marks.specs.Swept.{
   At-rest,
   Quiet,
   Sweepable,
-  Sized,
-  Ready,
+  Tables-sized,
+  Sweep-ready,
   Swept,
   Child,
   part,
@@ -170,9 +170,9 @@ module _ (reach runs stands tops : List ℕ) (k at : ℕ) (words : List ℕ) whe
     pub lent-shorter : length (take (next-run - at) (drop at (set words at given))) < length words
     lent-shorter = omega (arith, lent-length, can .room, can .after-own)
 
-    pub lent-ready : (from to : ℕ) → Sized reach runs stands tops k words
+    pub lent-ready : (from to : ℕ) → Tables-sized reach runs stands tops k words
         → ((o : ℕ) → at ≤ o → o < length words → (k + o < from) ⊎ (to ≤ k + o) → getD words o 0 ≡ 0)
-        → Ready reach runs stands tops (k + at) from to (take (next-run - at) (drop at (set words at given)))
+        → Sweep-ready reach runs stands tops (k + at) from to (take (next-run - at) (drop at (set words at given)))
     lent-ready from to sized ahead = record {
       sized = record {
         reach-sized = sized .reach-sized;
@@ -277,7 +277,7 @@ still-settled lost kept came e =
 
 -- there is room for the child piece whose run begins at `at`, in the tables and in the words, and its numbers are those
 -- of bits
-pub record Room (reach runs stands tops : List ℕ) (k at : ℕ) (words : List ℕ) : Type 0 where
+pub record Sweep-room (reach runs stands tops : List ℕ) (k at : ℕ) (words : List ℕ) : Type 0 where
   pub own-before : 0 < at
   pub child-counted : 0 < getD runs (k + at) 0
   pub child-within : at + getD runs (k + at) 0 ≤ length words
@@ -378,7 +378,7 @@ module _ (reach runs stands tops : List ℕ) (k : ℕ) where
     -- there is room for the child piece, in the tables and in the words
     pub room-for : (x : Nested Leaf) → Sweepable reach runs stands tops x k begun
         → Closes x (getD begun 0 0) (getD begun 0 0)
-        → Sized reach runs stands tops k words → Room reach runs stands tops k at words
+        → Tables-sized reach runs stands tops k words → Sweep-room reach runs stands tops k at words
     room-for x can closed sized = let w = waits x can closed in record {
       own-before = w .visitable .after-own;
       child-counted = omega (arith, w .visitable .laid .piece .ran);
@@ -436,8 +436,8 @@ module _ (reach runs stands tops : List ℕ) (k : ℕ) where
           (λ i b. absurd (bit-zero i (subst (λ (w : ℕ). Bit w i) unmarked b)))
 
   -- the tables have room for words as many as before
-  pub sized-same : (before after : List ℕ) → length after ≡ length before → Sized reach runs stands tops k before
-      → Sized reach runs stands tops k after
+  pub sized-same : (before after : List ℕ) → length after ≡ length before → Tables-sized reach runs stands tops k before
+      → Tables-sized reach runs stands tops k after
   sized-same before after same sized = record {
     reach-sized = sized .reach-sized;
     runs-sized = sized .runs-sized;

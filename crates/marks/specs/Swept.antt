@@ -54,7 +54,7 @@ tables labels runs stands tops = record { labels = labels; runs = runs; stands =
 module _ (reach runs stands tops : List ℕ) where
   -- the tables speak of the piece k, which is the top piece of x, and of each piece below it; each has at most 62
   -- states
-  pub record Laid (x : Nested Leaf) (k : ℕ) : Type 0 where
+  pub record In-tables (x : Nested Leaf) (k : ℕ) : Type 0 where
     pub labels : List ℕ
     pub piece : Piece-at (tables labels runs stands tops) x k
     pub children : Children-at (tables labels runs stands tops) x 0 (k + 1)
@@ -67,14 +67,14 @@ module _ (reach runs stands tops : List ℕ) where
   -- and each piece is
   -- closed in itself but for the first, whose start may have been marked since
   pub record Sweepable (x : Nested Leaf) (k : ℕ) (words : List ℕ) : Type 0 where
-    pub laid : Laid x k
+    pub laid : In-tables x k
     pub whole-run : length words ≡ 1 + run x
     pub clean : Clean x words
     pub nearly : Nearly-closed x start (getD words 0 0)
     pub closed-below : Each-closed-below x (drop 1 words)
 
   -- the tables have room for the pieces from k on, one for each word
-  pub record Sized (k : ℕ) (words : List ℕ) : Type 0 where
+  pub record Tables-sized (k : ℕ) (words : List ℕ) : Type 0 where
     pub reach-sized : length reach ≡ 8192
     pub runs-sized : length runs ≡ 128
     pub stands-sized : length stands ≡ 128
@@ -82,8 +82,8 @@ module _ (reach runs stands tops : List ℕ) where
     pub within : k + length words ≤ 128
 
   -- there are pieces that the words are the run of, and marks below the first only from `from` up to `to`
-  pub record Ready (k from to : ℕ) (words : List ℕ) : Type 0 where
-    pub sized : Sized k words
+  pub record Sweep-ready (k from to : ℕ) (words : List ℕ) : Type 0 where
+    pub sized : Tables-sized k words
     pub tree : Nested Leaf
     pub sweepable : Sweepable tree k words
     pub quiet : Quiet k from to words

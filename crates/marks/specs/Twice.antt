@@ -15,7 +15,7 @@ use Rattle.language.specs.Unmoved.{settled-agree, sweep-settled}
 use Rattle.tree.specs.Leaf.{Leaf, meaning}
 use Rattle.tables.specs.Words.{width, run, Holds, Clean}
 use Rattle.marks.specs.EachClosed.{Each-closed-below, closed-below-same, closed-same}
-use Rattle.marks.specs.Swept.{Nearly-closed, Quiet, Laid, Sweepable, Sized, Ready, Swept}
+use Rattle.marks.specs.Swept.{Nearly-closed, Quiet, In-tables, Sweepable, Tables-sized, Sweep-ready, Swept}
 use Rattle.marks.specs.Reclosing.{closed-nearly}
 use Rattle.marks.specs.Sweeping.{sized-same}
 use Rattle.marks.specs.Spots.{
@@ -23,9 +23,9 @@ use Rattle.marks.specs.Spots.{
   own,
   under,
   spot,
-  Held,
+  Set-at,
   holds-held,
-  Within,
+  Spot-within,
   spot-within,
   clean-words,
   below-power,
@@ -33,7 +33,7 @@ use Rattle.marks.specs.Spots.{
 }
 
 -- the first words hold what the words hold, where there is one for each piece
-front-held : (s : Spot) (k m n : ℕ) (words : List ℕ) → n ≡ 1 + m → Within k m s → Held s (take n words) ↔ Held s words
+front-held : (s : Spot) (k m n : ℕ) (words : List ℕ) → n ≡ 1 + m → Spot-within k m s → Set-at s (take n words) ↔ Set-at s words
 front-held (own b) k m n words e l = bit-of b (getD-take n words 0 0 (omega arith))
 front-held (under o b) k m n words e l = bit-of b (getD-take n words (suc o) 0 (omega arith))
 
@@ -57,7 +57,7 @@ module _ (reach runs stands tops : List ℕ) (count : ℕ) where
   -- the first words, one for each piece, hold marks of the tree that the tables speak of; each piece is closed in
   -- itself, but for the root's start
   pub record Run-of (x : Nested Leaf) (words : List ℕ) : Type 0 where
-    pub laid : Laid reach runs stands tops x 0
+    pub laid : In-tables reach runs stands tops x 0
     pub counted : count ≡ 1 + run x
     pub clean : Clean x words
     pub nearly : Nearly-closed x start (getD words 0 0)
@@ -66,7 +66,7 @@ module _ (reach runs stands tops : List ℕ) (count : ℕ) where
   -- the tables have room for each piece that there may be, the words are enough, and below the first of them there are
   -- marks only from `from` up to `to`
   pub record Closable (from to : ℕ) (words : List ℕ) : Type 0 where
-    pub sized : Sized reach runs stands tops 0 (take count words)
+    pub sized : Tables-sized reach runs stands tops 0 (take count words)
     pub enough : count ≤ length words
     pub tree : Nested Leaf
     pub on-run : Run-of tree words
@@ -145,7 +145,7 @@ module _ (reach runs stands tops : List ℕ) (count : ℕ) where
 
   -- the first words are ready to be swept
   pub run-ready : (from to : ℕ) (words : List ℕ) → Closable from to words
-      → Ready reach runs stands tops 0 from to (take count words)
+      → Sweep-ready reach runs stands tops 0 from to (take count words)
   run-ready from to words can =
       record {
         sized = can .sized;

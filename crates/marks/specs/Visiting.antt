@@ -37,16 +37,16 @@ use Rattle.marks.specs.Spots.{
   shift,
   enter,
   spot,
-  Held,
+  Set-at,
   holds-held,
-  Within,
+  Spot-within,
   spot-within,
   own-spot,
   Under,
   under-enter,
   under-shift,
   own-or-under,
-  First,
+  In-first-word,
   first-start,
   held-at,
   bit-at,
@@ -70,8 +70,8 @@ use Rattle.marks.specs.Places.{
 pub own-holds : {A : Type 0} (x : Nested A) (words : List ℕ) (q : State) → Has x q → Own x q
     → Holds x words q ↔ Bit (getD words 0 0) (number x q)
 own-holds x words q h o = (
-  λ m. subst (λ (s : Spot). Held s words) (own-spot x q o) (holds-held x words q h .0 m),
-  λ b. holds-held x words q h .1 (subst (λ (s : Spot). Held s words) (sym (own-spot x q o)) b),
+  λ m. subst (λ (s : Spot). Set-at s words) (own-spot x q o) (holds-held x words q h .0 m),
+  λ b. holds-held x words q h .1 (subst (λ (s : Spot). Set-at s words) (sym (own-spot x q o)) b),
 )
 
 -- the top piece's accepting state is its last
@@ -81,7 +81,7 @@ accepting-holds x words =
     Iff·trans (own-holds x words accepting tt tt) (bit-at (getD words 0 0) (omega (arith, number-accepting x)))
 
 held-under : (s : Spot) (before after : List ℕ) → Under s → ((o : ℕ) → getD before (suc o) 0 ≡ getD after (suc o) 0)
-    → Held s before → Held s after
+    → Set-at s before → Set-at s after
 held-under (own b) before after u same h = absurd u
 held-under (under o b) before after u same h = subst (λ (w : ℕ). Bit w b) (same o) h
 
@@ -151,14 +151,14 @@ started-below c words o l =
     given = passed (getD words 0 0) (c .stand) (getD words (c .from) 0) 0
 
 module _ (c : Child) (i n k : ℕ) (from : c .from ≡ suc n) where
-  part-held : (s : Spot) (words : List ℕ) → Within k (run (c .tree)) s
-      → Held s (part c words) ↔ Held (shift i n (enter s)) words
+  part-held : (s : Spot) (words : List ℕ) → Spot-within k (run (c .tree)) s
+      → Set-at s (part c words) ↔ Set-at (shift i n (enter s)) words
   part-held (own b) words l = bit-of b (part-at c words 0 (omega arith) ∙ ap (λ (o : ℕ). getD words o 0) (omega arith))
   part-held (under o b) words l =
       bit-of b (part-at c words (suc o) (omega arith) ∙ ap (λ (o' : ℕ). getD words o' 0) (omega arith))
 
-  started-held : (s : Spot) (words : List ℕ) → Within k (run (c .tree)) s → c .from < length words
-      → Held s (started c words) ↔ (Held s (part c words) ⊎ (First s × Bit (getD words 0 0) (c .stand)))
+  started-held : (s : Spot) (words : List ℕ) → Spot-within k (run (c .tree)) s → c .from < length words
+      → Set-at s (started c words) ↔ (Set-at s (part c words) ⊎ (In-first-word s × Bit (getD words 0 0) (c .stand)))
   started-held (own b) words l room =
       Iff·trans (bit-of b (started-own c words room))
       (bit-passed (getD words 0 0) (c .stand) (getD (part c words) 0 0) 0 b)
@@ -193,7 +193,7 @@ module _ (x : Nested Leaf) (e : State → State) (c : Child) (n : ℕ) (place : 
       (Iff·trans (started-held c (c .stand) n (width (c .tree)) from (spot (c .tree) p) words
       (spot-within (c .tree) p h) room)
       (iff-either (Iff·symm (Iff·trans (child-holds words p h) (holds-held (c .tree) (part c words) p h)))
-      (Iff·and (first-start (c .tree) p h, λ s. subst (λ (q : State). First (spot (c .tree) q)) (sym s) refl)
+      (Iff·and (first-start (c .tree) p h, λ s. subst (λ (q : State). In-first-word (spot (c .tree) q)) (sym s) refl)
       (Iff·symm (Iff·trans (stand-holds words start 0 tt refl) (bit-at (getD words 0 0) (omega arith)))))))
 
   -- the words after the visit but for the closing: the own word with the accepting state passed up, and the words below
@@ -239,7 +239,7 @@ module _ (x : Nested Leaf) (e : State → State) (c : Child) (n : ℕ) (place : 
         (down-holds before room p h .1 (inl (child-holds before p h .1 m))))
 
     -- a state apart from the child piece and its stand-in
-    held-apart : (s : Spot) → Outside (c .stand) 2 n (1 + run (c .tree)) s → Held s raised ↔ Held s before
+    held-apart : (s : Spot) → Outside (c .stand) 2 n (1 + run (c .tree)) s → Set-at s raised ↔ Set-at s before
     held-apart (own b) out =
         Iff·trans (raised-bit b)
         (⊎-elim (λ h. h) (λ h. absurd (⊎-elim (λ l. omega (arith, h .0)) (λ l. omega (arith, h .0)) out)), inl)

@@ -7,14 +7,14 @@ ghost use Rattle.language.specs.Nested.{Nested};
 ghost use Rattle.tree.specs.Leaf.{Leaf};
 ghost use Rattle.tables.specs.Words.{Bit, run, Clean, Agreeing};
 ghost use Rattle.tables.specs.Plan.{Pieces, Planned};
-ghost use Rattle.marks.specs.Bits.{Told};
+ghost use Rattle.marks.specs.Bits.{Tells};
 ghost use Rattle.marks.specs.Parents.{Parent};
 ghost use Rattle.marks.specs.Checked.{Pair-agrees, Child-agrees, Checkable};
 
 // Whether bit i of one word is as bit j of another.
 fn same_bit(one: u64, i: usize, other: u64, j: usize) -> bool
     requires { ⌜ (i < 64) × (j < 64) ⌝ }
-    ensures { λ r. ⌜ Told (Bit one i ↔ Bit other j) r ⌝ }
+    ensures { λ r. ⌜ Tells (Bit one i ↔ Bit other j) r ⌝ }
 {
     (one >> i) % 2 == (other >> j) % 2
 }
@@ -22,7 +22,7 @@ fn same_bit(one: u64, i: usize, other: u64, j: usize) -> bool
 // Whether no bit past the one numbered `top` is set.
 fn none_past(word: u64, top: usize) -> bool
     requires { ⌜ top < 63 ⌝ }
-    ensures { λ r. ⌜ Told (word < 2 ^ (top + 1)) r ⌝ }
+    ensures { λ r. ⌜ Tells (word < 2 ^ (top + 1)) r ⌝ }
 {
     word >> (top + 1) == 0
 }
@@ -44,7 +44,7 @@ fn parent(runs: &[u8], child: usize) -> usize
 // stand-in, which are numbered from `stand` in the word above.
 fn pair_agrees(above: u64, stand: usize, word: u64, top: usize) -> bool
     requires { ⌜ (stand < 63) × (top < 63) ⌝ }
-    ensures { λ r. ⌜ Told (Pair-agrees above stand word top) r ⌝ }
+    ensures { λ r. ⌜ Tells (Pair-agrees above stand word top) r ⌝ }
 {
     if none_past(word, top) {
         if same_bit(above, stand, word, 0) {
@@ -65,7 +65,7 @@ fn child_agrees(
 ) -> bool
     requires { ⌜ Checkable (now runs) (now stands) (now tops) (now words) pieces × (0 < child) × (child < pieces) ⌝ }
     ensures { λ r.
-        ⌜ Told (Child-agrees (now (runs .entry)) (now (stands .entry)) (now (tops .entry)) (now (words .entry)) child) r
+        ⌜ Tells (Child-agrees (now (runs .entry)) (now (stands .entry)) (now (tops .entry)) (now (words .entry)) child) r
         ⌝ }
 {
     let over = parent(runs, child);
@@ -79,7 +79,7 @@ pub fn agreeing(runs: &[u8], stands: &[u8], tops: &[u8], words: &[u64], pieces: 
     requires { ⌜ Checkable (now runs) (now stands) (now tops) (now words) pieces ⌝ }
     ensures { λ r. ⌜ ((tables : Pieces) (x : Nested Leaf) → tables .runs ≡ now (runs .entry)
         → tables .stands ≡ now (stands .entry) → tables .tops ≡ now (tops .entry) → Planned tables x
-        → 1 + run x ≡ pieces → Told (Clean x (now (words .entry)) × Agreeing x (now (words .entry))) r) ⌝ }
+        → 1 + run x ≡ pieces → Tells (Clean x (now (words .entry)) × Agreeing x (now (words .entry))) r) ⌝ }
 {
     let top = tops[0] as usize;
     if none_past(words[0], top) {

@@ -3,13 +3,13 @@ ghost use Prim.Native.Nat.{_^_, _<_};
 ghost use mathlib.Core.Path.{_≡_};
 ghost use lib.Bits.{bitOr};
 ghost use Rattle.tables.specs.Words.{Bit};
-ghost use Rattle.marks.specs.Bits.{Told};
+ghost use Rattle.marks.specs.Bits.{Tells};
 ghost use Rattle.marks.specs.LowestBit.{Lowest};
 
 // Whether bit i is set.
 pub fn has_bit(word: u64, i: usize) -> bool
     requires { ⌜ i < 64 ⌝ }
-    ensures { λ r. ⌜ Told (Bit word i) r ⌝ }
+    ensures { λ r. ⌜ Tells (Bit word i) r ⌝ }
 {
     (word >> i) % 2 == 1
 }

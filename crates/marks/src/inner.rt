@@ -12,7 +12,7 @@ ghost use lib.ListN.{length, getD, take, drop};
 ghost use Rattle.language.specs.Tree.{Tree};
 ghost use Rattle.tree.specs.Leaf.{Leaf};
 ghost use Rattle.tree.specs.Records.{Good};
-ghost use Rattle.marks.specs.Bits.{Told};
+ghost use Rattle.marks.specs.Bits.{Tells};
 ghost use Rattle.tables.specs.Given.{Good-list};
 ghost use Rattle.marks.specs.Promise.{Marks-of};
 ghost use Rattle.tables.specs.Tables.{Prepared, Roomy, Ready};
@@ -138,7 +138,7 @@ pub fn advance(
 // Whether no state is marked.
 pub fn nothing_left(words: &[u64], count: usize) -> bool
     requires { ⌜ count ≤ length (now words) ⌝ }
-    ensures { λ r. ⌜ Told (All-zero count (now (words .entry))) r ⌝ }
+    ensures { λ r. ⌜ Tells (All-zero count (now (words .entry))) r ⌝ }
 {
     let mut i = 0;
     while i < count {

@@ -9,8 +9,8 @@ ghost use Rattle.language.specs.Nested.{Nested};
 ghost use Rattle.language.specs.Settled.{Settled};
 ghost use Rattle.tree.specs.Leaf.{Leaf, meaning};
 ghost use Rattle.tables.specs.Words.{Bit, Holds};
-ghost use Rattle.marks.specs.Bits.{Told};
-ghost use Rattle.marks.specs.Swept.{passed, Ready, Sweepable, Swept, At-rest, Missed, Apart};
+ghost use Rattle.marks.specs.Bits.{Tells};
+ghost use Rattle.marks.specs.Swept.{passed, Sweep-ready, Sweepable, Swept, At-rest, Missed, Apart};
 ghost use Rattle.marks.specs.Reclosing.{Closes-from};
 ghost use Rattle.marks.specs.Twice.{Closable, Closed-twice};
 
@@ -108,7 +108,7 @@ pub fn sweep(
     to: usize,
     words: &mut [u64],
 ) -> bool
-    requires { ⌜ Ready (now reach) (now runs) (now stands) (now tops) piece from to (now words) ⌝ }
+    requires { ⌜ Sweep-ready (now reach) (now runs) (now stands) (now tops) piece from to (now words) ⌝ }
     ensures { λ r.
         ⌜ ((x : Nested Leaf)
         → Sweepable (now (reach .entry)) (now (runs .entry)) (now (stands .entry)) (now (tops .entry)) x piece

@@ -4,13 +4,13 @@
 use native.Mathlib.Omega.{arith}
 use mathlib.Core.Path.{refl}
 use Rattle.marks.specs.LowestBit.{left-smaller}
-use Rattle.marks.specs.Joining.{Joined, joined-none, joined-more}
+use Rattle.marks.specs.Joining.{Rows-joined, joined-none, joined-more}
 use Rattle.marks.specs.Closing.{closed-by-joining}
 use Rattle.marks.proofs.close.close.Statement.{statement}
 use Rattle.marks.proofs.close.close.Tie as tie
 
 abbrev Inv-loop : tie.InvT-loop
-Inv-loop reach piece word base rest₀ closed₀ rest closed = Joined reach base word rest closed
+Inv-loop reach piece word base rest₀ closed₀ rest closed = Rows-joined reach base word rest closed
 
 abbrev μ-loop : tie.MeasureT-loop
 μ-loop reach piece word base rest₀ closed₀ rest closed = rest

@@ -15,11 +15,11 @@ use Rattle.language.specs.Settled.{Settled}
 use Rattle.tree.specs.Leaf.{meaning}
 use Rattle.tables.specs.Words.{Holds}
 use Rattle.tables.specs.Plan.{Closes}
-use Rattle.marks.specs.Swept.{Sweepable, Sized}
+use Rattle.marks.specs.Swept.{Sweepable, Tables-sized}
 use Rattle.marks.specs.Chains.{Waiting}
 use Rattle.marks.specs.Sweeping.{
   Sweeping,
-  Room,
+  Sweep-room,
   sweeping-begins,
   waits,
   room-for,
@@ -113,7 +113,7 @@ abbrev Going-on : ℕ → Type 0
 Going-on t = sweep-lts.In-loop (sweep-claims t) (sweep-at t) sweep.Post sweep-Inv-loop sweep-μ-loop
 
 sized : (t : ℕ) (c : Going-on t) → let s = start-of t (c .before .before) in
-    Sized (s .args .reach .now) (s .args .runs .now) (s .args .stands .now) (s .args .tops .now) (s .args .piece)
+    Tables-sized (s .args .reach .now) (s .args .runs .now) (s .args .stands .now) (s .args .tops .now) (s .args .piece)
     (c .before .loop .words)
 sized t c =
     let s = start-of t (c .before .before) in
@@ -131,7 +131,7 @@ child-waits t c = waits _ _ _ _ _ _ _ _ _ _ (c .before .loop .inv) (c .loop-test
 
 -- there is room for it
 room : (t : ℕ) (c : Going-on t) → let s = start-of t (c .before .before) in
-    Room (s .args .reach .now) (s .args .runs .now) (s .args .stands .now) (s .args .tops .now) (s .args .piece)
+    Sweep-room (s .args .reach .now) (s .args .runs .now) (s .args .stands .now) (s .args .tops .now) (s .args .piece)
     (c .before .loop .at) (c .before .loop .words)
 room t c = room-for _ _ _ _ _ _ _ _ _ _ (c .before .loop .inv) (c .loop-test .taken) _ (begun t (c .before .before))
     (own t (c .before .before)) (sized t c)
