@@ -1,18 +1,19 @@
 -- What the answer of a search over the tables tells, by its cases.
--- Assumes nothing.
-use Prim.Native.Nat.{ℕ}
-use mathlib.Core.Path.{_≡_}
-use mathlib.Core.List.{List}
+use mathlib.Core.Path.{_≡_, refl}
+use mathlib.Core.Bool.{true}
 use native.Mathlib.Omega.{arith}
 use denote.Enum.Declared.{tagOf}
-use Rattle.finder.specs.Found.{Answers, Nothing-found}
-use Rattle.finder.specs.Parts.{answer-of}
+use Rattle.finder.specs.Parts.{is-part}
 use Rattle.finder.specs.declared.part.Part.{Part}
 use Rattle.finder.specs.declared.part.Part.the-variants.{At, Nothing}
 use Rattle.finder.proofs.part.Part.{the-type as part-type}
 
+-- a part was found
+pub told-part : (part : Part) → tagOf part-type part ≡ 0 → is-part part ≡ true
+told-part (At start end) tag = refl
+told-part Nothing tag = absurd (omega arith)
+
 -- nothing was found
-pub told-nothing : (L : List ℕ → Type 0) (text : List ℕ) (part : Part) → tagOf part-type part ≡ 1
-    → Answers L text (answer-of part) → Nothing-found L text
-told-nothing L text (At start end) tag answers = absurd (omega arith)
-told-nothing L text Nothing tag answers = answers
+pub told-nothing : (part : Part) → tagOf part-type part ≡ 1 → part ≡ Nothing
+told-nothing (At start end) tag = absurd (omega arith)
+told-nothing Nothing tag = refl

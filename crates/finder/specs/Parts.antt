@@ -1,6 +1,7 @@
 -- What the answers of search say.
 -- Assumes nothing.
 use Prim.Native.Nat.{ℕ}
+use mathlib.Core.Bool.{Bool, true, false}
 use mathlib.Core.Option.{Option, none, some}
 use Rattle.finder.specs.Found.{Answer, at, nothing}
 use Rattle.finder.specs.declared.part.Part.{Part}
@@ -17,3 +18,8 @@ end-of Nowhere = none
 abbrev pub answer-of : Part → Answer
 answer-of (At s e) = at s e
 answer-of Nothing = nothing
+
+-- whether a part was found
+abbrev pub is-part : Part → Bool
+is-part (At s e) = true
+is-part Nothing = false

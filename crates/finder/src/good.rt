@@ -1,42 +1,25 @@
-// Match and search over a list that is known to be good: its tables are made once, on the stack.
+// Match and search over a list that is known to be good: its tables are made once, on the stack, for either.
 use crate::part::Part;
 use crate::part::first_part;
 use crate::text::text_matches;
 use marks::inner::prepare;
 ghost use Prim.Native.Nat.{ℕ};
 ghost use mathlib.Core.Path.{_≡_};
-ghost use mathlib.Core.Bool.{true};
+ghost use mathlib.Core.Bool.{true, false};
 ghost use mathlib.Core.Logic.{_↔_};
 ghost use Rattle.language.specs.Tree.{Tree};
 ghost use Rattle.tree.specs.Leaf.{Leaf, Matches};
 ghost use Rattle.tree.specs.Records.{Good};
 ghost use Rattle.tables.specs.Given.{Good-list};
 ghost use Rattle.finder.specs.Found.{Answers};
-ghost use Rattle.finder.specs.Parts.{answer-of};
+ghost use Rattle.finder.specs.Parts.{answer-of, is-part};
 
-pub fn matches_good(list: &[u8], text: &[u8]) -> bool
+// The part in the language that starts earliest and then ends furthest; of the whole text alone where `whole` says so.
+pub fn find_good(list: &[u8], text: &[u8], whole: bool) -> Part
     requires { ⌜ Good-list (now list) ⌝ }
-    ensures { λ r. ⌜ ((t : Tree Leaf) → Good (now (list .entry)) t → (r ≡ true) ↔ Matches t (now (text .entry))) ⌝ }
-{
-    let mut reach = [0u64; 8192];
-    let mut labels = [0u16; 8192];
-    let mut runs = [0u8; 128];
-    let mut stands = [0u8; 128];
-    let mut tops = [0u8; 128];
-    let count = prepare(
-        list,
-        &mut reach,
-        &mut labels,
-        &mut runs,
-        &mut stands,
-        &mut tops,
-    );
-    text_matches(&reach, &labels, &runs, &stands, &tops, count, text)
-}
-
-pub fn search_good(list: &[u8], text: &[u8]) -> Part
-    requires { ⌜ Good-list (now list) ⌝ }
-    ensures { λ r. ⌜ ((t : Tree Leaf) → Good (now (list .entry)) t
+    ensures { λ r. ⌜ (whole ≡ true → (t : Tree Leaf) → Good (now (list .entry)) t
+        → (is-part r ≡ true) ↔ Matches t (now (text .entry))) ⌝ }
+    ensures { λ r. ⌜ (whole ≡ false → (t : Tree Leaf) → Good (now (list .entry)) t
         → Answers (Matches t) (now (text .entry)) (answer-of r)) ⌝ }
 {
     let mut reach = [0u64; 8192];
@@ -52,5 +35,15 @@ pub fn search_good(list: &[u8], text: &[u8]) -> Part
         &mut stands,
         &mut tops,
     );
-    first_part(&reach, &labels, &runs, &stands, &tops, count, text)
+    if !whole {
+        return first_part(&reach, &labels, &runs, &stands, &tops, count, text);
+    }
+    if text_matches(&reach, &labels, &runs, &stands, &tops, count, text) {
+        Part::At {
+            start: 0,
+            end: text.len(),
+        }
+    } else {
+        Part::Nothing
+    }
 }

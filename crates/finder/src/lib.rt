@@ -52,10 +52,10 @@ pub fn is_match(list: &[u8], text: &[u8]) -> Matched
     if LONGEST < text.len() {
         return Matched::TooLong;
     }
-    if good::matches_good(list, text) {
-        Matched::Yes
-    } else {
-        Matched::No
+    let part = good::find_good(list, text, true);
+    match part {
+        Part::At { start: _, end: _ } => Matched::Yes,
+        Part::Nothing => Matched::No,
     }
 }
 
@@ -74,7 +74,7 @@ pub fn search(list: &[u8], text: &[u8]) -> Searched
     if LONGEST < text.len() {
         return Searched::TooLong;
     }
-    let part = good::search_good(list, text);
+    let part = good::find_good(list, text, false);
     match part {
         Part::At { start, end } => Searched::Found { start, end },
         Part::Nothing => Searched::Nothing,

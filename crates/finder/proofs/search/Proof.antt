@@ -1,5 +1,5 @@
--- `finder::search` meets its contract: each answer is that of the list's tree. Assumes nothing.
-use Rattle.tree.specs.Leaf.{Matches}
+-- `finder::search` meets its contract: each answer is that of the list's tree.
+use mathlib.Core.Path.{refl}
 use Rattle.finder.specs.Promise.{not-good, too-long, search-refused, search-found, search-nothing}
 use Rattle.marks.proofs.Told.{told-good, told-not-good}
 use Rattle.finder.proofs.Told.{told-nothing}
@@ -8,7 +8,7 @@ use Rattle.finder.proofs.search.Statement.{statement}
 use Rattle.finder.proofs.search.Tie as tie
 use Rattle.finder.proofs.search.Reads as reads
 use Rattle.finder.proofs.search.Lts as lts
-use Rattle.finder.proofs.good.search_good.Reads as search-good-reads
+use Rattle.finder.proofs.good.find_good.Reads as find-good-reads
 use Rattle.tree.proofs.good.decide.Reads as decide-reads
 
 decide-requires : tie.Need-decide-requires
@@ -29,8 +29,8 @@ returns-2 c =
     let known = told-good _ (c .before .before .match .keys1) (c .before .before .before .decide .ensures) in
     search-refused (too-long (record { t = known .some; good = known .good; long = c .if1 .taken }))
 
-search-good-requires : tie.Need-search-good-requires
-search-good-requires c κs = told-good _ (c .before .before .match .keys1) (c .before .before .before .decide .ensures)
+find-good-requires : tie.Need-find-good-requires
+find-good-requires c κs = told-good _ (c .before .before .match .keys1) (c .before .before .before .decide .ensures)
 
 enum-known-part : tie.Need-enum-known-part
 enum-known-part c = search needs
@@ -40,26 +40,28 @@ enum-told-3 c = search needs
 
 returns-3 : tie.Need-returns-3
 returns-3 c =
-    let known = told-good _ (c .before .before .before .before .before .before .match .keys1)
-    (c .before .before .before .before .before .before .before .decide .ensures) in
+    let answered = c .before .before .before in
+    let known = told-good _ (answered .before .before .before .match .keys1)
+    (answered .before .before .before .before .decide .ensures) in
     search-found (record {
       t = known .some;
       good = known .good;
-      short = c .before .before .before .before .if1 .left;
-      holds =
-          rw (c .before .part .given .1) at (c .before .before .before .search-good .ensures (known .some) (known .good));
+      short = answered .before .if1 .left;
+      holds = rw (c .before .part .given .1) at (answered .find-good .ensures .1 refl (known .some) (known .good));
     })
 
 returns-4 : tie.Need-returns-4
 returns-4 c =
-    let known = told-good _ (c .before .before .before .before .before .match .keys1)
-    (c .before .before .before .before .before .before .decide .ensures) in
+    let answered = c .before .before in
+    let known = told-good _ (answered .before .before .before .match .keys1)
+    (answered .before .before .before .before .decide .ensures) in
     search-nothing (record {
       t = known .some;
       good = known .good;
-      short = c .before .before .before .if1 .left;
-      holds = told-nothing (Matches (known .some)) _ (c .before .before .search-good .result) (c .before .match2 .keys2)
-          (c .before .before .search-good .ensures (known .some) (known .good));
+      short = answered .before .if1 .left;
+      holds =
+          rw (told-nothing (answered .find-good .result) (c .before .match2 .keys2)) at
+          (answered .find-good .ensures .1 refl (known .some) (known .good));
     })
 
 pub search-spec : {M : Type 1} → statement M
@@ -71,7 +73,7 @@ search-spec =
     enum-told-2
     returns
     returns-2
-    search-good-requires
+    find-good-requires
     enum-known-part
     enum-told-3
     returns-3
