@@ -11,6 +11,8 @@ use lib.ListN.{length, getD, set}
 use lib.Seq.{getD-set-same, getD-set-other}
 use Rattle.language.specs.Nested.{Nested, leaf, catenation, union, star, below}
 use Rattle.tree.specs.Leaf.{Leaf, character}
+use Rattle.tree.specs.Limits.{most-pieces, most-records}
+use Rattle.tree.specs.Layout.{record-size, character-kind, star-kind, kind-at, left-at, right-at, piece-at}
 use Rattle.tables.specs.Words.{run}
 use Rattle.tables.specs.Standing.{
   size,
@@ -38,7 +40,6 @@ use Rattle.tables.specs.Standing.{
   node-at,
 }
 use Rattle.tables.specs.Filling.{cond-equal, cond-different}
-use Rattle.tables.specs.Walking.{own-piece, kind-of, left-of, right-of}
 
 -- r is the number of the pieces below the node of this record, whatever spot it is
 abbrev pub Runs : List ℕ → ℕ → ℕ → Type 0
@@ -57,14 +58,14 @@ pub record Node (list : List ℕ) (node : ℕ) : Type 0 where
 
 -- how many pieces the child with this record adds to those below its parent, which is in the piece p
 abbrev pub adds : List ℕ → List ℕ → (child p : ℕ) → ℕ
-adds list counts child p = getD counts child 0 + cond (eqb (own-piece list child) p) 0 1
+adds list counts child p = getD counts child 0 + cond (eqb (piece-at list child) p) 0 1
 
 module _ {list counts : List ℕ} {j : ℕ} (counted : Counted list counts j) where
   -- a child in its parent's piece adds the pieces below it
   plain-adds : {f p n i : ℕ} (x : Nested Leaf) → Plain x → Fine list (spot x f p n i) → (child : ℕ)
       → child + 1 ≡ f + size x → child < j → adds list counts child p ≡ run x
   plain-adds {p = p} x plain h child e before =
-      let same = cond-equal (own-piece list child) p 0 1 (piece-shows x plain h child e) in
+      let same = cond-equal (piece-at list child) p 0 1 (piece-shows x plain h child e) in
       omega (arith, counted .each child before _ h plain e)
 
   -- a child piece adds itself too
@@ -77,7 +78,7 @@ module _ {list counts : List ℕ} {j : ℕ} (counted : Counted list counts j) wh
   child-adds {p = p} (below x) h child e before =
       let under-h = child-fine under h in
       let shown = piece-shows x (h .sound .0) under-h child e in
-      let other = cond-different (own-piece list child) p 0 1 (λ same. omega (arith, h .later)) in
+      let other = cond-different (piece-at list child) p 0 1 (λ same. omega (arith, h .later)) in
       omega (arith, counted .each child before _ under-h (h .sound .0) e)
 
   -- the child's record comes before the parent's
@@ -87,91 +88,93 @@ module _ {list counts : List ℕ} {j : ℕ} (counted : Counted list counts j) wh
 
 module _ {list counts : List ℕ} {node : ℕ} (counted : Counted list counts node) where
   -- there are none below a leaf
-  pub runs-leaf : kind-of list node ≡ 1 → Runs list node 0
+  pub runs-leaf : kind-at list node ≡ character-kind → Runs list node 0
   runs-leaf kind (spot (leaf (character a)) f p n i) h plain e = refl
   runs-leaf kind (spot (catenation x y) f p n i) h plain e =
-      absurd (omega (arith, catenation-shows h node e .kind-byte))
-  runs-leaf kind (spot (union x y) f p n i) h plain e = absurd (omega (arith, union-shows h node e .kind-byte))
-  runs-leaf kind (spot (star x) f p n i) h plain e = absurd (omega (arith, star-shows h node e .kind-byte))
+      absurd (omega (arith, catenation-shows h node e .kind-is))
+  runs-leaf kind (spot (union x y) f p n i) h plain e = absurd (omega (arith, union-shows h node e .kind-is))
+  runs-leaf kind (spot (star x) f p n i) h plain e = absurd (omega (arith, star-shows h node e .kind-is))
   runs-leaf kind (spot (below x) f p n i) h plain e = absurd plain
 
   adds-at : (child p q k : ℕ) → p ≡ q → adds list counts child q ≡ k → adds list counts child p ≡ k
   adds-at child p q k same e = ap (λ (m : ℕ). adds list counts child m) same ∙ e
 
   -- below a star there are those that its operand adds
-  pub runs-star : kind-of list node ≡ 4 → Runs list node (adds list counts (left-of list node) (own-piece list node))
-  runs-star kind (spot (leaf (character a)) f p n i) h plain e = absurd (omega (arith, leaf-shows h node e .kind-byte))
+  pub runs-star : kind-at list node ≡ star-kind
+      → Runs list node (adds list counts (left-at list node) (piece-at list node))
+  runs-star kind (spot (leaf (character a)) f p n i) h plain e = absurd (omega (arith, leaf-shows h node e .kind-is))
   runs-star kind (spot (catenation x y) f p n i) h plain e =
-      absurd (omega (arith, catenation-shows h node e .kind-byte))
-  runs-star kind (spot (union x y) f p n i) h plain e = absurd (omega (arith, union-shows h node e .kind-byte))
+      absurd (omega (arith, catenation-shows h node e .kind-is))
+  runs-star kind (spot (union x y) f p n i) h plain e = absurd (omega (arith, union-shows h node e .kind-is))
   runs-star kind (spot (star x) f p n i) h plain e =
       let shown = star-shows h node e in
-      adds-at _ _ p _ (shown .piece-word) (kid-adds counted x (child-fine operand h) _ (shown .left-word) (omega arith))
+      adds-at _ _ p _ (shown .piece-is) (kid-adds counted x (child-fine operand h) _ (shown .left-is) (omega arith))
   runs-star kind (spot (below x) f p n i) h plain e = absurd plain
 
   -- below a node with two children, those that both add
-  pub runs-two : (kind-of list node ≡ 1 → ⊥) → (kind-of list node ≡ 4 → ⊥)
+  pub runs-two : (kind-at list node ≡ character-kind → ⊥) → (kind-at list node ≡ star-kind → ⊥)
       → Runs list node
-      (adds list counts (left-of list node) (own-piece list node) + adds list counts (right-of list node)
-      (own-piece list node))
-  runs-two kind other (spot (leaf (character a)) f p n i) h plain e = absurd (kind (leaf-shows h node e .kind-byte))
+      (adds list counts (left-at list node) (piece-at list node) + adds list counts (right-at list node)
+      (piece-at list node))
+  runs-two kind other (spot (leaf (character a)) f p n i) h plain e = absurd (kind (leaf-shows h node e .kind-is))
   runs-two kind other (spot (catenation x y) f p n i) h plain e =
       let shown = catenation-shows h node e in
       omega (
         arith,
-        adds-at (left-of list node) _ p _ (shown .piece-word)
-            (kid-adds counted x (child-fine catenation-left h) _ (shown .left-word) (omega arith)),
-        adds-at (right-of list node) _ p _ (shown .piece-word)
-            (kid-adds counted y (child-fine catenation-right h) _ (shown .right-word) (omega arith)),
+        adds-at (left-at list node) _ p _ (shown .piece-is)
+            (kid-adds counted x (child-fine catenation-left h) _ (shown .left-is) (omega arith)),
+        adds-at (right-at list node) _ p _ (shown .piece-is)
+            (kid-adds counted y (child-fine catenation-right h) _ (shown .right-is) (omega arith)),
       )
   runs-two kind other (spot (union x y) f p n i) h plain e =
       let shown = union-shows h node e in
       omega (
         arith,
-        adds-at (left-of list node) _ p _ (shown .piece-word)
-            (kid-adds counted x (child-fine union-left h) _ (shown .left-word) (omega arith)),
-        adds-at (right-of list node) _ p _ (shown .piece-word)
-            (kid-adds counted y (child-fine union-right h) _ (shown .right-word) (omega arith)),
+        adds-at (left-at list node) _ p _ (shown .piece-is)
+            (kid-adds counted x (child-fine union-left h) _ (shown .left-is) (omega arith)),
+        adds-at (right-at list node) _ p _ (shown .piece-is)
+            (kid-adds counted y (child-fine union-right h) _ (shown .right-is) (omega arith)),
       )
-  runs-two kind other (spot (star x) f p n i) h plain e = absurd (other (star-shows h node e .kind-byte))
+  runs-two kind other (spot (star x) f p n i) h plain e = absurd (other (star-shows h node e .kind-is))
   runs-two kind other (spot (below x) f p n i) h plain e = absurd plain
 
 -- the children's records are there
 pub record Kids-listed (list : List ℕ) (node child : ℕ) : Type 0 where
   pub earlier : child < node
-  pub inside : 8 * child + 8 ≤ length list
+  pub inside : record-size * child + record-size ≤ length list
 
 -- a node's record is in the list
-pub node-listed : {list : List ℕ} {node : ℕ} → Node list node → (8 * node + 8 ≤ length list) × (node < 1920)
+pub node-listed : {list : List ℕ} {node : ℕ} → Node list node → (record-size * node + record-size ≤ length list)
+    × (node < most-records)
 node-listed h = omega (arith, within (h .fine), h .is-root, h .fine .short)
 
 kid-listed : {list : List ℕ} {node : ℕ} → Node list node → (child : ℕ) → child < node → Kids-listed list node child
 kid-listed h child low = record { earlier = low; inside = omega (arith, node-listed h) }
 
 -- the left or only child's record is in the list, before its parent's
-pub left-listed : {list : List ℕ} {node : ℕ} → Node list node → (kind-of list node ≡ 1 → ⊥)
-    → Kids-listed list node (left-of list node)
+pub left-listed : {list : List ℕ} {node : ℕ} → Node list node → (kind-at list node ≡ character-kind → ⊥)
+    → Kids-listed list node (left-at list node)
 left-listed {list} {node} h kind = kid-listed h _ (low (h .at) (h .fine) (h .plain) (h .is-root))
   where
-    low : (s : Spot) → Fine list s → Plain (tree s) → node + 1 ≡ first s + size (tree s) → left-of list node < node
-    low (spot (leaf (character a)) f p n i) g plain e = absurd (kind (leaf-shows g node e .kind-byte))
-    low (spot (catenation x y) f p n i) g plain e = omega (arith, catenation-shows g node e .left-word, size-positive x)
-    low (spot (union x y) f p n i) g plain e = omega (arith, union-shows g node e .left-word, size-positive x)
-    low (spot (star x) f p n i) g plain e = omega (arith, star-shows g node e .left-word, size-positive x)
+    low : (s : Spot) → Fine list s → Plain (tree s) → node + 1 ≡ first s + size (tree s) → left-at list node < node
+    low (spot (leaf (character a)) f p n i) g plain e = absurd (kind (leaf-shows g node e .kind-is))
+    low (spot (catenation x y) f p n i) g plain e = omega (arith, catenation-shows g node e .left-is, size-positive x)
+    low (spot (union x y) f p n i) g plain e = omega (arith, union-shows g node e .left-is, size-positive x)
+    low (spot (star x) f p n i) g plain e = omega (arith, star-shows g node e .left-is, size-positive x)
     low (spot (below x) f p n i) g plain e = absurd plain
 
 -- and so is the right child's
-pub right-listed : {list : List ℕ} {node : ℕ} → Node list node → (kind-of list node ≡ 1 → ⊥)
-    → (kind-of list node ≡ 4 → ⊥) → Kids-listed list node (right-of list node)
+pub right-listed : {list : List ℕ} {node : ℕ} → Node list node → (kind-at list node ≡ character-kind → ⊥)
+    → (kind-at list node ≡ star-kind → ⊥) → Kids-listed list node (right-at list node)
 right-listed {list} {node} h kind other = kid-listed h _ (low (h .at) (h .fine) (h .plain) (h .is-root))
   where
-    low : (s : Spot) → Fine list s → Plain (tree s) → node + 1 ≡ first s + size (tree s) → right-of list node < node
-    low (spot (leaf (character a)) f p n i) g plain e = absurd (kind (leaf-shows g node e .kind-byte))
+    low : (s : Spot) → Fine list s → Plain (tree s) → node + 1 ≡ first s + size (tree s) → right-at list node < node
+    low (spot (leaf (character a)) f p n i) g plain e = absurd (kind (leaf-shows g node e .kind-is))
     low (spot (catenation x y) f p n i) g plain e =
-        omega (arith, catenation-shows g node e .right-word, size-positive x, size-positive y)
+        omega (arith, catenation-shows g node e .right-is, size-positive x, size-positive y)
     low (spot (union x y) f p n i) g plain e =
-        omega (arith, union-shows g node e .right-word, size-positive x, size-positive y)
-    low (spot (star x) f p n i) g plain e = absurd (other (star-shows g node e .kind-byte))
+        omega (arith, union-shows g node e .right-is, size-positive x, size-positive y)
+    low (spot (star x) f p n i) g plain e = absurd (other (star-shows g node e .kind-is))
     low (spot (below x) f p n i) g plain e = absurd plain
 
 -- one more node counted
@@ -188,28 +191,28 @@ counted-more {list} {counts} {j} {r} counted more fits = record {
 }
 
 -- what a child adds, by whether its piece is its parent's
-pub adds-same : (list counts : List ℕ) (child p own : ℕ) → own ≡ own-piece list child → own ≡ p
+pub adds-same : (list counts : List ℕ) (child p own : ℕ) → own ≡ piece-at list child → own ≡ p
     → adds list counts child p ≡ getD counts child 0
-adds-same list counts child p own shown same = omega (arith, cond-equal (own-piece list child) p 0 1 (sym shown ∙ same))
+adds-same list counts child p own shown same = omega (arith, cond-equal (piece-at list child) p 0 1 (sym shown ∙ same))
 
-pub adds-other : (list counts : List ℕ) (child p own : ℕ) → own ≡ own-piece list child → (own ≡ p → ⊥)
+pub adds-other : (list counts : List ℕ) (child p own : ℕ) → own ≡ piece-at list child → (own ≡ p → ⊥)
     → adds list counts child p ≡ getD counts child 0 + 1
 adds-other list counts child p own shown other =
-    omega (arith, cond-different (own-piece list child) p 0 1 (λ same. other (shown ∙ same)))
+    omega (arith, cond-different (piece-at list child) p 0 1 (λ same. other (shown ∙ same)))
 
 -- with the fields as they were read
 module _ {list counts : List ℕ} {node kind piece left : ℕ} (counted : Counted list counts node)
-    (of-kind : kind ≡ kind-of list node) (of-piece : piece ≡ own-piece list node) (of-left : left ≡ left-of list node)
+    (of-kind : kind ≡ kind-at list node) (of-piece : piece ≡ piece-at list node) (of-left : left ≡ left-at list node)
   where
     adds-read : (child read : ℕ) → read ≡ child → adds list counts read piece
-        ≡ adds list counts child (own-piece list node)
+        ≡ adds list counts child (piece-at list node)
     adds-read child read e = ap (λ (k : ℕ). adds list counts k piece) e
         ∙ ap (λ (p : ℕ). adds list counts child p) of-piece
 
-    pub read-star : {r : ℕ} → kind ≡ 4 → r ≡ adds list counts left piece → Runs list node r
+    pub read-star : {r : ℕ} → kind ≡ star-kind → r ≡ adds list counts left piece → Runs list node r
     read-star e g s h plain root = g ∙ adds-read _ _ of-left ∙ runs-star counted (sym of-kind ∙ e) s h plain root
 
-    pub read-two : {a b right : ℕ} → (kind ≡ 1 → ⊥) → (kind ≡ 4 → ⊥) → right ≡ right-of list node
+    pub read-two : {a b right : ℕ} → (kind ≡ character-kind → ⊥) → (kind ≡ star-kind → ⊥) → right ≡ right-at list node
         → a ≡ adds list counts left piece → b ≡ adds list counts right piece → Runs list node (a + b)
     read-two {a} {b} inner other of-right f g s h plain root =
         omega (
@@ -223,7 +226,7 @@ module _ {list counts : List ℕ} {node kind piece left : ℕ} (counted : Counte
 pub record Top (list : List ℕ) (x : Nested Leaf) : Type 0 where
   pub fine : Fine list (spot x 0 0 1 0)
   pub plain : Plain x
-  pub all : length list ≡ 8 * size x
+  pub all : length list ≡ record-size * size x
 
 -- the list is that of some tree
 pub record Listed (list : List ℕ) : Type 0 where
@@ -231,7 +234,7 @@ pub record Listed (list : List ℕ) : Type 0 where
   pub top : Top list some
 
 -- each record is that of a node
-pub node-of : {list : List ℕ} → Listed list → (node : ℕ) → node < length list / 8 → Node list node
+pub node-of : {list : List ℕ} → Listed list → (node : ℕ) → node < length list / record-size → Node list node
 node-of h node low =
     let x = h .some in
     let top = h .top in
@@ -245,11 +248,11 @@ node-of h node low =
     }
 
 -- there are fewer than 128 pieces below a node
-pub few-runs : {list : List ℕ} {node r : ℕ} → Node list node → Runs list node r → r < 128
+pub few-runs : {list : List ℕ} {node r : ℕ} → Node list node → Runs list node r → r < most-pieces
 few-runs h runs = omega (arith, runs (h .at) (h .fine) (h .plain) (h .is-root), h .fine .few, h .fine .later)
 
 -- a list has at most 1,920 records
-pub few-records : {list : List ℕ} → Listed list → length list / 8 ≤ 1920
+pub few-records : {list : List ℕ} → Listed list → length list / record-size ≤ most-records
 few-records h = omega (arith, h .top .all, h .top .fine .short)
 
 -- nothing has been counted yet

@@ -12,9 +12,11 @@ use lib.ListN.{length, getD, set, length-append, length-set}
 use lib.Seq.{getD-set-same, getD-set-other}
 use Rattle.language.specs.Nested.{Nested, leaf, catenation, union, star, below}
 use Rattle.tree.specs.Leaf.{Leaf, character}
+use Rattle.tree.specs.Limits.{most-pieces}
+use Rattle.tree.specs.Layout.{catenation-kind, union-kind, star-kind}
 use Rattle.tables.specs.Words.{width, run}
 use Rattle.tables.specs.Plan
-use Rattle.tables.specs.Plan.{takes}
+use Rattle.tables.specs.Plan.{row-size, takes}
 use Rattle.tables.specs.Entries.{
   Lies,
   ends,
@@ -82,10 +84,10 @@ tables-same stands roots p q = λ i. tables (p i) (q i) stands roots
 
 -- the tables have room for 128 pieces of 64 states
 pub record Room (t : Tables) : Type 0 where
-  pub of-nexts : length (t .nexts) ≡ 8192
-  pub of-labels : length (t .labels) ≡ 8192
-  pub of-stands : length (t .stands) ≡ 128
-  pub of-roots : length (t .roots) ≡ 128
+  pub of-nexts : length (t .nexts) ≡ row-size * most-pieces
+  pub of-labels : length (t .labels) ≡ row-size * most-pieces
+  pub of-stands : length (t .stands) ≡ most-pieces
+  pub of-roots : length (t .roots) ≡ most-pieces
 
 -- u is the stand-in of the child piece k in the piece of s, at or below s
 pub record Own-stand-in (s u : Spot) (k : ℕ) : Type 0 where
@@ -108,10 +110,10 @@ pub record Same-place (t after : Tables) (k : ℕ) : Type 0 where
 -- What comes before it in the tables is as it was, and so is what is told of child pieces with no stand-in in this part
 pub record Filled (s : Spot) (t after : Tables) (end : ℕ) : Type 0 where
   pub ended : end ≡ number s + width (tree s)
-  pub words : Lies (after .nexts) (64 * piece s + number s) (fronts (tree s) (number s))
-  pub words-before : (j : ℕ) → j < 64 * piece s + number s → getD (after .nexts) j 0 ≡ getD (t .nexts) j 0
-  pub leaves : Lies (after .labels) (64 * piece s + number s) (takes (tree s))
-  pub leaves-before : (j : ℕ) → j < 64 * piece s + number s → getD (after .labels) j 0 ≡ getD (t .labels) j 0
+  pub words : Lies (after .nexts) (row-size * piece s + number s) (fronts (tree s) (number s))
+  pub words-before : (j : ℕ) → j < row-size * piece s + number s → getD (after .nexts) j 0 ≡ getD (t .nexts) j 0
+  pub leaves : Lies (after .labels) (row-size * piece s + number s) (takes (tree s))
+  pub leaves-before : (j : ℕ) → j < row-size * piece s + number s → getD (after .labels) j 0 ≡ getD (t .labels) j 0
   pub placed : (u : Spot) (k : ℕ) → Own-stand-in s u k → Placed after u k
   pub others : (k : ℕ) → ((u : Spot) → Own-stand-in s u k → ⊥) → Same-place t after k
 
@@ -142,16 +144,16 @@ no-stand-in-at-leaf here m = plain-no-stand-in tt m
 
 -- a leaf's part
 pub fill-leaf : {list : List ℕ} {a f p n i : ℕ} → Fine list (spot (leaf (character a)) f p n i) → (t : Tables) → Room t
-    → Filled (spot (leaf (character a)) f p n i) t (two-entries t (64 * p + i) (a + 1)) (i + 2)
+    → Filled (spot (leaf (character a)) f p n i) t (two-entries t (row-size * p + i) (a + 1)) (i + 2)
 fill-leaf {a = a} {p = p} {i = i} h t room =
     let r = room .of-nexts in
     let q = room .of-labels in
     record {
       ended = refl;
-      words = entry (getD-set-same (t .nexts) (64 * p + i) 0 0 (omega arith)) ends;
-      words-before = λ j low. getD-set-other (t .nexts) (64 * p + i) j 0 0 (λ e. omega arith);
-      leaves = labels-lie (t .labels) (64 * p + i) (a + 1) (omega arith);
-      leaves-before = λ j low. labels-before (t .labels) (64 * p + i) (a + 1) j low;
+      words = entry (getD-set-same (t .nexts) (row-size * p + i) 0 0 (omega arith)) ends;
+      words-before = λ j low. getD-set-other (t .nexts) (row-size * p + i) j 0 0 (λ e. omega arith);
+      leaves = labels-lie (t .labels) (row-size * p + i) (a + 1) (omega arith);
+      leaves-before = λ j low. labels-before (t .labels) (row-size * p + i) (a + 1) j low;
       placed = λ u k m. absurd (no-stand-in-at-leaf (m .inside) (m .stands-for));
       others = λ k none. record { stand = refl; root = refl };
     }
@@ -165,7 +167,7 @@ stand-entries t at k i node = tables (set (t .nexts) at 0) (set (set (t .labels)
 stand-placed : {list : List ℕ} {x : Nested Leaf} {f p n i : ℕ} → Fine list (spot (below x) f p n i) → (t : Tables)
     → Room t → (node : ℕ) → node + 1 ≡ f + size x
     → {u : Spot} {k : ℕ} → In (spot (below x) f p n i) u → Stand-in u k → piece u ≡ p
-    → Placed (stand-entries t (64 * p + i) n i node) u k
+    → Placed (stand-entries t (row-size * p + i) n i node) u k
 stand-placed {x = x} {n = n} {i = i} h t room node at here stand-in e =
     let r = room .of-stands in
     let q = room .of-roots in
@@ -178,16 +180,16 @@ stand-placed h t room node at (step under m) s e = absurd (omega (arith, piece-g
 -- a stand-in's part
 pub fill-stand : {list : List ℕ} {x : Nested Leaf} {f p n i : ℕ} → Fine list (spot (below x) f p n i) → (t : Tables)
     → Room t → (node : ℕ) → node + 1 ≡ f + size x
-    → Filled (spot (below x) f p n i) t (stand-entries t (64 * p + i) n i node) (i + 2)
+    → Filled (spot (below x) f p n i) t (stand-entries t (row-size * p + i) n i node) (i + 2)
 fill-stand {x = x} {f = f} {p = p} {n = n} {i = i} h t room node at =
     let r = room .of-nexts in
     let q = room .of-labels in
     record {
       ended = refl;
-      words = entry (getD-set-same (t .nexts) (64 * p + i) 0 0 (omega arith)) ends;
-      words-before = λ j low. getD-set-other (t .nexts) (64 * p + i) j 0 0 (λ e. omega arith);
-      leaves = labels-lie (t .labels) (64 * p + i) 0 (omega arith);
-      leaves-before = λ j low. labels-before (t .labels) (64 * p + i) 0 j low;
+      words = entry (getD-set-same (t .nexts) (row-size * p + i) 0 0 (omega arith)) ends;
+      words-before = λ j low. getD-set-other (t .nexts) (row-size * p + i) j 0 0 (λ e. omega arith);
+      leaves = labels-lie (t .labels) (row-size * p + i) 0 (omega arith);
+      leaves-before = λ j low. labels-before (t .labels) (row-size * p + i) 0 j low;
       placed = λ u k m. stand-placed h t room node at (m .inside) (m .stands-for) (m .same-piece);
       others = λ k none.
           let other : k ≡ n
@@ -215,15 +217,15 @@ cond-different a b x y e = ap (λ c. cond c x y) (ne-eqb a b e)
 -- the word of a node's start, by the kind of its record: `middle` is the number after its left or only child's last
 -- state
 abbrev pub start-word : (kind at middle : ℕ) → ℕ
-start-word kind at middle = cond (eqb kind 2) (2 ^ (at + 1)) (2 ^ (at + 1) + 2 ^ middle)
+start-word kind at middle = cond (eqb kind catenation-kind) (2 ^ (at + 1)) (2 ^ (at + 1) + 2 ^ middle)
 
 -- the word of the right or only child's accepting state: `last` is the number of the node's accepting state
 abbrev pub right-exit : (kind at middle last : ℕ) → ℕ
-right-exit kind at middle last = cond (eqb kind 4) (2 ^ (at + 1) + 2 ^ middle) (2 ^ last)
+right-exit kind at middle last = cond (eqb kind star-kind) (2 ^ (at + 1) + 2 ^ middle) (2 ^ last)
 
 -- the word of the left or only child's accepting state
 abbrev pub left-exit : (kind at middle last : ℕ) → ℕ
-left-exit kind at middle last = cond (eqb kind 2) (2 ^ middle) (right-exit kind at middle last)
+left-exit kind at middle last = cond (eqb kind catenation-kind) (2 ^ middle) (right-exit kind at middle last)
 
 -- the entries of a node with children, when those of its children are there; the piece's row begins at `base`
 abbrev pub joined : Tables → (base kind at middle last : ℕ) → Tables
@@ -268,7 +270,7 @@ either-union (step union-right m) s = inr m
 
 module _ {x y : Nested Leaf} {f p n i : ℕ} where
   -- catenations and unions are such nodes
-  pub catenation-joint : Joint 2 (spot (catenation x y) f p n i) (spot x f p n (i + 1))
+  pub catenation-joint : Joint catenation-kind (spot (catenation x y) f p n i) (spot x f p n (i + 1))
       (spot y (f + size x) p (n + run x) (i + (1 + width x)))
   catenation-joint = record {
     left = catenation-left;
@@ -284,7 +286,7 @@ module _ {x y : Nested Leaf} {f p n i : ℕ} where
     apart = λ k a b. omega arith;
   }
 
-  pub union-joint : Joint 3 (spot (union x y) f p n i) (spot x f p n (i + 1))
+  pub union-joint : Joint union-kind (spot (union x y) f p n i) (spot x f p n (i + 1))
       (spot y (f + size x) p (n + run x) (i + (1 + width x)))
   union-joint = record {
     left = union-left;
@@ -352,7 +354,7 @@ module _ {list : List ℕ} {kind : ℕ} {s l r : Spot} (j : Joint kind s l r) (h
 
   -- where the piece's row begins
   abbrev two-base : ℕ
-  two-base = 64 * piece s
+  two-base = row-size * piece s
 
   -- the words, from those of the children's parts
   two-words : Lies (joined after two-base kind (number s) middle last .nexts) (two-base + number s)
@@ -475,7 +477,7 @@ operand-only (step operand m) s = m
 module _ {list : List ℕ} {x : Nested Leaf} {f p n i : ℕ} (h : Fine list (spot (star x) f p n i)) (t after : Tables)
     (room : Room after) (last : ℕ) (a : Filled (spot x f p n (i + 1)) t after last) where
   -- a star's words, from those of its operand's part
-  star-words : Lies (joined after (64 * p) 4 i last last .nexts) (64 * p + i) (fronts (star x) i)
+  star-words : Lies (joined after (row-size * p) star-kind i last last .nexts) (row-size * p + i) (fronts (star x) i)
   star-words =
       let few = h .few in
       let later = h .later in
@@ -484,22 +486,22 @@ module _ {list : List ℕ} {x : Nested Leaf} {f p n i : ℕ} (h : Fine list (spo
       let wide-x = wide x in
       let long = length-fronts x (i + 1) in
       let full = room .of-nexts in
-      let table = joined after (64 * p) 4 i last last .nexts in
-      let z = 64 * p + last - 1 in
+      let table = joined after (row-size * p) star-kind i last last .nexts in
+      let z = row-size * p + last - 1 in
       let w = 2 ^ (i + 1) + 2 ^ last in
-      let front : Lies table (64 * p + i + 1) (fronts x (i + 1)) =
+      let front : Lies table (row-size * p + i + 1) (fronts x (i + 1)) =
       lies-at (lies-same table (a .words)
-      (λ k low high. thrice-other (after .nexts) (64 * p + i) z z w w w k (λ same. omega arith)
+      (λ k low high. thrice-other (after .nexts) (row-size * p + i) z z w w w k (λ same. omega arith)
       (λ same. omega arith) (λ same. omega arith))) (omega arith) in
-      let part : Lies table (64 * p + i + 1) (Plan.nexts x (i + 1) w) =
-      lies-is (lies-append front (entry (thrice-third (after .nexts) (64 * p + i) z z w w w (omega arith)) ends)
+      let part : Lies table (row-size * p + i + 1) (Plan.nexts x (i + 1) w) =
+      lies-is (lies-append front (entry (thrice-third (after .nexts) (row-size * p + i) z z w w w (omega arith)) ends)
       (omega arith)) (sym (nexts-fronts x (i + 1) w)) in
-      lies-is (entry (thrice-first (after .nexts) (64 * p + i) z z w w w (omega arith) (λ same. omega arith)
+      lies-is (entry (thrice-first (after .nexts) (row-size * p + i) z z w w w (omega arith) (λ same. omega arith)
       (λ same. omega arith)) part)
       (ap (λ (m : ℕ). (2 ^ (i + 1) + 2 ^ m) ∷ Plan.nexts x (i + 1) (2 ^ (i + 1) + 2 ^ m)) (omega arith))
 
   -- and its labels
-  star-leaves : Lies (joined after (64 * p) 4 i last last .labels) (64 * p + i) (takes (star x))
+  star-leaves : Lies (joined after (row-size * p) star-kind i last last .labels) (row-size * p + i) (takes (star x))
   star-leaves =
       let few = h .few in
       let later = h .later in
@@ -507,17 +509,18 @@ module _ {list : List ℕ} {x : Nested Leaf} {f p n i : ℕ} (h : Fine list (spo
       let e = a .ended in
       let long = length-takes x in
       let full = room .of-labels in
-      let table = joined after (64 * p) 4 i last last .labels in
-      let part : Lies table (64 * p + i + 1) (takes x) =
+      let table = joined after (row-size * p) star-kind i last last .labels in
+      let part : Lies table (row-size * p + i + 1) (takes x) =
       lies-at (lies-same table (a .leaves)
-      (λ k low high. labels-other (after .labels) (64 * p + i) (64 * p + last) k (λ same. omega arith)
+      (λ k low high. labels-other (after .labels) (row-size * p + i) (row-size * p + last) k (λ same. omega arith)
       (λ same. omega arith))) (omega arith) in
-      entry (labels-first (after .labels) (64 * p + i) (64 * p + last) (omega arith) (λ same. omega arith))
-      (lies-append part (entry (labels-last (after .labels) (64 * p + i) (64 * p + last) (omega arith)) ends)
+      entry (labels-first (after .labels) (row-size * p + i) (row-size * p + last) (omega arith) (λ same. omega arith))
+      (lies-append part
+      (entry (labels-last (after .labels) (row-size * p + i) (row-size * p + last) (omega arith)) ends)
       (omega arith))
 
   -- the part of a star
-  pub fill-star : Filled (spot (star x) f p n i) t (joined after (64 * p) 4 i last last) (last + 1)
+  pub fill-star : Filled (spot (star x) f p n i) t (joined after (row-size * p) star-kind i last last) (last + 1)
   fill-star =
       let e = a .ended in
       let wide-x = wide x in
@@ -525,10 +528,11 @@ module _ {list : List ℕ} {x : Nested Leaf} {f p n i : ℕ} (h : Fine list (spo
         ended = omega arith;
         words = star-words;
         words-before = λ k low.
-            thrice-other (after .nexts) (64 * p + i) (64 * p + last - 1) (64 * p + last - 1) _ _ _ k
+            thrice-other (after .nexts) (row-size * p + i) (row-size * p + last - 1) (row-size * p + last - 1) _ _ _ k
             (λ same. omega arith) (λ same. omega arith) (λ same. omega arith) ∙ a .words-before k (omega arith);
         leaves = star-leaves;
-        leaves-before = λ k low. labels-other (after .labels) (64 * p + i) (64 * p + last) k (λ same. omega arith)
+        leaves-before = λ k low. labels-other (after .labels) (row-size * p + i) (row-size * p + last) k
+            (λ same. omega arith)
             (λ same. omega arith) ∙ a .leaves-before k (omega arith);
         placed = λ u k m. still-placed (a .placed u k (down refl (operand-only (m .inside) (m .stands-for)) m))
             (record { stand = refl; root = refl });

@@ -8,6 +8,8 @@ use lib.ListN.{length, getD}
 use Rattle.language.specs.Tree.{Tree, nodes}
 use Rattle.language.specs.Nested.{Nested, leaf, catenation, union, star, below, own}
 use Rattle.tree.specs.Leaf.{Leaf}
+use Rattle.tree.specs.Limits.{most-pieces, most-records, most-states}
+use Rattle.tree.specs.Layout.{record-size}
 use Rattle.tree.specs.Records.{Good, piece-count}
 use Rattle.tree.specs.Parts.{Small, Every-below}
 use Rattle.tree.specs.Stored.{stored}
@@ -29,7 +31,7 @@ width-own (star x) = omega (arith, width-own x)
 width-own (below x) = refl
 
 -- a small piece has at most 62 states
-pub small-narrow : (x : Nested Leaf) → Small x → width x ≤ 62
+pub small-narrow : (x : Nested Leaf) → Small x → width x ≤ most-states
 small-narrow x small = omega (arith, width-own x, small .few-own-nodes)
 
 -- its root is a node
@@ -88,16 +90,17 @@ pub good-listed : {list : List ℕ} → Good-list list → Listed list
 good-listed h = record { some = cut-up (h .some); top = good-top (h .good) }
 
 -- the last record is the root's
-last-root : {list : List ℕ} {x : Nested Leaf} → Top list x → length list / 8 - 1 + 1 ≡ size x
+last-root : {list : List ℕ} {x : Nested Leaf} → Top list x → length list / record-size - 1 + 1 ≡ size x
 last-root {x = x} top = omega (arith, top .all, size-positive x)
 
 -- it has a record at least
-pub has-records : {list : List ℕ} → Listed list → (1 ≤ length list / 8) × (length list / 8 ≤ 1920)
+pub has-records : {list : List ℕ} → Listed list → (1 ≤ length list / record-size)
+    × (length list / record-size ≤ most-records)
 has-records h = omega (arith, h .top .all, size-positive (h .some), h .top .fine .short)
 
 -- the number of all pieces is one more than of those below the root's
-pub total-of : {list counts : List ℕ} {count total : ℕ} → Counted list counts (length list / 8)
-    → count ≡ getD counts (length list / 8 - 1) 0 → total ≡ count + 1 → Total list total
+pub total-of : {list counts : List ℕ} {count total : ℕ} → Counted list counts (length list / record-size)
+    → count ≡ getD counts (length list / record-size - 1) 0 → total ≡ count + 1 → Total list total
 total-of counted e f = record {
   counts-all = λ x top.
       omega (
@@ -111,9 +114,10 @@ total-of counted e f = record {
 
 -- before the first piece
 pub making-none : {list counts nexts labels runs stands tops roots : List ℕ} → Listed list
-    → Counted list counts (length list / 8) → length counts ≡ 1920 → Roomy nexts labels runs stands tops
-    → length roots ≡ 128
-    → getD roots 0 0 ≡ length list / 8 - 1 → Making list counts 0 (tables nexts labels stands roots) runs tops
+    → Counted list counts (length list / record-size) → length counts ≡ most-records
+    → Roomy nexts labels runs stands tops
+    → length roots ≡ most-pieces
+    → getD roots 0 0 ≡ length list / record-size - 1 → Making list counts 0 (tables nexts labels stands roots) runs tops
 making-none {runs = runs} {tops = tops} listed counted counts-room roomy roots-room first =
     record {
       listed = listed;

@@ -9,9 +9,11 @@ use lib.ListN.{length, getD, set, take, drop}
 use lib.Seq.{getD-set-same, getD-set-other}
 use Rattle.language.specs.Nested.{Nested, leaf, catenation, union, star, below}
 use Rattle.tree.specs.Leaf.{Leaf}
+use Rattle.tree.specs.Limits.{most-pieces, most-records, most-states}
+use Rattle.tree.specs.Layout.{record-size}
 use Rattle.tables.specs.Words.{width, run}
 use Rattle.tables.specs.Plan
-use Rattle.tables.specs.Plan.{takes}
+use Rattle.tables.specs.Plan.{row-size, takes}
 use Rattle.tables.specs.Entries.{
   Lies,
   ends,
@@ -132,8 +134,8 @@ owner {x} m = in-owner m (record { top = x; begin = 0; head = root; inside = her
 
 -- all entries of the piece n, which is the top piece of y, are there
 pub record Row-made (y : Nested Leaf) (n : ℕ) (t : Tables) (runs tops : List ℕ) : Type 0 where
-  pub words : Lies (t .nexts) (64 * n) (Plan.nexts y 0 0)
-  pub leaves : Lies (t .labels) (64 * n) (takes y)
+  pub words : Lies (t .nexts) (row-size * n) (Plan.nexts y 0 0)
+  pub leaves : Lies (t .labels) (row-size * n) (takes y)
   pub ran : getD runs n 0 ≡ 1 + run y
   pub topped : getD tops n 0 ≡ width y - 1
 
@@ -167,11 +169,12 @@ made-none x t runs tops e =
 
 -- the tables when a piece has been walked and its last word set
 abbrev pub closed-row : Tables → (k last : ℕ) → Tables
-closed-row t k last = tables (set (t .nexts) (64 * k + last - 1) 0) (t .labels) (t .stands) (t .roots)
+closed-row t k last = tables (set (t .nexts) (row-size * k + last - 1) 0) (t .labels) (t .stands) (t .roots)
 
 module _ {list : List ℕ} {x : Nested Leaf} (top : Top list x) (k : ℕ) (inside : k < 1 + run x) {t after : Tables}
     (full : Room after)
-    {runs tops : List ℕ} (runs-room : length runs ≡ 128) (tops-room : length tops ≡ 128) (made : Made x k t runs tops)
+    {runs tops : List ℕ} (runs-room : length runs ≡ most-pieces) (tops-room : length tops ≡ most-pieces)
+    (made : Made x k t runs tops)
     {last r : ℕ} (done : Visited list (getD (t .roots) k 0) k 0 t after last)
     (counted : Runs list (getD (t .roots) k 0) r) where
   -- the walk has filled the row of the piece k
@@ -185,7 +188,7 @@ module _ {list : List ℕ} {x : Nested Leaf} (top : Top list x) (k : ℕ) (insid
   this-filled : Filled (head-spot (this .top) (this .begin) k) t after last
   this-filled = filled (this .head)
 
-  few : k < 128
+  few : k < most-pieces
   few = omega (arith, top .fine .few)
 
   -- a stand-in of a piece made before keeps its place
@@ -228,13 +231,13 @@ module _ {list : List ℕ} {x : Nested Leaf} (top : Top list x) (k : ℕ) (insid
       let small = in-fine (head-in head) (top .fine) .narrow in
       let room = full .of-nexts in
       let low-k = few in
-      let front : Lies (closed-row after k last .nexts) (64 * k) (fronts y 0) =
+      let front : Lies (closed-row after k last .nexts) (row-size * k) (fronts y 0) =
       lies-at (lies-same (closed-row after k last .nexts) (part .words)
-      (λ j low high. getD-set-other (after .nexts) (64 * k + last - 1) j 0 0 (λ same. omega arith)))
+      (λ j low high. getD-set-other (after .nexts) (row-size * k + last - 1) j 0 0 (λ same. omega arith)))
       (omega arith) in
       record {
         words = lies-is
-            (lies-append front (entry (getD-set-same (after .nexts) (64 * k + last - 1) 0 0 (omega arith)) ends)
+            (lies-append front (entry (getD-set-same (after .nexts) (row-size * k + last - 1) 0 0 (omega arith)) ends)
             (omega arith)) (sym (nexts-fronts y 0 0));
         leaves = lies-at (part .leaves) (omega arith);
         ran = getD-set-same runs k (r + 1) 0 (omega arith)
@@ -259,7 +262,7 @@ module _ {list : List ℕ} {x : Nested Leaf} (top : Top list x) (k : ℕ) (insid
       let long-labels = length-takes y in
       record {
         words = lies-same (closed-row after k last .nexts) (row .words)
-            (λ j above high. getD-set-other (after .nexts) (64 * k + last - 1) j 0 0 (λ same. omega arith)
+            (λ j above high. getD-set-other (after .nexts) (row-size * k + last - 1) j 0 0 (λ same. omega arith)
             ∙ part .words-before j (omega arith));
         leaves = lies-same (after .labels) (row .leaves) (λ j above high. part .leaves-before j (omega arith));
         ran = getD-set-other runs k n (r + 1) 0 (λ same. omega arith) ∙ row .ran;
@@ -300,7 +303,7 @@ module _ {list : List ℕ} {x : Nested Leaf} (top : Top list x) {t : Tables} (ro
       let long = length-takes y in
       let small = in-fine (head-in head) (top .fine) in
       record {
-        labelled = subst (λ (k : ℕ). take k (drop (64 * n) (t .labels)) ≡ takes y) long
+        labelled = subst (λ (k : ℕ). take k (drop (row-size * n) (t .labels)) ≡ takes y) long
             (lies-row (row .leaves) (omega (arith, room .of-labels, small .narrow, small .later, small .few)));
         ran = row .ran;
         topped = row .topped;
@@ -312,7 +315,7 @@ module _ {list : List ℕ} {x : Nested Leaf} (top : Top list x) {t : Tables} (ro
       let row = made .rows head (head-low head) in
       let long = length-nexts y 0 0 in
       let small = in-fine (head-in head) (top .fine) in
-      subst (λ (k : ℕ). take k (drop (64 * n) (t .nexts)) ≡ Plan.nexts y 0 0) long
+      subst (λ (k : ℕ). take k (drop (row-size * n) (t .nexts)) ≡ Plan.nexts y 0 0) long
       (lies-row (row .words) (omega (arith, room .of-nexts, small .narrow, small .later, small .few)))
 
   -- so they do of the child pieces below each spot
@@ -346,11 +349,11 @@ module _ {list : List ℕ} {x : Nested Leaf} (top : Top list x) {t : Tables} (ro
 -- the tables of the list are being made, and have been made for the pieces up to k
 pub record Making (list counts : List ℕ) (k : ℕ) (t : Tables) (runs tops : List ℕ) : Type 0 where
   pub listed : Listed list
-  pub counted : Counted list counts (length list / 8)
-  pub counts-room : length counts ≡ 1920
+  pub counted : Counted list counts (length list / record-size)
+  pub counts-room : length counts ≡ most-records
   pub room : Room t
-  pub runs-room : length runs ≡ 128
-  pub tops-room : length tops ≡ 128
+  pub runs-room : length runs ≡ most-pieces
+  pub tops-room : length tops ≡ most-pieces
   pub so-far : (x : Nested Leaf) → Top list x → Made x k t runs tops
 
 -- k is the number of a piece
@@ -371,7 +374,7 @@ module _ {list counts : List ℕ} {k : ℕ} {t : Tables} {runs tops : List ℕ} 
   the-sits = head-sits the-top (making .so-far _ the-top) (the-piece .head)
 
   -- what its walk needs
-  pub piece-few : k < 128
+  pub piece-few : k < most-pieces
   piece-few = omega (arith, inside .below-count _ the-top, the-top .fine .few)
 
   pub piece-ready : Ready list (getD (t .roots) k 0) k 0 t
@@ -391,7 +394,7 @@ module _ {list counts : List ℕ} {k : ℕ} {t : Tables} {runs tops : List ℕ} 
 
   module _ {after : Tables} {last : ℕ} (done : Visited list (getD (t .roots) k 0) k 0 t after last) where
     -- the walk ends within the row
-    pub piece-ends : (2 ≤ last) × (last ≤ 62)
+    pub piece-ends : (2 ≤ last) × (last ≤ most-states)
     piece-ends = omega (arith, filled-ends the-sits (done _ the-sits))
 
     -- and the pieces up to k + 1 have been made
@@ -403,11 +406,11 @@ module _ {list counts : List ℕ} {k : ℕ} {t : Tables} {runs tops : List ℕ} 
 
 -- all that storing the piece's numbers needs
 pub record Storable (k last node count : ℕ) : Type 0 where
-  pub few : k < 128
+  pub few : k < most-pieces
   pub two : 2 ≤ last
-  pub narrow : last ≤ 62
-  pub few-nodes : node < 1920
-  pub small : count < 128
+  pub narrow : last ≤ most-states
+  pub few-nodes : node < most-records
+  pub small : count < most-pieces
 
 pub piece-storable : {list counts : List ℕ} {k : ℕ} {t after : Tables} {runs tops : List ℕ} {last : ℕ}
     → Making list counts k t runs tops → Inside list k
@@ -434,7 +437,7 @@ pub total-inside : {list : List ℕ} {k total : ℕ} → Total list total → k 
 total-inside all low = record { below-count = λ x top. omega (arith, all .counts-all x top) }
 
 -- there are at most 128 pieces
-pub total-few : {list : List ℕ} {total : ℕ} → Listed list → Total list total → total ≤ 128
+pub total-few : {list : List ℕ} {total : ℕ} → Listed list → Total list total → total ≤ most-pieces
 total-few listed all = omega (arith, all .counts-all _ (listed .top), listed .top .fine .few)
 
 -- from one piece to the next

@@ -1,6 +1,6 @@
 -- What is made of a list once, before any byte is read: for each piece where its states, its leaves and its child
 -- pieces are.
--- Entry 64 k + i of a table speaks of state i of the piece k.
+-- Entry row-size * k + i of a table speaks of state i of the piece k.
 -- Assumes nothing.
 use Prim.Native.Nat.{ℕ, _+_, _*_, _-_, _^_, _<_}
 use mathlib.Core.Path.{_≡_}
@@ -12,6 +12,14 @@ use Rattle.language.specs.Automaton.{State, Path-of}
 use Rattle.language.specs.Nested.{Nested, leaf, catenation, union, star, below, Own-empty, Own-reads}
 use Rattle.tree.specs.Leaf.{Leaf, character, has-empty, meaning}
 use Rattle.tables.specs.Words.{Bit, width, run, Own, number}
+
+-- how many entries a piece has in a table: one for each bit of a word, of which those of its states come first
+abbrev pub row-size : ℕ
+row-size = 64
+
+-- the entry of a piece's row that is no state's: its word has the bits of the states with a label
+abbrev pub leaves-entry : ℕ
+leaves-entry = 63
 
 -- the word of a leaf's start, numbered i: the bit of its accepting state, where the leaf has the empty text
 abbrev pub leaf-next : Leaf → ℕ → ℕ
@@ -46,7 +54,7 @@ takes (below x) = 0 ∷ 0 ∷ []
 
 -- the part of a table that speaks of the piece k, of n states
 abbrev pub row : List ℕ → ℕ → ℕ → List ℕ
-row table k n = take n (drop (64 * k) table)
+row table k n = take n (drop (row-size * k) table)
 
 -- the tables of the pieces: labels; for each piece how many pieces it and those below it are, the number of its
 -- stand-in's start in its parent, and the number of its last state

@@ -10,7 +10,19 @@ use lib.Seq.{getD-append-add}
 use Rattle.language.specs.Tree.{nodes}
 use Rattle.language.specs.Nested.{Nested, leaf, catenation, union, star, below, whole}
 use Rattle.tree.specs.Leaf.{Leaf}
-use Rattle.tree.specs.Layout.{record-of}
+use Rattle.tree.specs.Limits.{most-pieces, most-records, most-states}
+use Rattle.tree.specs.Layout.{
+  record-size,
+  character-kind,
+  catenation-kind,
+  union-kind,
+  star-kind,
+  no-child,
+  record-of,
+  piece-at,
+  Shows,
+}
+use Rattle.tree.specs.Fields.{shows}
 use Rattle.tree.specs.Records.{leaf-kind, leaf-character}
 use Rattle.tree.specs.Stored.{stored}
 use Rattle.tables.specs.Words.{width, run}
@@ -21,10 +33,10 @@ size x = nodes (whole x)
 
 -- the record of x's root
 abbrev pub root-record : Nested Leaf → (first piece new : ℕ) → List ℕ
-root-record (leaf a) f p n = record-of (leaf-kind a) (leaf-character a) 65535 65535 p
-root-record (catenation x y) f p n = record-of 2 0 (f + size x - 1) (f + size x + size y - 1) p
-root-record (union x y) f p n = record-of 3 0 (f + size x - 1) (f + size x + size y - 1) p
-root-record (star x) f p n = record-of 4 0 (f + size x - 1) 65535 p
+root-record (leaf a) f p n = record-of (leaf-kind a) (leaf-character a) no-child no-child p
+root-record (catenation x y) f p n = record-of catenation-kind 0 (f + size x - 1) (f + size x + size y - 1) p
+root-record (union x y) f p n = record-of union-kind 0 (f + size x - 1) (f + size x + size y - 1) p
+root-record (star x) f p n = record-of star-kind 0 (f + size x - 1) no-child p
 root-record (below x) f p n = root-record x f n (n + 1)
 
 -- there is a node at least: the root
@@ -51,8 +63,8 @@ stored-inner (union x y) f p n = refl
 stored-inner (star x) f p n = refl
 stored-inner (below x) f p n = stored-inner x f n (n + 1)
 
--- 8 bytes for each node
-pub length-stored : (x : Nested Leaf) (f p n : ℕ) → length (stored x f p n) ≡ 8 * size x
+-- a record for each node
+pub length-stored : (x : Nested Leaf) (f p n : ℕ) → length (stored x f p n) ≡ record-size * size x
 length-stored (leaf a) f p n = refl
 length-stored (catenation x y) f p n = let e = length-stored x in let g =
     length-stored y in simp (length-append, e, g) (omega arith)
@@ -61,8 +73,8 @@ length-stored (union x y) f p n = let e = length-stored x in let g =
 length-stored (star x) f p n = let e = length-stored x in simp (length-append, e) (omega arith)
 length-stored (below x) f p n = length-stored x f n (n + 1)
 
--- 8 bytes for each node but the root
-length-inner : (x : Nested Leaf) (f p n : ℕ) → length (inner x f p n) + 8 ≡ 8 * size x
+-- a record for each node but the root
+length-inner : (x : Nested Leaf) (f p n : ℕ) → length (inner x f p n) + record-size ≡ record-size * size x
 length-inner (leaf a) f p n = refl
 length-inner (catenation x y) f p n = let e = length-stored x in let g =
     length-stored y in simp (length-append, e, g) (omega arith)
@@ -70,38 +82,6 @@ length-inner (union x y) f p n = let e = length-stored x in let g =
     length-stored y in simp (length-append, e, g) (omega arith)
 length-inner (star x) f p n = let e = length-stored x in simp e (omega arith)
 length-inner (below x) f p n = length-inner x f n (n + 1)
-
--- the number in two bytes of a list
-abbrev pub word : List ℕ → ℕ → ℕ
-word list at = getD list at 0 + 256 * getD list (at + 1) 0
-
--- record r of the list has these fields
-pub record Shows (list : List ℕ) (r kind character left right piece : ℕ) : Type 0 where
-  pub kind-byte : getD list (8 * r) 0 ≡ kind
-  pub character-byte : getD list (8 * r + 1) 0 ≡ character
-  pub left-word : word list (8 * r + 2) ≡ left
-  pub right-word : word list (8 * r + 4) ≡ right
-  pub piece-word : word list (8 * r + 6) ≡ piece
-
--- a byte behind m others
-byte-past : (before rest : List ℕ) (m k : ℕ) → length before ≡ m → getD (before ++ rest) (m + k) 0 ≡ getD rest k 0
-byte-past before rest m k e = rw (← e) (getD-append-add before rest k 0)
-
--- a record that stands in the list after r others shows its fields
-shows : (before after : List ℕ) (r kind character left right piece : ℕ) → length before ≡ 8 * r → left < 65536
-    → right < 65536 → piece < 65536
-    → Shows (before ++ (record-of kind character left right piece ++ after)) r kind character left right piece
-shows before after r kind character left right piece e small-left small-right small-piece =
-    let rest = record-of kind character left right piece ++ after in
-    let at : (k m : ℕ) → 8 * r + k ≡ m → getD (before ++ rest) m 0 ≡ getD rest k 0 =
-    λ k m h. rw (← h) (byte-past before rest (8 * r) k e) in
-    record {
-      kind-byte = at 0 _ (omega arith);
-      character-byte = at 1 _ (omega arith);
-      left-word = omega (arith, at 2 (8 * r + 2) (omega arith), at 3 (8 * r + 2 + 1) (omega arith));
-      right-word = omega (arith, at 4 (8 * r + 4) (omega arith), at 5 (8 * r + 4 + 1) (omega arith));
-      piece-word = omega (arith, at 6 (8 * r + 6) (omega arith), at 7 (8 * r + 6 + 1) (omega arith));
-    }
 
 -- a node, or a stand-in with the child piece below it, and where it stands: the number of its first record, its piece,
 -- the number from which the child pieces below it are numbered, and the number of its start in its piece
@@ -163,22 +143,22 @@ Sound (leaf a) = Unit {0}
 Sound (catenation x y) = Sound x × Sound y
 Sound (union x y) = Sound x × Sound y
 Sound (star x) = Sound x
-Sound (below x) = Plain x × (width x ≤ 62) × Sound x
+Sound (below x) = Plain x × (width x ≤ most-states) × Sound x
 
 -- the records of the spot stand in the list
 pub record Written (list : List ℕ) (s : Spot) : Type 0 where
   pub before : List ℕ
   pub after : List ℕ
   pub parts : list ≡ before ++ (stored (tree s) (first s) (piece s) (new s) ++ after)
-  pub begins : length before ≡ 8 * first s
+  pub begins : length before ≡ record-size * first s
 
 -- the spot stands in the list, and its numbers are within bounds
 pub record Fine (list : List ℕ) (s : Spot) : Type 0 where
   pub written : Written list s
   pub later : piece s < new s
-  pub few : new s + run (tree s) ≤ 128
-  pub narrow : number s + width (tree s) ≤ 62
-  pub short : first s + size (tree s) ≤ 1920
+  pub few : new s + run (tree s) ≤ most-pieces
+  pub narrow : number s + width (tree s) ≤ most-states
+  pub short : first s + size (tree s) ≤ most-records
   pub sound : Sound (tree s)
 
 -- three parts, and what is before and after them
@@ -320,32 +300,32 @@ root-shows {list} {s = spot x f p n i} w r kind character left right own at e sm
 module _ {list : List ℕ} {f p n i : ℕ} where
   -- what the record of a node shows, by the node's kind
   pub leaf-shows : {a : ℕ} → Fine list (spot (leaf (Leaf.character a)) f p n i) → (r : ℕ) → r + 1 ≡ f + 1
-      → Shows list r 1 a 65535 65535 p
+      → Shows list r character-kind a no-child no-child p
   leaf-shows h r at = root-shows (h .written) r _ _ _ _ _ at refl (omega arith) (omega arith) (omega arith)
 
   pub catenation-shows : {x y : Nested Leaf} → Fine list (spot (catenation x y) f p n i) → (r : ℕ)
-      → r + 1 ≡ f + size (catenation x y) → Shows list r 2 0 (f + size x - 1) (f + size x + size y - 1) p
+      → r + 1 ≡ f + size (catenation x y) → Shows list r catenation-kind 0 (f + size x - 1) (f + size x + size y - 1) p
   catenation-shows h r at = root-shows (h .written) r _ _ _ _ _ at refl (omega arith) (omega arith) (omega arith)
 
   pub union-shows : {x y : Nested Leaf} → Fine list (spot (union x y) f p n i) → (r : ℕ) → r + 1 ≡ f + size (union x y)
-      → Shows list r 3 0 (f + size x - 1) (f + size x + size y - 1) p
+      → Shows list r union-kind 0 (f + size x - 1) (f + size x + size y - 1) p
   union-shows h r at = root-shows (h .written) r _ _ _ _ _ at refl (omega arith) (omega arith) (omega arith)
 
   pub star-shows : {x : Nested Leaf} → Fine list (spot (star x) f p n i) → (r : ℕ) → r + 1 ≡ f + size (star x)
-      → Shows list r 4 0 (f + size x - 1) 65535 p
+      → Shows list r star-kind 0 (f + size x - 1) no-child p
   star-shows h r at = root-shows (h .written) r _ _ _ _ _ at refl (omega arith) (omega arith) (omega arith)
 
 -- the piece that a node's record shows is the node's
 pub piece-shows : {list : List ℕ} {f p n i : ℕ} (x : Nested Leaf) → Plain x → Fine list (spot x f p n i) → (r : ℕ)
-    → r + 1 ≡ f + size x → word list (8 * r + 6) ≡ p
-piece-shows (leaf (Leaf.character a)) plain h r at = leaf-shows h r at .piece-word
-piece-shows (catenation x y) plain h r at = catenation-shows h r at .piece-word
-piece-shows (union x y) plain h r at = union-shows h r at .piece-word
-piece-shows (star x) plain h r at = star-shows h r at .piece-word
+    → r + 1 ≡ f + size x → piece-at list r ≡ p
+piece-shows (leaf (Leaf.character a)) plain h r at = leaf-shows h r at .piece-is
+piece-shows (catenation x y) plain h r at = catenation-shows h r at .piece-is
+piece-shows (union x y) plain h r at = union-shows h r at .piece-is
+piece-shows (star x) plain h r at = star-shows h r at .piece-is
 piece-shows (below x) plain h r at = absurd plain
 
 -- the list holds the records of the spot
-pub within : {list : List ℕ} {s : Spot} → Fine list s → 8 * (first s + size (tree s)) ≤ length list
+pub within : {list : List ℕ} {s : Spot} → Fine list s → record-size * (first s + size (tree s)) ≤ length list
 within {list} {s = spot x f p n i} h =
     let w = h .written in
     let e = w .begins in

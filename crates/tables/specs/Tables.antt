@@ -10,14 +10,16 @@ use Rattle.language.specs.Tree.{Tree}
 use Rattle.language.specs.Automaton.{Started, After}
 use Rattle.language.specs.Nested.{Models}
 use Rattle.tree.specs.Leaf.{Leaf, meaning, Matches}
+use Rattle.tree.specs.Limits.{most-pieces, most-states}
 use Rattle.tree.specs.Records.{piece-count}
 use Rattle.tree.specs.Pieces.{cut-up}
 use Rattle.tables.specs.Words.{Bit, Holds, Clean}
-use Rattle.tables.specs.Plan.{Planned, Each, Reaches}
+use Rattle.tables.specs.Plan.{row-size, leaves-entry, Planned, Each, Reaches}
 
--- entry 63 of the piece k, which is no state's, has the bits of the states with a label
+-- the entry of the piece k that is no state's has the bits of the states with a label
 pub record Noted (reach labels : List ℕ) (k : ℕ) : Type 0 where
-  pub leaves : (i : ℕ) → i < 62 → (getD labels (64 * k + i) 0 ≡ 0 → ⊥) → Bit (getD reach (64 * k + 63) 0) i
+  pub leaves : (i : ℕ) → i < most-states → (getD labels (row-size * k + i) 0 ≡ 0 → ⊥)
+      → Bit (getD reach (row-size * k + leaves-entry) 0) i
 
 -- the tables are those of t: of its pieces, and the closing table of each, with its leaves noted
 pub record Prepared (t : Tree Leaf) (reach labels runs stands tops : List ℕ) (count : ℕ) : Type 0 where
@@ -25,15 +27,15 @@ pub record Prepared (t : Tree Leaf) (reach labels runs stands tops : List ℕ) (
   pub reached : Each Reaches reach (cut-up t)
   pub noted : (k : ℕ) → k < count → Noted reach labels k
   pub counted : count ≡ piece-count t
-  pub few : piece-count t ≤ 128
+  pub few : piece-count t ≤ most-pieces
 
 -- the tables have room for 128 pieces of 64 states
 pub record Roomy (reach labels runs stands tops : List ℕ) : Type 0 where
-  pub reach-room : length reach ≡ 8192
-  pub labels-room : length labels ≡ 8192
-  pub runs-room : length runs ≡ 128
-  pub stands-room : length stands ≡ 128
-  pub tops-room : length tops ≡ 128
+  pub reach-room : length reach ≡ row-size * most-pieces
+  pub labels-room : length labels ≡ row-size * most-pieces
+  pub runs-room : length runs ≡ most-pieces
+  pub stands-room : length stands ≡ most-pieces
+  pub tops-room : length tops ≡ most-pieces
 
 -- the tables are those of some tree
 pub record Ready (reach labels runs stands tops : List ℕ) (count : ℕ) : Type 0 where

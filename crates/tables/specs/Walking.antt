@@ -7,6 +7,18 @@ use native.Mathlib.Omega.{arith}
 use lib.ListN.{length, getD, set}
 use Rattle.language.specs.Nested.{Nested, leaf, catenation, union, star, below}
 use Rattle.tree.specs.Leaf.{Leaf, character}
+use Rattle.tree.specs.Limits.{most-pieces, most-records, most-states}
+use Rattle.tree.specs.Layout.{
+  record-size,
+  character-kind,
+  star-kind,
+  kind-at,
+  character-at,
+  left-at,
+  right-at,
+  piece-at,
+}
+use Rattle.tables.specs.Plan.{row-size}
 use Rattle.tables.specs.Entries.{wide, thrice}
 use Rattle.tables.specs.Standing.{
   size,
@@ -22,7 +34,6 @@ use Rattle.tables.specs.Standing.{
   under,
   Fine,
   child-fine,
-  word,
   leaf-shows,
   catenation-shows,
   union-shows,
@@ -56,28 +67,12 @@ pub data Sits (list : List ℕ) (node : ℕ) : (piece at : ℕ) → Spot → Typ
   sits : {x : Nested Leaf} {f p n i : ℕ} → Fine list (spot x f p n i) → node + 1 ≡ f + size x
       → Sits list node p i (spot x f p n i)
 
--- the piece that the record shows, its kind, and the records of its children
-abbrev pub own-piece : List ℕ → ℕ → ℕ
-own-piece list node = word list (8 * node + 6)
-
--- the kind that it shows
-abbrev pub kind-of : List ℕ → ℕ → ℕ
-kind-of list node = getD list (8 * node) 0
-
--- the record of its left or only child
-abbrev pub left-of : List ℕ → ℕ → ℕ
-left-of list node = word list (8 * node + 2)
-
--- the record of its right child
-abbrev pub right-of : List ℕ → ℕ → ℕ
-right-of list node = word list (8 * node + 4)
-
 -- how far the numbers at a spot go
 pub record Within (list : List ℕ) (node piece at : ℕ) : Type 0 where
-  pub listed : 8 * node + 8 ≤ length list
-  pub few-nodes : node < 1920
-  pub few-pieces : piece < 128
-  pub narrow : at + 2 ≤ 62
+  pub listed : record-size * node + record-size ≤ length list
+  pub few-nodes : node < most-records
+  pub few-pieces : piece < most-pieces
+  pub narrow : at + 2 ≤ most-states
 
 -- the numbers of a spot that sits in the list are within bounds
 pub bounds : {list : List ℕ} {node piece at : ℕ} {s : Spot} → Sits list node piece at s → Within list node piece at
@@ -91,28 +86,30 @@ bounds (sits {x = x} h e) = record {
 
 -- a stand-in's record shows the child piece, which is new
 below-shows : {list : List ℕ} {x : Nested Leaf} {f p n i : ℕ} → Fine list (spot (below x) f p n i) → (node : ℕ)
-    → node + 1 ≡ f + size x → own-piece list node ≡ n
+    → node + 1 ≡ f + size x → piece-at list node ≡ n
 below-shows {x = x} h node e = piece-shows x (h .sound .0) (child-fine under h) node e
 
 below-differs : {list : List ℕ} {x : Nested Leaf} {f p n i : ℕ} → Fine list (spot (below x) f p n i) → (node : ℕ)
-    → node + 1 ≡ f + size x → own-piece list node ≡ p → ⊥
+    → node + 1 ≡ f + size x → piece-at list node ≡ p → ⊥
 below-differs h node e same = omega (arith, below-shows h node e, h .later)
 
 -- where the record shows another piece than the walk's, the spot is a stand-in
 pub visit-stand : {list : List ℕ} {node piece at : ℕ} {s : Spot} → Sits list node piece at s
-    → (own-piece list node ≡ piece → ⊥) → (t : Tables) → Room t
-    → Filled s t (stand-entries t (64 * piece + at) (own-piece list node) at node) (at + 2)
+    → (piece-at list node ≡ piece → ⊥) → (t : Tables) → Room t
+    → Filled s t (stand-entries t (row-size * piece + at) (piece-at list node) at node) (at + 2)
 visit-stand (sits {x = leaf (character a)} h e) other t room =
     absurd (other (piece-shows (leaf (character a)) tt h _ e))
 visit-stand (sits {x = catenation x y} h e) other t room = absurd (other (piece-shows (catenation x y) tt h _ e))
 visit-stand (sits {x = union x y} h e) other t room = absurd (other (piece-shows (union x y) tt h _ e))
 visit-stand (sits {x = star x} h e) other t room = absurd (other (piece-shows (star x) tt h _ e))
 visit-stand {list} {node} {piece} {at} (sits {x = below x} {f = f} {n = n} h e) other t room =
-    subst (λ (k : ℕ). Filled (spot (below x) f piece n at) t (stand-entries t (64 * piece + at) k at node) (at + 2))
+    subst
+    (λ (k : ℕ). Filled (spot (below x) f piece n at) t (stand-entries t (row-size * piece + at) k at node) (at + 2))
     (sym (below-shows h node e)) (fill-stand h t room node e)
 
 -- the piece that a record shows is one of 128
-pub stand-few : {list : List ℕ} {node piece at : ℕ} {s : Spot} → Sits list node piece at s → own-piece list node < 128
+pub stand-few : {list : List ℕ} {node piece at : ℕ} {s : Spot} → Sits list node piece at s
+    → piece-at list node < most-pieces
 stand-few (sits {x = leaf (character a)} h e) =
     omega (arith, piece-shows (leaf (character a)) tt h _ e, h .later, h .few)
 stand-few (sits {x = catenation x y} h e) = omega (arith, piece-shows (catenation x y) tt h _ e, h .later, h .few)
@@ -122,18 +119,18 @@ stand-few {node = node} (sits {x = below x} h e) = omega (arith, below-shows h n
 
 -- where it shows a character, the spot is a leaf
 pub visit-leaf : {list : List ℕ} {node piece at : ℕ} {s : Spot} → Sits list node piece at s
-    → own-piece list node ≡ piece → kind-of list node ≡ 1 → (t : Tables) → Room t
-    → Filled s t (two-entries t (64 * piece + at) (getD list (8 * node + 1) 0 + 1)) (at + 2)
+    → piece-at list node ≡ piece → kind-at list node ≡ character-kind → (t : Tables) → Room t
+    → Filled s t (two-entries t (row-size * piece + at) (character-at list node + 1)) (at + 2)
 visit-leaf {list} {node} {piece} {at} (sits {x = leaf (character a)} {f = f} {n = n} h e) own kind t room =
-    subst (λ (b : ℕ). Filled (spot (leaf (character a)) f piece n at) t (two-entries t (64 * piece + at) (b + 1))
+    subst (λ (b : ℕ). Filled (spot (leaf (character a)) f piece n at) t (two-entries t (row-size * piece + at) (b + 1))
     (at + 2))
-    (sym (leaf-shows h node e .character-byte)) (fill-leaf h t room)
+    (sym (leaf-shows h node e .character-is)) (fill-leaf h t room)
 visit-leaf {node = node} (sits {x = catenation x y} h e) own kind t room =
-    absurd (omega (arith, catenation-shows h node e .kind-byte))
+    absurd (omega (arith, catenation-shows h node e .kind-is))
 visit-leaf {node = node} (sits {x = union x y} h e) own kind t room =
-    absurd (omega (arith, union-shows h node e .kind-byte))
+    absurd (omega (arith, union-shows h node e .kind-is))
 visit-leaf {node = node} (sits {x = star x} h e) own kind t room =
-    absurd (omega (arith, star-shows h node e .kind-byte))
+    absurd (omega (arith, star-shows h node e .kind-is))
 visit-leaf {node = node} (sits {x = below x} h e) own kind t room = absurd (below-differs h node e own)
 
 -- the left or only child's spot
@@ -154,14 +151,15 @@ left-kid {x = x} h e low = record {
 
 -- where the record shows no character, there is a left or only child
 pub visit-left : {list : List ℕ} {node piece at : ℕ} {s : Spot} → Sits list node piece at s
-    → own-piece list node ≡ piece → (kind-of list node ≡ 1 → ⊥) → Kid list node (left-of list node) piece (at + 1)
-visit-left {node = node} (sits {x = leaf (character a)} h e) own kind = absurd (kind (leaf-shows h node e .kind-byte))
+    → piece-at list node ≡ piece → (kind-at list node ≡ character-kind → ⊥)
+    → Kid list node (left-at list node) piece (at + 1)
+visit-left {node = node} (sits {x = leaf (character a)} h e) own kind = absurd (kind (leaf-shows h node e .kind-is))
 visit-left {node = node} (sits {x = catenation x y} h e) own kind =
-    left-kid (child-fine catenation-left h) (catenation-shows h node e .left-word) (omega arith)
+    left-kid (child-fine catenation-left h) (catenation-shows h node e .left-is) (omega arith)
 visit-left {node = node} (sits {x = union x y} h e) own kind =
-    left-kid (child-fine union-left h) (union-shows h node e .left-word) (omega arith)
+    left-kid (child-fine union-left h) (union-shows h node e .left-is) (omega arith)
 visit-left {node = node} (sits {x = star x} h e) own kind =
-    left-kid (child-fine operand h) (star-shows h node e .left-word) (omega arith)
+    left-kid (child-fine operand h) (star-shows h node e .left-is) (omega arith)
 visit-left {node = node} (sits {x = below x} h e) own kind = absurd (below-differs h node e own)
 
 -- what a child's visit has filled, whatever spot sits there
@@ -175,20 +173,20 @@ kid-sits {x = x} child h e = sits h (omega (arith, size-positive x))
 
 -- where it shows a star, the spot is one
 pub visit-star : {list : List ℕ} {node piece at : ℕ} {s : Spot} → Sits list node piece at s
-    → own-piece list node ≡ piece → kind-of list node ≡ 4 → (t after : Tables) → Room after → (last : ℕ)
-    → Visited list (left-of list node) piece (at + 1) t after last
-    → Filled s t (joined after (64 * piece) (kind-of list node) at last last) (last + 1)
+    → piece-at list node ≡ piece → kind-at list node ≡ star-kind → (t after : Tables) → Room after → (last : ℕ)
+    → Visited list (left-at list node) piece (at + 1) t after last
+    → Filled s t (joined after (row-size * piece) (kind-at list node) at last last) (last + 1)
 visit-star {node = node} (sits {x = leaf (character a)} h e) own kind t after room last done =
-    absurd (omega (arith, leaf-shows h node e .kind-byte))
+    absurd (omega (arith, leaf-shows h node e .kind-is))
 visit-star {node = node} (sits {x = catenation x y} h e) own kind t after room last done =
-    absurd (omega (arith, catenation-shows h node e .kind-byte))
+    absurd (omega (arith, catenation-shows h node e .kind-is))
 visit-star {node = node} (sits {x = union x y} h e) own kind t after room last done =
-    absurd (omega (arith, union-shows h node e .kind-byte))
+    absurd (omega (arith, union-shows h node e .kind-is))
 visit-star {list} {node} {piece} {at} (sits {x = star x} {f = f} {n = n} h e) own kind t after room last done =
-    subst (λ (k : ℕ). Filled (spot (star x) f piece n at) t (joined after (64 * piece) k at last last) (last + 1))
+    subst (λ (k : ℕ). Filled (spot (star x) f piece n at) t (joined after (row-size * piece) k at last last) (last + 1))
     (sym kind)
     (fill-star h t after room last
-    (done _ (kid-sits (left-of list node) (child-fine operand h) (star-shows h node e .left-word))))
+    (done _ (kid-sits (left-at list node) (child-fine operand h) (star-shows h node e .left-is))))
 visit-star {node = node} (sits {x = below x} h e) own kind t after room last done = absurd (below-differs h node e own)
 
 right-kid : {list : List ℕ} {x : Nested Leaf} {f p n i node child at : ℕ} → Fine list (spot x f p n i)
@@ -198,36 +196,37 @@ right-kid {list} {p = p} {node = node} {child = child} h e low same =
 
 -- where it shows neither a character nor a star, there is a right child, whose part begins where the left one ended
 pub visit-right : {list : List ℕ} {node piece at : ℕ} {s : Spot} → Sits list node piece at s
-    → own-piece list node ≡ piece → (kind-of list node ≡ 1 → ⊥) → (kind-of list node ≡ 4 → ⊥)
-    → (t mid : Tables) → (middle : ℕ) → Visited list (left-of list node) piece (at + 1) t mid middle
-    → Kid list node (right-of list node) piece middle
+    → piece-at list node ≡ piece → (kind-at list node ≡ character-kind → ⊥) → (kind-at list node ≡ star-kind → ⊥)
+    → (t mid : Tables) → (middle : ℕ) → Visited list (left-at list node) piece (at + 1) t mid middle
+    → Kid list node (right-at list node) piece middle
 visit-right {node = node} (sits {x = leaf (character a)} h e) own kind other t mid middle done =
-    absurd (kind (leaf-shows h node e .kind-byte))
+    absurd (kind (leaf-shows h node e .kind-is))
 visit-right {list} {node} (sits {x = catenation x y} h e) own kind other t mid middle done =
     let a = done _
-    (kid-sits (left-of list node) (child-fine catenation-left h) (catenation-shows h node e .left-word)) in
-    right-kid (child-fine catenation-right h) (catenation-shows h node e .right-word) (omega arith)
+    (kid-sits (left-at list node) (child-fine catenation-left h) (catenation-shows h node e .left-is)) in
+    right-kid (child-fine catenation-right h) (catenation-shows h node e .right-is) (omega arith)
     (omega (arith, a .ended))
 visit-right {list} {node} (sits {x = union x y} h e) own kind other t mid middle done =
-    let a = done _ (kid-sits (left-of list node) (child-fine union-left h) (union-shows h node e .left-word)) in
-    right-kid (child-fine union-right h) (union-shows h node e .right-word) (omega arith) (omega (arith, a .ended))
+    let a = done _ (kid-sits (left-at list node) (child-fine union-left h) (union-shows h node e .left-is)) in
+    right-kid (child-fine union-right h) (union-shows h node e .right-is) (omega arith) (omega (arith, a .ended))
 visit-right {node = node} (sits {x = star x} h e) own kind other t mid middle done =
-    absurd (other (star-shows h node e .kind-byte))
+    absurd (other (star-shows h node e .kind-is))
 visit-right {node = node} (sits {x = below x} h e) own kind other t mid middle done =
     absurd (below-differs h node e own)
 
 -- both children have been visited
 two-visited : {list : List ℕ} {kind node piece at : ℕ} {s l r : Spot} → Joint kind s l r → Fine list s
     → Sits list node piece at s → (t mid after : Tables) → Room after → (middle last : ℕ)
-    → Sits list (left-of list node) piece (at + 1) l → Visited list (left-of list node) piece (at + 1) t mid middle
-    → ((k : ℕ) → number r ≡ k → Sits list (right-of list node) piece k r)
-    → Visited list (right-of list node) piece middle mid after last
-    → kind-of list node ≡ kind → Filled s t (joined after (64 * piece) (kind-of list node) at middle last) (last + 1)
+    → Sits list (left-at list node) piece (at + 1) l → Visited list (left-at list node) piece (at + 1) t mid middle
+    → ((k : ℕ) → number r ≡ k → Sits list (right-at list node) piece k r)
+    → Visited list (right-at list node) piece middle mid after last
+    → kind-at list node ≡ kind
+    → Filled s t (joined after (row-size * piece) (kind-at list node) at middle last) (last + 1)
 two-visited {list} {node = node} {s = s} j h (sits {p = p} {i = i} g e) t mid after room middle last sits-l done-l
     sits-r done-r kind =
     let a = done-l _ sits-l in
     let b = done-r _ (sits-r middle (omega (arith, a .ended, j .number-left, j .number-right))) in
-    subst (λ (k : ℕ). Filled s t (joined after (64 * p) k i middle last) (last + 1)) (sym kind)
+    subst (λ (k : ℕ). Filled s t (joined after (row-size * p) k i middle last) (last + 1)) (sym kind)
     (fill-two j h t mid after room middle last a b)
 
 right-sits : {list : List ℕ} {x : Nested Leaf} {f p n i : ℕ} (child : ℕ) → Fine list (spot x f p n i)
@@ -236,38 +235,38 @@ right-sits {list} {x} {f} {p} {n} {i} child h e k same =
     subst (λ (m : ℕ). Sits list child p m (spot x f p n i)) same (kid-sits child h e)
 
 -- where it shows neither a character nor a star, the spot is a node with two children
-pub visit-two : {list : List ℕ} {node piece at : ℕ} {s : Spot} → Sits list node piece at s → own-piece list node ≡ piece
-    → (kind-of list node ≡ 1 → ⊥) → (kind-of list node ≡ 4 → ⊥)
+pub visit-two : {list : List ℕ} {node piece at : ℕ} {s : Spot} → Sits list node piece at s → piece-at list node ≡ piece
+    → (kind-at list node ≡ character-kind → ⊥) → (kind-at list node ≡ star-kind → ⊥)
     → (t mid after : Tables) → Room after → (middle last : ℕ)
-    → Visited list (left-of list node) piece (at + 1) t mid middle
-    → Visited list (right-of list node) piece middle mid after last
-    → Filled s t (joined after (64 * piece) (kind-of list node) at middle last) (last + 1)
+    → Visited list (left-at list node) piece (at + 1) t mid middle
+    → Visited list (right-at list node) piece middle mid after last
+    → Filled s t (joined after (row-size * piece) (kind-at list node) at middle last) (last + 1)
 visit-two {node = node} (sits {x = leaf (character a)} h e) own kind other t mid after room middle last done-l done-r =
-    absurd (kind (leaf-shows h node e .kind-byte))
+    absurd (kind (leaf-shows h node e .kind-is))
 visit-two {list} {node} (sits {x = catenation x y} h e) own kind other t mid after room middle last done-l done-r =
     let shown = catenation-shows h node e in
     two-visited catenation-joint h (sits h e) t mid after room middle last
-    (kid-sits (left-of list node) (child-fine catenation-left h) (shown .left-word)) done-l
-    (right-sits (right-of list node) (child-fine catenation-right h) (shown .right-word)) done-r (shown .kind-byte)
+    (kid-sits (left-at list node) (child-fine catenation-left h) (shown .left-is)) done-l
+    (right-sits (right-at list node) (child-fine catenation-right h) (shown .right-is)) done-r (shown .kind-is)
 visit-two {list} {node} (sits {x = union x y} h e) own kind other t mid after room middle last done-l done-r =
     let shown = union-shows h node e in
     two-visited union-joint h (sits h e) t mid after room middle last
-    (kid-sits (left-of list node) (child-fine union-left h) (shown .left-word)) done-l
-    (right-sits (right-of list node) (child-fine union-right h) (shown .right-word)) done-r (shown .kind-byte)
+    (kid-sits (left-at list node) (child-fine union-left h) (shown .left-is)) done-l
+    (right-sits (right-at list node) (child-fine union-right h) (shown .right-is)) done-r (shown .kind-is)
 visit-two {node = node} (sits {x = star x} h e) own kind other t mid after room middle last done-l done-r =
-    absurd (other (star-shows h node e .kind-byte))
+    absurd (other (star-shows h node e .kind-is))
 visit-two {node = node} (sits {x = below x} h e) own kind other t mid after room middle last done-l done-r =
     absurd (below-differs h node e own)
 
 -- a part that was filled ends within the row
 pub filled-ends : {list : List ℕ} {node piece at end : ℕ} {s : Spot} {t after : Tables} → Sits list node piece at s
-    → Filled s t after end → (at + 2 ≤ end) × (end ≤ 62)
+    → Filled s t after end → (at + 2 ≤ end) × (end ≤ most-states)
 filled-ends (sits {x = x} h e) filled = omega (arith, wide x, h .narrow, filled .ended)
 
 -- the tables of words and of labels have room for 128 pieces of 64 states
 pub record Wide (nexts labels : List ℕ) : Type 0 where
-  pub of-nexts : length nexts ≡ 8192
-  pub of-labels : length labels ≡ 8192
+  pub of-nexts : length nexts ≡ row-size * most-pieces
+  pub of-labels : length labels ≡ row-size * most-pieces
 
 pub wide-enough : {t : Tables} → Room t → Wide (t .nexts) (t .labels)
 wide-enough room = record { of-nexts = room .of-nexts; of-labels = room .of-labels }
@@ -299,43 +298,44 @@ filled-as {s} {t} {after} {other} {end} filled e f =
 
 -- the record was found to be of the walk's piece
 pub record Met (list : List ℕ) (node piece own kind : ℕ) : Type 0 where
-  pub shown : own ≡ own-piece list node
+  pub shown : own ≡ piece-at list node
   pub same : own ≡ piece
-  pub of-kind : kind ≡ kind-of list node
+  pub of-kind : kind ≡ kind-at list node
 
 -- a stand-in's record was visited
-pub visited-stand : {list : List ℕ} {node piece at own end : ℕ} {t after : Tables} → Room t → own ≡ own-piece list node
-    → (own ≡ piece → ⊥) → end ≡ at + 2 → after ≡ stand-entries t (64 * piece + at) own at node
+pub visited-stand : {list : List ℕ} {node piece at own end : ℕ} {t after : Tables} → Room t → own ≡ piece-at list node
+    → (own ≡ piece → ⊥) → end ≡ at + 2 → after ≡ stand-entries t (row-size * piece + at) own at node
     → Visited list node piece at t after end
 visited-stand {list} {node} {piece} {at} {t = t} room shown other e f s here =
     filled-as (visit-stand here (λ same. other (shown ∙ same)) t room)
-    (f ∙ ap (λ (k : ℕ). stand-entries t (64 * piece + at) k at node) shown) e
+    (f ∙ ap (λ (k : ℕ). stand-entries t (row-size * piece + at) k at node) shown) e
 
 module _ {list : List ℕ} {node piece own kind : ℕ} (met : Met list node piece own kind) where
   -- with the fields as they were read
-  met-own : own-piece list node ≡ piece
+  met-own : piece-at list node ≡ piece
   met-own = sym (met .shown) ∙ met .same
 
-  met-kind : (k : ℕ) → kind ≡ k → kind-of list node ≡ k
+  met-kind : (k : ℕ) → kind ≡ k → kind-at list node ≡ k
   met-kind k e = sym (met .of-kind) ∙ e
 
-  met-other : (k : ℕ) → (kind ≡ k → ⊥) → kind-of list node ≡ k → ⊥
+  met-other : (k : ℕ) → (kind ≡ k → ⊥) → kind-at list node ≡ k → ⊥
   met-other k other e = other (met .of-kind ∙ e)
 
   -- a leaf's record was visited
   pub visited-leaf : {at end : ℕ} {nexts labels words leaves stands roots : List ℕ}
-      → Room (tables nexts labels stands roots) → kind ≡ 1 → end ≡ at + 2
-      → words ≡ set nexts (64 * piece + at) 0
-      → leaves ≡ set (set labels (64 * piece + at) (getD list (8 * node + 1) 0 + 1)) (64 * piece + at + 1) 0
+      → Room (tables nexts labels stands roots) → kind ≡ character-kind → end ≡ at + 2
+      → words ≡ set nexts (row-size * piece + at) 0
+      → leaves ≡ set (set labels (row-size * piece + at) (character-at list node + 1)) (row-size * piece + at + 1) 0
       → Visited list node piece at (tables nexts labels stands roots) (tables words leaves stands roots) end
-  visited-leaf room e g f h s here = filled-as (visit-leaf here met-own (met-kind 1 e) _ room) (tables-same _ _ f h) g
+  visited-leaf room e g f h s here = filled-as (visit-leaf here met-own (met-kind character-kind e) _ room)
+      (tables-same _ _ f h) g
 
   -- the children's records
-  module _ {left : ℕ} (left-is : left ≡ left-of list node) (inner : kind ≡ 1 → ⊥) {at : ℕ} {t : Tables}
+  module _ {left : ℕ} (left-is : left ≡ left-at list node) (inner : kind ≡ character-kind → ⊥) {at : ℕ} {t : Tables}
       (ready : Ready list node piece at t) where
     first-kid : Kid list node left piece (at + 1)
     first-kid = subst (λ (k : ℕ). Kid list node k piece (at + 1)) (sym left-is)
-        (visit-left (ready .sitting) met-own (met-other 1 inner))
+        (visit-left (ready .sitting) met-own (met-other character-kind inner))
 
     -- the left or only child can be visited
     pub left-ready : (left < node) × Ready list left piece (at + 1) t
@@ -343,30 +343,32 @@ module _ {list : List ℕ} {node piece own kind : ℕ} (met : Met list node piec
         first-kid in (kid .earlier, record { some = kid .at-spot; sitting = kid .sitting; room = ready .room })
 
     module _ {mid : Tables} {middle : ℕ} (room : Room mid) (done : Visited list left piece (at + 1) t mid middle) where
-      done-left : Visited list (left-of list node) piece (at + 1) t mid middle
+      done-left : Visited list (left-at list node) piece (at + 1) t mid middle
       done-left = subst (λ (k : ℕ). Visited list k piece (at + 1) t mid middle) left-is done
 
       past-left : at < middle
       past-left = let kid = first-kid in omega (arith, filled-ends (kid .sitting) (done _ (kid .sitting)))
 
       -- the numbers at a star are within the row
-      pub star-bounds : kind ≡ 4 → (piece < 128) × (at < middle) × (middle ≤ middle) × (middle < 62)
+      pub star-bounds : kind ≡ star-kind → (piece < most-pieces) × (at < middle) × (middle ≤ middle)
+          × (middle < most-states)
       star-bounds e =
           omega (
             arith,
             past-left,
             filled-ends (ready .sitting)
-                (visit-star (ready .sitting) met-own (met-kind 4 e) t mid room middle done-left),
+                (visit-star (ready .sitting) met-own (met-kind star-kind e) t mid room middle done-left),
             bounds (ready .sitting),
           )
 
-      second-kid : {right : ℕ} → right ≡ right-of list node → (kind ≡ 4 → ⊥) → Kid list node right piece middle
+      second-kid : {right : ℕ} → right ≡ right-at list node → (kind ≡ star-kind → ⊥) → Kid list node right piece middle
       second-kid right-is other =
           subst (λ (k : ℕ). Kid list node k piece middle) (sym right-is)
-          (visit-right (ready .sitting) met-own (met-other 1 inner) (met-other 4 other) t mid middle done-left)
+          (visit-right (ready .sitting) met-own (met-other character-kind inner)
+          (met-other star-kind other) t mid middle done-left)
 
       -- the right child can be visited
-      pub right-ready : {right : ℕ} → right ≡ right-of list node → (kind ≡ 4 → ⊥)
+      pub right-ready : {right : ℕ} → right ≡ right-at list node → (kind ≡ star-kind → ⊥)
           → (right < node) × Ready list right piece middle mid
       right-ready right-is other = let kid =
           second-kid right-is other in (
@@ -375,51 +377,60 @@ module _ {list : List ℕ} {node piece own kind : ℕ} (met : Met list node piec
           )
 
       -- the numbers at a node with two children are within the row
-      pub two-bounds : {right last : ℕ} {after : Tables} → right ≡ right-of list node → (kind ≡ 4 → ⊥) → Room after
+      pub two-bounds : {right last : ℕ} {after : Tables} → right ≡ right-at list node → (kind ≡ star-kind → ⊥)
+          → Room after
           → Visited list right piece middle mid after last
-          → (piece < 128) × (at < middle) × (middle ≤ last) × (last < 62)
+          → (piece < most-pieces) × (at < middle) × (middle ≤ last) × (last < most-states)
       two-bounds {right} {last} {after} right-is other full done-right =
           let kid = second-kid right-is other in
-          let moved : Visited list (right-of list node) piece middle mid after last =
+          let moved : Visited list (right-at list node) piece middle mid after last =
           subst (λ (k : ℕ). Visited list k piece middle mid after last) right-is done-right in
           omega (
             arith,
             past-left,
             filled-ends (kid .sitting) (done-right _ (kid .sitting)),
             filled-ends (ready .sitting)
-                (visit-two (ready .sitting) met-own (met-other 1 inner) (met-other 4 other) t mid after full middle last
+                (visit-two (ready .sitting) met-own (met-other character-kind inner)
+                (met-other star-kind other) t mid after full middle last
                 done-left moved),
             bounds (ready .sitting),
           )
 
       -- the tables as they were stored are those of the joined parts
       joined-as : (last : ℕ) (after : Tables) {words leaves : List ℕ}
-          → words ≡ thrice (after .nexts) (64 * piece + at) (64 * piece + middle - 1) (64 * piece + last - 1)
+          → words
+          ≡ thrice (after .nexts) (row-size * piece + at) (row-size * piece + middle - 1) (row-size * piece + last - 1)
           (start-word kind at middle) (left-exit kind at middle last) (right-exit kind at middle last)
-          → leaves ≡ set (set (after .labels) (64 * piece + at) 0) (64 * piece + last) 0
-          → tables words leaves (after .stands) (after .roots) ≡ joined after (64 * piece) (kind-of list node) at middle
+          → leaves ≡ set (set (after .labels) (row-size * piece + at) 0) (row-size * piece + last) 0
+          → tables words leaves (after .stands) (after .roots)
+          ≡ joined after (row-size * piece) (kind-at list node) at middle
           last
-      joined-as last after e f = tables-same _ _ e f ∙ ap (λ (k : ℕ). joined after (64 * piece) k at middle last)
+      joined-as last after e f = tables-same _ _ e f ∙ ap (λ (k : ℕ). joined after (row-size * piece) k at middle last)
           (met .of-kind)
 
       -- a star's record was visited
-      pub visited-star : {words leaves : List ℕ} {end : ℕ} → kind ≡ 4 → end ≡ middle + 1
-          → words ≡ thrice (mid .nexts) (64 * piece + at) (64 * piece + middle - 1) (64 * piece + middle - 1)
+      pub visited-star : {words leaves : List ℕ} {end : ℕ} → kind ≡ star-kind → end ≡ middle + 1
+          → words
+          ≡ thrice (mid .nexts) (row-size * piece + at) (row-size * piece + middle - 1) (row-size * piece + middle - 1)
           (start-word kind at middle) (left-exit kind at middle middle) (right-exit kind at middle middle)
-          → leaves ≡ set (set (mid .labels) (64 * piece + at) 0) (64 * piece + middle) 0
+          → leaves ≡ set (set (mid .labels) (row-size * piece + at) 0) (row-size * piece + middle) 0
           → Visited list node piece at t (tables words leaves (mid .stands) (mid .roots)) end
-      visited-star e g f h s here = filled-as (visit-star here met-own (met-kind 4 e) t mid room middle done-left)
+      visited-star e g f h s here = filled-as
+          (visit-star here met-own (met-kind star-kind e) t mid room middle done-left)
           (joined-as middle mid f h) g
 
       -- the record of a node with two children was visited
-      pub visited-two : {words leaves : List ℕ} {right last end : ℕ} {after : Tables} → right ≡ right-of list node
-          → (kind ≡ 4 → ⊥) → Room after → Visited list right piece middle mid after last → end ≡ last + 1
-          → words ≡ thrice (after .nexts) (64 * piece + at) (64 * piece + middle - 1) (64 * piece + last - 1)
+      pub visited-two : {words leaves : List ℕ} {right last end : ℕ} {after : Tables} → right ≡ right-at list node
+          → (kind ≡ star-kind → ⊥) → Room after → Visited list right piece middle mid after last → end ≡ last + 1
+          → words
+          ≡ thrice (after .nexts) (row-size * piece + at) (row-size * piece + middle - 1) (row-size * piece + last - 1)
           (start-word kind at middle) (left-exit kind at middle last) (right-exit kind at middle last)
-          → leaves ≡ set (set (after .labels) (64 * piece + at) 0) (64 * piece + last) 0
+          → leaves ≡ set (set (after .labels) (row-size * piece + at) 0) (row-size * piece + last) 0
           → Visited list node piece at t (tables words leaves (after .stands) (after .roots)) end
       visited-two {last = last} {after = after} right-is other full done-right g f h s here =
-          let moved : Visited list (right-of list node) piece middle mid after last =
+          let moved : Visited list (right-at list node) piece middle mid after last =
           subst (λ (k : ℕ). Visited list k piece middle mid after last) right-is done-right in
-          filled-as (visit-two here met-own (met-other 1 inner) (met-other 4 other) t mid after full middle last
+          filled-as
+          (visit-two here met-own (met-other character-kind inner)
+          (met-other star-kind other) t mid after full middle last
           done-left moved) (joined-as last after f h) g

@@ -1,10 +1,20 @@
 // A piece's row of entries, filled by a walk of the piece's own tree: the words of the empty transitions and the labels
 // of the states.
-use crate::fields::field;
-use crate::fields::kind_of;
+use crate::ROW_SIZE;
+use tree::layout::CATENATION;
+use tree::layout::CHARACTER;
+use tree::layout::STAR;
+use tree::layout::character_at;
+use tree::layout::kind_at;
+use tree::layout::left_at;
+use tree::layout::piece_at;
+use tree::layout::right_at;
 ghost use mathlib.Core.Path.{_≡_};
 ghost use Prim.Native.Nat.{_+_, _*_, _-_, _<_, _≤_, _^_};
-ghost use lib.ListN.{getD, length, set};
+ghost use lib.ListN.{length, set};
+ghost use Rattle.tree.specs.Limits.{most-pieces, most-records, most-states};
+ghost use Rattle.tree.specs.Layout.{character-at};
+ghost use Rattle.tables.specs.Plan.{row-size};
 ghost use Rattle.tables.specs.Entries.{thrice};
 ghost use Rattle.tables.specs.Filling.{start-word, left-exit, right-exit, tables, Room, stand-entries};
 ghost use Rattle.tables.specs.Walking.{Within, Wide, Visited, Ready};
@@ -27,10 +37,10 @@ fn two_bits(i: usize, j: usize) -> u64
 
 // The word of a node's start, by its kind.
 fn start_word(kind: u8, at: usize, middle: usize) -> u64
-    requires { ⌜ (at < 62) × (middle < 63) ⌝ }
+    requires { ⌜ (at < most-states) × (middle < 63) ⌝ }
     ensures { λ r. ⌜ r ≡ start-word kind at middle ⌝ }
 {
-    if kind == 2 {
+    if kind == CATENATION {
         bit(at + 1)
     } else {
         two_bits(at + 1, middle)
@@ -39,10 +49,10 @@ fn start_word(kind: u8, at: usize, middle: usize) -> u64
 
 // The word of its right or only child's accepting state.
 fn right_exit(kind: u8, at: usize, middle: usize, last: usize) -> u64
-    requires { ⌜ (at < 62) × (middle < 63) × (last < 63) ⌝ }
+    requires { ⌜ (at < most-states) × (middle < 63) × (last < 63) ⌝ }
     ensures { λ r. ⌜ r ≡ right-exit kind at middle last ⌝ }
 {
-    if kind == 4 {
+    if kind == STAR {
         two_bits(at + 1, middle)
     } else {
         bit(last)
@@ -51,10 +61,10 @@ fn right_exit(kind: u8, at: usize, middle: usize, last: usize) -> u64
 
 // The word of its left or only child's accepting state.
 fn left_exit(kind: u8, at: usize, middle: usize, last: usize) -> u64
-    requires { ⌜ (at < 62) × (middle < 63) × (last < 63) ⌝ }
+    requires { ⌜ (at < most-states) × (middle < 63) × (last < 63) ⌝ }
     ensures { λ r. ⌜ r ≡ left-exit kind at middle last ⌝ }
 {
-    if kind == 2 {
+    if kind == CATENATION {
         bit(middle)
     } else {
         right_exit(kind, at, middle, last)
@@ -91,12 +101,17 @@ fn leaf(
     requires { ⌜ Within (now list) node piece at ⌝ }
     requires { ⌜ Wide (now nexts) (now labels) ⌝ }
     ensures { λ r. ⌜ r ≡ at + 2 ⌝ }
-    ensures { λ _. ⌜ now (nexts .exit) ≡ set (now (nexts .entry)) (64 * piece + at) 0 ⌝ }
+    ensures { λ _. ⌜ now (nexts .exit) ≡ set (now (nexts .entry)) (row-size * piece + at) 0 ⌝ }
     ensures { λ _. ⌜ now (labels .exit)
-        ≡ set (set (now (labels .entry)) (64 * piece + at) (getD (now (list .entry)) (8 * node + 1) 0 + 1))
-        (64 * piece + at + 1) 0 ⌝ }
+        ≡ set (set (now (labels .entry)) (row-size * piece + at) (character-at (now (list .entry)) node + 1))
+        (row-size * piece + at + 1) 0 ⌝ }
 {
-    pair(nexts, labels, 64 * piece + at, label(list[8 * node + 1]));
+    pair(
+        nexts,
+        labels,
+        ROW_SIZE * piece + at,
+        label(character_at(list, node)),
+    );
     at + 2
 }
 
@@ -111,14 +126,14 @@ fn stand(
     stands: &mut [u8],
     roots: &mut [u16],
 ) -> usize
-    requires { ⌜ (child < 128) × (node < 65536) × (piece < 128) × (at + 2 ≤ 62) ⌝ }
+    requires { ⌜ (child < most-pieces) × (node < most-records) × (piece < most-pieces) × (at + 2 ≤ most-states) ⌝ }
     requires { ⌜ Room (tables (now nexts) (now labels) (now stands) (now roots)) ⌝ }
     ensures { λ r. ⌜ r ≡ at + 2 ⌝ }
     ensures { λ _. ⌜ tables (now (nexts .exit)) (now (labels .exit)) (now (stands .exit)) (now (roots .exit))
         ≡ stand-entries (tables (now (nexts .entry)) (now (labels .entry)) (now (stands .entry)) (now (roots .entry)))
-        (64 * piece + at) child at node ⌝ }
+        (row-size * piece + at) child at node ⌝ }
 {
-    pair(nexts, labels, 64 * piece + at, 0);
+    pair(nexts, labels, ROW_SIZE * piece + at, 0);
     stands[child] = at as u8;
     roots[child] = node as u16;
     at + 2
@@ -134,15 +149,17 @@ fn join(
     nexts: &mut [u64],
     labels: &mut [u16],
 ) -> usize
-    requires { ⌜ (piece < 128) × (at < middle) × (middle ≤ last) × (last < 62) ⌝ }
+    requires { ⌜ (piece < most-pieces) × (at < middle) × (middle ≤ last) × (last < most-states) ⌝ }
     requires { ⌜ Wide (now nexts) (now labels) ⌝ }
     ensures { λ r. ⌜ r ≡ last + 1 ⌝ }
-    ensures { λ _. ⌜ now (nexts .exit) ≡ thrice (now (nexts .entry)) (64 * piece + at) (64 * piece + middle - 1)
-        (64 * piece + last - 1) (start-word kind at middle) (left-exit kind at middle last)
+    ensures { λ _. ⌜ now (nexts .exit)
+        ≡ thrice (now (nexts .entry)) (row-size * piece + at) (row-size * piece + middle - 1)
+        (row-size * piece + last - 1) (start-word kind at middle) (left-exit kind at middle last)
         (right-exit kind at middle last) ⌝ }
-    ensures { λ _. ⌜ now (labels .exit) ≡ set (set (now (labels .entry)) (64 * piece + at) 0) (64 * piece + last) 0 ⌝ }
+    ensures { λ _. ⌜ now (labels .exit)
+        ≡ set (set (now (labels .entry)) (row-size * piece + at) 0) (row-size * piece + last) 0 ⌝ }
 {
-    let base = 64 * piece;
+    let base = ROW_SIZE * piece;
     let start = start_word(kind, at, middle);
     let left = left_exit(kind, at, middle, last);
     let right = right_exit(kind, at, middle, last);
@@ -172,20 +189,20 @@ pub fn fill(
         (tables (now (nexts .entry)) (now (labels .entry)) (now (stands .entry)) (now (roots .entry)))
         (tables (now (nexts .exit)) (now (labels .exit)) (now (stands .exit)) (now (roots .exit))) r ⌝ }
 {
-    let own = field(list, node, 6);
+    let own = piece_at(list, node);
     if own != piece {
         return stand(own, node, piece, at, nexts, labels, stands, roots);
     }
-    let kind = kind_of(list, node);
-    if kind == 1 {
+    let kind = kind_at(list, node);
+    if kind == CHARACTER {
         return leaf(list, node, piece, at, nexts, labels);
     }
-    let left = field(list, node, 2);
+    let left = left_at(list, node);
     let middle = fill(list, left, piece, at + 1, nexts, labels, stands, roots);
-    if kind == 4 {
+    if kind == STAR {
         return join(kind, piece, at, middle, middle, nexts, labels);
     }
-    let right = field(list, node, 4);
+    let right = right_at(list, node);
     let last = fill(list, right, piece, middle, nexts, labels, stands, roots);
     join(kind, piece, at, middle, last, nexts, labels)
 }

@@ -1,7 +1,11 @@
 // The tables of a good list, made once before any byte is read.
+use crate::ROW_SIZE;
 use crate::count::count;
-use crate::fields::wide;
 use crate::fill::fill;
+use tree::layout::RECORD_SIZE;
+use tree::layout::wide;
+use tree::limits::MOST_PIECES;
+use tree::limits::MOST_RECORDS;
 ghost use Prim.Native.Nat.{ℕ, _+_, _<_};
 ghost use Rattle.language.specs.Tree.{Tree};
 ghost use Rattle.language.specs.Nested.{Nested};
@@ -36,7 +40,7 @@ fn piece(
     let node = roots[k] as usize;
     let last = fill(list, node, k, 0, nexts, labels, stands, roots);
     let below = counts[node];
-    nexts[64 * k + last - 1] = 0;
+    nexts[ROW_SIZE * k + last - 1] = 0;
     runs[k] = below + 1;
     tops[k] = (last - 1) as u8;
 }
@@ -82,10 +86,10 @@ pub fn plan(
         → Laid t (now (nexts .exit)) (now (labels .exit)) (now (runs .exit)) (now (stands .exit)) (now (tops .exit)) r)
         ⌝ }
 {
-    let mut counts = [0u8; 1920];
-    let mut roots = [0u16; 128];
+    let mut counts = [0u8; MOST_RECORDS];
+    let mut roots = [0u16; MOST_PIECES];
     count(list, &mut counts);
-    let last = list.len() / 8 - 1;
+    let last = list.len() / RECORD_SIZE - 1;
     let total = wide(counts[last]) + 1;
     roots[0] = last as u16;
     pieces(

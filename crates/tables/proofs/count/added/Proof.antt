@@ -11,8 +11,8 @@ shared-slice-read-wide c = search needs
 wide-requires : tie.Need-wide-requires
 wide-requires c κs = search needs
 
-field-requires : tie.Need-field-requires
-field-requires c κs = search needs
+piece-at-requires : tie.Need-piece-at-requires
+piece-at-requires c κs = search needs
 
 add-result : tie.Need-add-result
 add-result c = search needs
@@ -21,7 +21,7 @@ returns : tie.Need-returns
 returns c =
     let start = c .before .before .before .before .before .before .args in
     let same = adds-same (start .list .now) (start .counts .now) (start .child) (start .piece)
-    (c .before .field .result) (c .before .field .ensures) (c .if1 .taken) in
+    (c .before .piece-at .result) (c .before .piece-at .ensures) (c .if1 .taken) in
     let read = c .before .before .wide .ensures in
     omega arith
 
@@ -29,11 +29,11 @@ returns-2 : tie.Need-returns-2
 returns-2 c =
     let start = c .before .before .before .before .before .before .args in
     let other = adds-other (start .list .now) (start .counts .now) (start .child) (start .piece)
-    (c .before .field .result) (c .before .field .ensures) (c .if1 .left) in
+    (c .before .piece-at .result) (c .before .piece-at .ensures) (c .if1 .left) in
     let read = c .before .before .wide .ensures in
     omega arith
 
 pub added-spec : {M : Type 1} → statement M
 added-spec =
     tie.close
-    (tie.spec shared-slice-read-wide wide-requires field-requires add-result returns returns-2)
+    (tie.spec shared-slice-read-wide wide-requires piece-at-requires add-result returns returns-2)

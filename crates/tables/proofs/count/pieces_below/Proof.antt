@@ -6,43 +6,43 @@ use borrow.Author.Needs.{needs}
 use Rattle.tables.proofs.count.pieces_below.Statement.{statement}
 use Rattle.tables.proofs.count.pieces_below.Tie as tie
 
-kind-of-requires : tie.Need-kind-of-requires
-kind-of-requires c κs = let listed = node-listed (c .before .before .pre .0) in omega arith
+kind-at-requires : tie.Need-kind-at-requires
+kind-at-requires c κs = let listed = node-listed (c .before .before .pre .0) in omega arith
 
 returns : tie.Need-returns
-returns c = runs-leaf (c .before .before .before .before .pre .1 .0) (sym (c .before .kind-of .ensures) ∙ c .if1 .taken)
+returns c = runs-leaf (c .before .before .before .before .pre .1 .0) (sym (c .before .kind-at .ensures) ∙ c .if1 .taken)
 
-field-requires : tie.Need-field-requires
-field-requires c κs = let listed = node-listed (c .before .before .before .before .pre .0) in omega arith
+piece-at-requires : tie.Need-piece-at-requires
+piece-at-requires c κs = let listed = node-listed (c .before .before .before .before .pre .0) in omega arith
 
-field-requires-2 : tie.Need-field-requires-2
-field-requires-2 c κs = let listed = node-listed (c .before .before .before .before .before .pre .0) in omega arith
+left-at-requires : tie.Need-left-at-requires
+left-at-requires c κs = let listed = node-listed (c .before .before .before .before .before .pre .0) in omega arith
 
 added-requires : tie.Need-added-requires
 added-requires c κs =
     let listed = left-listed (c .before .before .before .before .before .before .pre .0)
-    (λ e. c .before .before .if1 .left (c .before .before .before .kind-of .ensures ∙ e)) in
-    omega (arith, c .field2 .ensures, c .before .before .before .before .before .before .pre .1 .1)
+    (λ e. c .before .before .if1 .left (c .before .before .before .kind-at .ensures ∙ e)) in
+    omega (arith, c .left-at .ensures, c .before .before .before .before .before .before .pre .1 .1)
 
 returns-2 : tie.Need-returns-2
 returns-2 c =
     let start = c .before .before .before .before .before .before .before .before in
-    read-star (start .pre .1 .0) (c .before .before .before .before .before .kind-of .ensures)
-    (c .before .before .before .field .ensures) (c .before .before .field2 .ensures) (c .if2 .taken)
+    read-star (start .pre .1 .0) (c .before .before .before .before .before .kind-at .ensures)
+    (c .before .before .before .piece-at .ensures) (c .before .before .left-at .ensures) (c .if2 .taken)
     (c .before .added .ensures .0)
 
-field-requires-3 : tie.Need-field-requires-3
-field-requires-3 c κs = let listed =
+right-at-requires : tie.Need-right-at-requires
+right-at-requires c κs = let listed =
     node-listed (c .before .before .before .before .before .before .before .before .pre .0) in omega arith
 
 added-requires-2 : tie.Need-added-requires-2
 added-requires-2 c κs =
-    let kind = c .before .before .before .before .before .before .kind-of .ensures in
+    let kind = c .before .before .before .before .before .before .kind-at .ensures in
     let listed = right-listed (c .before .before .before .before .before .before .before .before .before .pre .0)
     (λ e. c .before .before .before .before .before .if1 .left (kind ∙ e)) (λ e. c .before .if2 .left (kind ∙ e)) in
     omega (
       arith,
-      c .field3 .ensures,
+      c .right-at .ensures,
       c .before .before .before .before .before .before .before .before .before .pre .1 .1,
     )
 
@@ -52,22 +52,22 @@ add-result c = search needs
 returns-3 : tie.Need-returns-3
 returns-3 c =
     let start = c .before .before .before .before .before .before .before .before .before .before in
-    read-two (start .pre .1 .0) (c .before .before .before .before .before .before .before .kind-of .ensures)
-    (c .before .before .before .before .before .field .ensures) (c .before .before .before .before .field2 .ensures)
+    read-two (start .pre .1 .0) (c .before .before .before .before .before .before .before .kind-at .ensures)
+    (c .before .before .before .before .before .piece-at .ensures) (c .before .before .before .before .left-at .ensures)
     (c .before .before .before .before .before .before .if1 .left) (c .before .before .if2 .left)
-    (c .before .field3 .ensures) (c .before .before .before .added .ensures .0) (c .added2 .ensures .0)
+    (c .before .right-at .ensures) (c .before .before .before .added .ensures .0) (c .added2 .ensures .0)
 
 pub pieces-below-spec : {M : Type 1} → statement M
 pieces-below-spec =
     tie.close
     (tie.spec
-    kind-of-requires
+    kind-at-requires
     returns
-    field-requires
-    field-requires-2
+    piece-at-requires
+    left-at-requires
     added-requires
     returns-2
-    field-requires-3
+    right-at-requires
     added-requires-2
     add-result
     returns-3)

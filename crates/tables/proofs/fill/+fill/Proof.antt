@@ -26,9 +26,11 @@ use Rattle.tables.specs.Walking.{
 use Rattle.tables.proofs.fill.fill.Reads as fill
 use Rattle.tables.proofs.fill.fill.Kinds as fill-kinds
 use Rattle.tables.proofs.fill.+fill.Lts-fill as fill-lts
-use Rattle.tables.proofs.fields.field.Reads as field-reads
 use Rattle.tables.proofs.fill.join.Reads as join-reads
-use Rattle.tables.proofs.fields.kind_of.Reads as kind-of-reads
+use Rattle.tree.proofs.layout.kind_at.Reads as kind-at-reads
+use Rattle.tree.proofs.layout.left_at.Reads as left-at-reads
+use Rattle.tree.proofs.layout.piece_at.Reads as piece-at-reads
+use Rattle.tree.proofs.layout.right_at.Reads as right-at-reads
 use Rattle.tables.proofs.fill.leaf.Reads as leaf-reads
 use Rattle.tables.proofs.fill.stand.Reads as stand-reads
 use Rattle.tables.proofs.fill.+fill.{statement}
@@ -45,35 +47,39 @@ fill-below t = and 5 fill-kinds.ps (falls 5 fill-kinds.ps _<_ μ-fill t) fill.Pr
 
 abbrev fill-claims : ℕ → fill-lts.Claims
 fill-claims t = (
-  field-reads.Asked,
-  field-reads.Learnt,
+  piece-at-reads.Asked,
+  piece-at-reads.Learnt,
   stand-reads.Asked,
   stand-reads.Learnt,
-  kind-of-reads.Asked,
-  kind-of-reads.Learnt,
+  kind-at-reads.Asked,
+  kind-at-reads.Learnt,
   leaf-reads.Asked,
   leaf-reads.Learnt,
+  left-at-reads.Asked,
+  left-at-reads.Learnt,
   fill-below t,
   fill.Post,
   join-reads.Asked,
   join-reads.Learnt,
+  right-at-reads.Asked,
+  right-at-reads.Learnt,
 )
 
 -- the record is of the walk's piece, and its kind is known
-met : (t : ℕ) (c : fill-lts.After-kind-of (fill-claims t) (fill-at t) fill.Post)
+met : (t : ℕ) (c : fill-lts.After-kind-at (fill-claims t) (fill-at t) fill.Post)
     → Met (c .before .before .before .before .before .before .before .before .args .list .now)
     (c .before .before .before .before .before .before .before .before .args .node)
-    (c .before .before .before .before .before .before .before .before .args .piece) (c .before .before .field .result)
-    (c .kind-of .result)
+    (c .before .before .before .before .before .before .before .before .args .piece) (c .before .before .piece-at .result)
+    (c .kind-at .result)
 met t c = record {
-  shown = c .before .before .field .ensures;
+  shown = c .before .before .piece-at .ensures;
   same = c .before .if1 .left;
   of-kind =
-      c .kind-of .ensures;
+      c .kind-at .ensures;
 }
 
-fill-field-requires : (t : ℕ) → fill-lts.Need-field-requires (fill-claims t) (fill-at t) fill.Post
-fill-field-requires t c κs = let within = bounds (c .before .before .before .before .before .pre .1 .sitting) in omega
+fill-piece-at-requires : (t : ℕ) → fill-lts.Need-piece-at-requires (fill-claims t) (fill-at t) fill.Post
+fill-piece-at-requires t c κs = let within = bounds (c .before .before .before .before .before .pre .1 .sitting) in omega
     arith
 
 fill-stand-requires : (t : ℕ) → fill-lts.Need-stand-requires (fill-claims t) (fill-at t) fill.Post
@@ -81,7 +87,7 @@ fill-stand-requires t c κs =
     let start = c .before .before .before .before .before .before .before .before .before .before .before in
     let within = bounds (start .pre .1 .sitting) in
     let few = stand-few (start .pre .1 .sitting) in
-    let shown = c .before .before .before .before .before .field .ensures in
+    let shown = c .before .before .before .before .before .piece-at .ensures in
     (omega arith, start .pre .1 .room)
 
 fill-same-length : (t : ℕ) → fill-lts.Need-same-length (fill-claims t) (fill-at t) fill.Post
@@ -100,10 +106,10 @@ fill-returns : (t : ℕ) → fill-lts.Need-returns (fill-claims t) (fill-at t) f
 fill-returns t c =
     let made = c .before .before .before .before .before .before .before .before in
     visited-stand
-    (made .before .before .before .before .before .before .before .before .before .before .before .before .pre .1 .room) (made .before .before .before .before .before .before .field .ensures) (made .before .before .before .before .before .if1 .taken) (made .stand .ensures .0) (made .stand .ensures .1)
+    (made .before .before .before .before .before .before .before .before .before .before .before .before .pre .1 .room) (made .before .before .before .before .before .before .piece-at .ensures) (made .before .before .before .before .before .if1 .taken) (made .stand .ensures .0) (made .stand .ensures .1)
 
-fill-kind-of-requires : (t : ℕ) → fill-lts.Need-kind-of-requires (fill-claims t) (fill-at t) fill.Post
-fill-kind-of-requires t c κs = let within =
+fill-kind-at-requires : (t : ℕ) → fill-lts.Need-kind-at-requires (fill-claims t) (fill-at t) fill.Post
+fill-kind-at-requires t c κs = let within =
     bounds (c .before .before .before .before .before .before .before .pre .1 .sitting) in omega arith
 
 fill-leaf-requires : (t : ℕ) → fill-lts.Need-leaf-requires (fill-claims t) (fill-at t) fill.Post
@@ -123,8 +129,8 @@ fill-returns-2 t c =
     visited-leaf (met t (made .before .before .before .before))
     (made .before .before .before .before .before .before .before .before .before .before .before .before .pre .1 .room) (made .before .before .before .if2 .taken) (made .leaf .ensures .0) (made .leaf .ensures .1 .0) (made .leaf .ensures .1 .1)
 
-fill-field-requires-2 : (t : ℕ) → fill-lts.Need-field-requires-2 (fill-claims t) (fill-at t) fill.Post
-fill-field-requires-2 t c κs = let within =
+fill-left-at-requires : (t : ℕ) → fill-lts.Need-left-at-requires (fill-claims t) (fill-at t) fill.Post
+fill-left-at-requires t c κs = let within =
     bounds (c .before .before .before .before .before .before .before .before .before .pre .1 .sitting) in omega arith
 
 fill-add-fill : (t : ℕ) → fill-lts.Need-add-fill (fill-claims t) (fill-at t) fill.Post
@@ -136,9 +142,9 @@ fill-fill-requires : (t : ℕ) → fill-lts.Need-fill-requires (fill-claims t) (
 fill-fill-requires t c κs =
     let start = c .before .before .before .before .before .before .before .before .before .before .before .before .before .before in
     let ready = left-ready (met t (c .before .before .before .before .before .before))
-    (c .before .before .before .before .field2 .ensures) (c .before .before .before .before .before .if2 .left)
+    (c .before .before .before .before .left-at .ensures) (c .before .before .before .before .before .if2 .left)
     (start .pre .1) in
-    (subst (λ (k : ℕ). c .before .before .before .before .field2 .result < k) (start .pre .0) (ready .0), ready .1)
+    (subst (λ (k : ℕ). c .before .before .before .before .left-at .result < k) (start .pre .0) (ready .0), ready .1)
 
 -- the tables that the first call leaves have the same room
 room-left : (t : ℕ) (c : fill-lts.After-fill (fill-claims t) (fill-at t) fill.Post)
@@ -154,7 +160,7 @@ fill-join-requires t c κs =
     let start = made .before .before .before .before .before .before .before .before .before .before .before .before .before .before .before in
     let room = room-left t made in (
       star-bounds (met t (made .before .before .before .before .before .before .before))
-          (made .before .before .before .before .before .field2 .ensures)
+          (made .before .before .before .before .before .left-at .ensures)
           (made .before .before .before .before .before .before .if2 .left) (start .pre .1) room (made .fill .ensures)
           (c .before .before .if3 .taken),
       wide-enough room,
@@ -177,12 +183,12 @@ fill-returns-3 t c =
     let done = c .before .before .before .before in
     let made = done .before .before .before .before .before .before .before .before .before .before .before .before in
     visited-star (met t (made .before .before .before .before .before .before .before))
-    (made .before .before .before .before .before .field2 .ensures)
+    (made .before .before .before .before .before .left-at .ensures)
     (made .before .before .before .before .before .before .if2 .left)
     (made .before .before .before .before .before .before .before .before .before .before .before .before .before .before .before .pre .1) (room-left t made) (made .fill .ensures) (done .before .before .before .if3 .taken) (done .join .ensures .0) (done .join .ensures .1 .0) (done .join .ensures .1 .1)
 
-fill-field-requires-3 : (t : ℕ) → fill-lts.Need-field-requires-3 (fill-claims t) (fill-at t) fill.Post
-fill-field-requires-3 t c κs = let within =
+fill-right-at-requires : (t : ℕ) → fill-lts.Need-right-at-requires (fill-claims t) (fill-at t) fill.Post
+fill-right-at-requires t c κs = let within =
     bounds (c .before .before .before .before .before .before .before .before .before .before .before .before .before .before .before .before .before .before .before .before .before .before .before .before .pre .1 .sitting) in omega arith
 
 fill-fill-requires-2 : (t : ℕ) → fill-lts.Need-fill-requires-2 (fill-claims t) (fill-at t) fill.Post
@@ -190,11 +196,11 @@ fill-fill-requires-2 t c κs =
     let made = c .before .before .before .before .before .before .before .before .before .before .before .before .before .before in
     let start = made .before .before .before .before .before .before .before .before .before .before .before .before .before .before .before in
     let ready = right-ready (met t (made .before .before .before .before .before .before .before))
-    (made .before .before .before .before .before .field2 .ensures)
+    (made .before .before .before .before .before .left-at .ensures)
     (made .before .before .before .before .before .before .if2 .left) (start .pre .1) (room-left t made)
-    (made .fill .ensures) (c .before .before .before .before .field3 .ensures)
+    (made .fill .ensures) (c .before .before .before .before .right-at .ensures)
     (c .before .before .before .before .before .if3 .left) in
-    (subst (λ (k : ℕ). c .before .before .before .before .field3 .result < k) (start .pre .0) (ready .0), ready .1)
+    (subst (λ (k : ℕ). c .before .before .before .before .right-at .result < k) (start .pre .0) (ready .0), ready .1)
 
 -- and so have those of the second call
 room-right : (t : ℕ) (c : fill-lts.After-fill2 (fill-claims t) (fill-at t) fill.Post)
@@ -211,9 +217,9 @@ fill-join-requires-2 t c κs =
     let made = last .before .before .before .before .before .before .before .before .before .before .before .before .before .before .before in
     let room = room-right t last in (
       two-bounds (met t (made .before .before .before .before .before .before .before))
-          (made .before .before .before .before .before .field2 .ensures)
+          (made .before .before .before .before .before .left-at .ensures)
           (made .before .before .before .before .before .before .if2 .left)
-          (made .before .before .before .before .before .before .before .before .before .before .before .before .before .before .before .pre .1) (room-left t made) (made .fill .ensures) (last .before .before .before .before .before .field3 .ensures) (last .before .before .before .before .before .before .if3 .left) room (last .fill2 .ensures),
+          (made .before .before .before .before .before .before .before .before .before .before .before .before .before .before .before .pre .1) (room-left t made) (made .fill .ensures) (last .before .before .before .before .before .right-at .ensures) (last .before .before .before .before .before .before .if3 .left) room (last .fill2 .ensures),
       wide-enough room,
     )
 
@@ -235,26 +241,26 @@ fill-returns-4 t c =
     let last = done .before .before .before .before .before .before .before .before .before .before .before in
     let made = last .before .before .before .before .before .before .before .before .before .before .before .before .before .before .before in
     visited-two (met t (made .before .before .before .before .before .before .before))
-    (made .before .before .before .before .before .field2 .ensures)
+    (made .before .before .before .before .before .left-at .ensures)
     (made .before .before .before .before .before .before .if2 .left)
-    (made .before .before .before .before .before .before .before .before .before .before .before .before .before .before .before .pre .1) (room-left t made) (made .fill .ensures) (last .before .before .before .before .before .field3 .ensures) (last .before .before .before .before .before .before .if3 .left) (room-right t last) (last .fill2 .ensures) (done .join2 .ensures .0) (done .join2 .ensures .1 .0) (done .join2 .ensures .1 .1)
+    (made .before .before .before .before .before .before .before .before .before .before .before .before .before .before .before .pre .1) (room-left t made) (made .fill .ensures) (last .before .before .before .before .before .right-at .ensures) (last .before .before .before .before .before .before .if3 .left) (room-right t last) (last .fill2 .ensures) (done .join2 .ensures .0) (done .join2 .ensures .1 .0) (done .join2 .ensures .1 .1)
 
 pub +fill-spec : {M : Type 1} → statement M
 +fill-spec =
     close μ-fill λ t. fill-lts.spec (fill-claims t) (fill-at t) fill.Post
-    (fill-field-requires t)
+    (fill-piece-at-requires t)
     (fill-stand-requires t)
     (fill-same-length t)
     (fill-same-length-2 t)
     (fill-same-length-3 t)
     (fill-same-length-4 t)
     (fill-returns t)
-    (fill-kind-of-requires t)
+    (fill-kind-at-requires t)
     (fill-leaf-requires t)
     (fill-same-length-5 t)
     (fill-same-length-6 t)
     (fill-returns-2 t)
-    (fill-field-requires-2 t)
+    (fill-left-at-requires t)
     (fill-add-fill t)
     (fill-fill-requires t)
     (fill-join-requires t)
@@ -263,7 +269,7 @@ pub +fill-spec : {M : Type 1} → statement M
     (fill-same-length-9 t)
     (fill-same-length-10 t)
     (fill-returns-3 t)
-    (fill-field-requires-3 t)
+    (fill-right-at-requires t)
     (fill-fill-requires-2 t)
     (fill-join-requires-2 t)
     (fill-same-length-11 t)

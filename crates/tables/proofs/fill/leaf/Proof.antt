@@ -10,14 +10,8 @@ mul-pair c = search needs
 add-pair : tie.Need-add-pair
 add-pair c = search needs
 
-mul-label : tie.Need-mul-label
-mul-label c = search needs
-
-add-label : tie.Need-add-label
-add-label c = search needs
-
-shared-slice-read-label : tie.Need-shared-slice-read-label
-shared-slice-read-label c = search needs
+character-at-requires : tie.Need-character-at-requires
+character-at-requires c κs = search needs
 
 label-requires : tie.Need-label-requires
 label-requires c κs = search needs
@@ -46,9 +40,7 @@ leaf-spec =
     (tie.spec
     mul-pair
     add-pair
-    mul-label
-    add-label
-    shared-slice-read-label
+    character-at-requires
     label-requires
     pair-requires
     add-result
