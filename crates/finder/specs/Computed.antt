@@ -5,7 +5,7 @@ use mathlib.Core.Path.{_≡_, refl, ap}
 use mathlib.Core.Bool.{Bool, true, false, _&&_, _||_, false≢true}
 use mathlib.Core.Logic.{_↔_, Iff·trans, _⊎_, inl, inr, ⊎-elim}
 use mathlib.Core.List.{List, [], _∷_}
-use Rattle.finder.specs.Decide.{both, Tests}
+use Rattle.finder.specs.DecideExactly.{both, Exact}
 use Rattle.language.specs.Meaning.{Meaning}
 use Rattle.language.specs.Automaton.{State, start, accepting, left, right, States, Started, Stepped, After}
 use Rattle.language.specs.Nested.{
@@ -95,11 +95,11 @@ second-exactly : {walk : Test → Test} {Walk : States → States} → Decides-a
     → (p ≡ true) ↔ P → Decides-after (second walk p) (Second Walk P)
 second-exactly follows e f X d = follows _ _ (entered-exactly (λ p. d (right p)) e)
 
-module _ {A : Type 0} (M : Meaning A) (tests : Tests M) where
+module _ {A : Type 0} (M : Meaning A) (exact : Exact M) where
   -- one walk over the states in their order
   unfoldable pub walked : Nested A → Test → Test
   walked (leaf a) f start = f start
-  walked (leaf a) f accepting = f accepting || (tests .has-empty a && f start)
+  walked (leaf a) f accepting = f accepting || (exact .tests .has-empty a && f start)
   walked (leaf a) f (left q) = f (left q)
   walked (leaf a) f (right q) = f (right q)
   walked (catenation x y) f start = f start
@@ -125,7 +125,7 @@ module _ {A : Type 0} (M : Meaning A) (tests : Tests M) where
   unfolding walked
   walked-exactly (leaf a) f X d start = d start
   walked-exactly (leaf a) f X d accepting =
-      or-exactly _ _ (d accepting) (and-exactly _ _ (tests .empty-exactly a) (d start))
+      or-exactly _ _ (d accepting) (and-exactly _ _ (exact .empty-exactly a) (d start))
   walked-exactly (leaf a) f X d (left q) = d (left q)
   walked-exactly (leaf a) f X d (right q) = d (right q)
   walked-exactly (catenation x y) f X d start = d start
@@ -155,11 +155,11 @@ module _ {A : Type 0} (M : Meaning A) (tests : Tests M) where
   walked-exactly (below x) f X d accepting =
       or-exactly _ _ (d accepting) (first-exactly (walked-exactly x) f X d accepting)
 
-module _ {A : Type 0} (M : Meaning A) (tests : Tests M) (b : ℕ) where
+module _ {A : Type 0} (M : Meaning A) (exact : Exact M) (b : ℕ) where
   -- what passes after moving along the byte b
   unfoldable pub moved : Nested A → Test → Test
   moved (leaf a) f start = false
-  moved (leaf a) f accepting = f start && tests .takes a b
+  moved (leaf a) f accepting = f start && exact .tests .takes a b
   moved (leaf a) f (left q) = false
   moved (leaf a) f (right q) = false
   moved (catenation x y) f start = false
@@ -183,7 +183,7 @@ module _ {A : Type 0} (M : Meaning A) (tests : Tests M) (b : ℕ) where
   moved-passes : {x : Nested A} {p q : State} → Reading M b x p q → (f : Test) → f p ≡ true
       → moved x f q ≡ true
   unfolding moved
-  moved-passes (at-leaf {a = a} h) f e = rw (e, tests .takes-exactly a b .1 h)
+  moved-passes (at-leaf {a = a} h) f e = rw (e, exact .takes-exactly a b .1 h)
   moved-passes (catenation-left r) f e = moved-passes r (λ p. f (left p)) e
   moved-passes (catenation-right r) f e = moved-passes r (λ p. f (right p)) e
   moved-passes (union-left r) f e = moved-passes r (λ p. f (left p)) e
@@ -202,7 +202,7 @@ module _ {A : Type 0} (M : Meaning A) (tests : Tests M) (b : ℕ) where
   unfolding moved
   moved-found (leaf a) f start e = absurd (false≢true e)
   moved-found (leaf a) f accepting e = let (p, q) =
-      both (f start) (tests .takes a b) e in (start, p, at-leaf (tests .takes-exactly a b .0 q))
+      both (f start) (exact .tests .takes a b) e in (start, p, at-leaf (exact .takes-exactly a b .0 q))
   moved-found (leaf a) f (left q) e = absurd (false≢true e)
   moved-found (leaf a) f (right q) e = absurd (false≢true e)
   moved-found (catenation x y) f start e = absurd (false≢true e)
@@ -227,7 +227,7 @@ module _ {A : Type 0} (M : Meaning A) (tests : Tests M) (b : ℕ) where
   moved-exactly : (x : Nested A) (f : Test) → Decides (moved x f) (Move M b x (Passing f))
   moved-exactly x f q = (moved-found x f q, λ m. moved-passes (m .2) f (m .1))
 
-module _ {A : Type 0} (M : Meaning A) (tests : Tests M) (x : Nested A) where
+module _ {A : Type 0} (M : Meaning A) (exact : Exact M) (x : Nested A) where
   -- two walks mark what two sweeps mark
   walks-sweep : (X : States) (q : State) → Walked M x (Walked M x X) q ↔ Sweep M x (Sweep M x X) q
   walks-sweep X q = (
@@ -238,10 +238,10 @@ module _ {A : Type 0} (M : Meaning A) (tests : Tests M) (x : Nested A) where
 
   -- two walks over tests decide two sweeps
   swept-exactly : (f : Test) (X : States) → Decides f X
-      → Decides (walked M tests x (walked M tests x f)) (Sweep M x (Sweep M x X))
+      → Decides (walked M exact x (walked M exact x f)) (Sweep M x (Sweep M x X))
   swept-exactly f X d q =
-      let once = walked-exactly M tests x f X d in
-      Iff·trans (walked-exactly M tests x (walked M tests x f) (Walked M x X) once q) (walks-sweep X q)
+      let once = walked-exactly M exact x f X d in
+      Iff·trans (walked-exactly M exact x (walked M exact x f) (Walked M x X) once q) (walks-sweep X q)
 
 -- only the start
 abbrev pub only-start : Test
@@ -262,14 +262,14 @@ decided-models : {A : Type 0} (x : Nested A) (X : States) {f : Test} {marks : St
     → Models x marks X → Models x (Passing f) X
 decided-models x X d models q has = Iff·trans (d q) (models q has)
 
-module _ {A : Type 0} (M : Meaning A) (tests : Tests M) (x : Nested A) where
+module _ {A : Type 0} (M : Meaning A) (exact : Exact M) (x : Nested A) where
   -- the marks to start with, as a test
   abbrev pub start-test : Test
-  start-test = walked M tests x (walked M tests x only-start)
+  start-test = walked M exact x (walked M exact x only-start)
 
   -- one byte further: move along it, then two walks
   abbrev pub step-test : ℕ → Test → Test
-  step-test b f = walked M tests x (walked M tests x (moved M tests b x f))
+  step-test b f = walked M exact x (walked M exact x (moved M exact b x f))
 
   -- after a text
   abbrev pub after-test : List ℕ → Test → Test
@@ -282,7 +282,7 @@ module _ {A : Type 0} (M : Meaning A) (tests : Tests M) (x : Nested A) where
   after-models [] f X models = models
   after-models (b ∷ w) f X models =
       after-models w (step-test b f) (Stepped M (whole x) b X)
-      (decided-models x (Stepped M (whole x) b X) (swept-exactly M tests x _ _ (moved-exactly M tests b x f))
+      (decided-models x (Stepped M (whole x) b X) (swept-exactly M exact x _ _ (moved-exactly M exact b x f))
       (sweeps-step M b x (Passing f) X models))
 
   -- the computed test is that of the plain simulation
@@ -290,5 +290,5 @@ module _ {A : Type 0} (M : Meaning A) (tests : Tests M) (x : Nested A) where
       → Models x (Passing (after-test w start-test)) (After M (whole x) w (Started M (whole x)))
   computed-models w =
       after-models w start-test (Started M (whole x))
-      (decided-models x (Started M (whole x)) (swept-exactly M tests x only-start _ only-start-exactly)
+      (decided-models x (Started M (whole x)) (swept-exactly M exact x only-start _ only-start-exactly)
       (sweeps-start M x))

@@ -15,7 +15,7 @@ use Rattle.tree.specs.Leaf.{Leaf, meaning}
 use Rattle.tree.specs.Pieces.{cut-up, stated}
 use Rattle.tables.specs.Words.{Bit, width, run, Marked, Clean-below}
 use Rattle.tables.specs.Tables.{Holding}
-use Rattle.finder.specs.Decide.{leaf-tests}
+use Rattle.finder.specs.DecideExactly.{leaf-exact}
 use Rattle.finder.specs.Computed.{Test, Passing, start-test, after-test, computed-models}
 
 -- bit i of w as a test
@@ -134,7 +134,7 @@ unfoldable pub holds-after : Tree Leaf → List ℕ → List ℕ → Bool
 holds-after t text words =
     let x : Nested Leaf = cut-up t in
     also (tidy (below x) words) (agrees x (getD words 0 0) 0 (drop 1 words)
-    (after-test meaning leaf-tests x text (start-test meaning leaf-tests x)))
+    (after-test meaning leaf-exact x text (start-test meaning leaf-exact x)))
 
 -- they do where the test passes
 pub held-after : (t : Tree Leaf) (text words : List ℕ) → holds-after t text words ≡ true
@@ -142,7 +142,7 @@ pub held-after : (t : Tree Leaf) (text words : List ℕ) → holds-after t text 
 unfolding holds-after
 held-after t text words e =
     let x : Nested Leaf = cut-up t in
-    let computed = computed-models meaning leaf-tests x text in
+    let computed = computed-models meaning leaf-exact x text in
     let same : whole x ≡ t = stated t .same-tree in
     record {
       clean = tidy-clean (below x) words (also-first _ _ e);

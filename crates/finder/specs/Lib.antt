@@ -4,14 +4,17 @@ pub mod Found
 pub mod Answer
 pub mod Promise
 pub mod Refusals
+pub mod SearchUnique
 pub mod Unique
 -- tests that compute what is in a language, what is found and which marks words hold
 pub mod Decide
+pub mod DecideExactly
 pub mod Searched
 pub mod Computed
 pub mod Held
 pub mod Leaving
 -- how the code comes to its answer: open to this crate's own code and proofs, which a private module is not
+pub mod PartLaws
 pub mod Progress
 pub mod Taken
 pub mod Parts

@@ -9,7 +9,8 @@ use mathlib.Core.Option.{Option, none, some}
 use mathlib.Core.List.{List}
 use native.Mathlib.Omega.{arith}
 use lib.ListN.{length}
-use Rattle.finder.specs.Found.{part, None-before, Answer, at, nothing, Answers, search-unique}
+use Rattle.finder.specs.Found.{part, None-before, Answer, at, nothing, Answers}
+use Rattle.finder.specs.SearchUnique.{search-unique}
 use Rattle.finder.specs.Progress.{
   better,
   Says-part,

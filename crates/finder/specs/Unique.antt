@@ -9,7 +9,8 @@ use lib.Dec.{eqb}
 use Rattle.language.specs.Tree.{Tree}
 use Rattle.tree.specs.Leaf.{Leaf, Matches}
 use Rattle.tree.specs.Readback.{good-unique}
-use Rattle.finder.specs.Found.{Answer, at, nothing, search-unique}
+use Rattle.finder.specs.Found.{Answer, at, nothing}
+use Rattle.finder.specs.SearchUnique.{search-unique}
 use Rattle.finder.specs.Answer.{refusing, answering, finding, match-numbers, search-numbers}
 use Rattle.finder.specs.Promise.{
   Of-good,

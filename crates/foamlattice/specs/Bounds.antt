@@ -1,5 +1,4 @@
 -- The parts of every right answer are in range, so unpacking its number gives them back.
--- Assumes nothing.
 use Prim.Native.Nat.{ℕ, _+_, _*_, _≤_}
 use native.Mathlib.Omega.{arith}
 use mathlib.Core.Path.{_≡_, refl, ap}
@@ -47,7 +46,7 @@ use Rattle.picker.specs.declared.Picked.{Picked}
 use Rattle.picker.specs.declared.Picked.the-variants.{Written, NoRoom}
 use Rattle.picker.specs.Room.{output-length}
 use Rattle.picker.specs.Promise.{Picks}
-use Rattle.foamlattice.specs.Packed.{packed, Unpacks, unpacks}
+use Rattle.foamlattice.specs.Packed.{packed, Ranges, Unpacks}
 use Rattle.foamlattice.specs.Promise.{
   read-packed,
   found-packed,
@@ -59,6 +58,15 @@ use Rattle.foamlattice.specs.Promise.{
   Starting,
   Stepping,
   Picking,
+}
+
+-- parts in range come back
+pub unpacks : (r number flag x y : ℕ) → Ranges number flag x y → r ≡ packed number flag x y → Unpacks r number flag x y
+unpacks r number flag x y h e = record {
+  number-back = omega (arith, h .number-small);
+  flag-back = omega (arith, h .number-small, h .flag-small);
+  x-back = omega (arith, h .number-small, h .flag-small, h .x-small);
+  y-back = omega (arith, h .number-small, h .flag-small, h .x-small);
 }
 
 -- the numbers that reading can answer

@@ -1,8 +1,6 @@
 -- Four numbers in one: bits 0 to 7, 8 to 15, 16 to 39 and 40 to 63 of a word.
--- Assumes nothing.
 use Prim.Native.Nat.{ℕ, _+_, _*_, _/_, _%_, _<_}
 use mathlib.Core.Path.{_≡_}
-use native.Mathlib.Omega.{arith}
 
 -- a refusal's number, a flag, x and y in one number
 abbrev pub packed : (number flag x y : ℕ) → ℕ
@@ -34,15 +32,3 @@ pub record Unpacks (r number flag x y : ℕ) : Type 0 where
   pub flag-back : flag-in r ≡ flag
   pub x-back : x-in r ≡ x
   pub y-back : y-in r ≡ y
-
-pub unpacks : (r number flag x y : ℕ) → Ranges number flag x y → r ≡ packed number flag x y → Unpacks r number flag x y
-unpacks r number flag x y h e = record {
-  number-back = omega (arith, h .number-small);
-  flag-back = omega (arith, h .number-small, h .flag-small);
-  x-back = omega (arith, h .number-small, h .flag-small, h .x-small);
-  y-back = omega (arith, h .number-small, h .flag-small, h .x-small);
-}
-
--- a packed number is one of 64 bits
-pub packed-fits : (number flag x y : ℕ) → Ranges number flag x y → packed number flag x y < 18446744073709551616
-packed-fits number flag x y h = omega (arith, h .number-small, h .flag-small, h .x-small, h .y-small)

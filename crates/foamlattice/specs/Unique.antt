@@ -6,7 +6,7 @@ use mathlib.Core.Path.{_≡_, ap, sym, _∙_}
 use mathlib.Core.List.{List}
 use Rattle.marks.specs.Unique.{starts-unique, steps-unique}
 use Rattle.finder.specs.Unique.{match-unique, search-unique-numbers}
-use Rattle.picker.specs.Promise.{picks-unique}
+use Rattle.picker.specs.Unique.{picks-unique}
 use Rattle.foamlattice.specs.Promise.{
   found-packed,
   marks-packed,

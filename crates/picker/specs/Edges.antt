@@ -28,7 +28,8 @@ use Rattle.finder.specs.Promise.{
   search-found,
   search-nothing,
 }
-use Rattle.finder.specs.Decide.{any-split, any-repeat, leaf-text, matched, matches, matches-exactly}
+use Rattle.finder.specs.Decide.{any-split, any-repeat, leaf-text, matched, matches}
+use Rattle.finder.specs.DecideExactly.{matches-exactly}
 use Rattle.finder.specs.Searched.{latest-end, answer-from, searched, searched-exactly}
 use Rattle.finder.specs.Computed.{walked, moved}
 use Rattle.finder.specs.Leaving.{As-many, starts-by, steps-by}

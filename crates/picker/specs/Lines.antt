@@ -10,7 +10,8 @@ use lib.ListN.{length, getD, take, drop}
 use lib.Dec.{eqb}
 use lib.Seq.{getD-take, getD-drop, split-at, drop-append-le, length-take-le, take-all}
 use borrow.Author.Tests.{ne-eqb}
-use Rattle.finder.specs.Found.{part, part-length}
+use Rattle.finder.specs.Found.{part}
+use Rattle.finder.specs.PartLaws.{part-length}
 
 -- a byte at the front of the first line, which begins with it where there is none yet
 abbrev pub in-line : ℕ → List (List ℕ) → List (List ℕ)

@@ -10,7 +10,8 @@ use lib.ListN.{length, take, drop}
 use Rattle.language.specs.Tree.{Tree}
 use Rattle.tree.specs.Leaf.{Leaf, Matches}
 use Rattle.finder.specs.Found.{part}
-use Rattle.finder.specs.Decide.{matches, matches-answer}
+use Rattle.finder.specs.Decide.{matches}
+use Rattle.finder.specs.DecideExactly.{matches-answer}
 use Rattle.picker.specs.Lines.{lines}
 use Rattle.picker.specs.Ends.{Ends, after, line-at, lines-none, lent-part}
 use Rattle.picker.specs.Print.{text-line, total-line, yes-after, text-lines}

@@ -1,12 +1,9 @@
 -- The program `pick`: what it prints, from the bytes that it reads.
--- Assumes nothing.
-use Prim.Native.Nat.{ℕ, _+_, _-_, _≤_, _<_}
-use mathlib.Core.Path.{_≡_}
+use Prim.Native.Nat.{ℕ, _+_, _-_}
 use mathlib.Core.Bool.{Bool, true, false, cond}
 use mathlib.Core.List.{List, [], _∷_, _++_}
 use lib.ListN.{length}
 use lib.Dec.{ltb}
-use borrow.Author.Tests.{lt-ltb, le-ltb}
 use Rattle.language.specs.Tree.{Tree}
 use Rattle.tree.specs.Leaf.{Leaf}
 use Rattle.tree.specs.Records.{piece-count}
@@ -45,11 +42,6 @@ abbrev pub yes-after : Bool → ℕ → ℕ
 yes-after true yes-lines = yes-lines + 1
 yes-after false yes-lines = yes-lines
 
--- the one or the other, by a test
-abbrev pub pick-bytes : Bool → List ℕ → List ℕ → List ℕ
-pick-bytes true a b = a
-pick-bytes false a b = b
-
 -- the only line for an input that is too long
 abbrev pub too-long-line : List ℕ
 too-long-line = bytes "input too long\n"
@@ -71,21 +63,9 @@ module _ (matching : Tree Leaf → List ℕ → Bool) where
   -- what is printed for an input: with more than 65,536 bytes one line that says so
   unfoldable pub output : List ℕ → List ℕ
   output input =
-      pick-bytes (ltb 65536 (length input)) too-long-line
+      cond (ltb 65536 (length input)) too-long-line
       (reported (answered (expression (lines input))) (texts (lines input)))
 
 -- the output of `pick`
 abbrev pub picked : List ℕ → List ℕ
 picked = output matches
-
--- an input over 65,536 bytes has that one line
-pub output-long : (matching : Tree Leaf → List ℕ → Bool) (input : List ℕ) → 65536 < length input
-    → output matching input ≡ too-long-line
-unfolding output
-output-long matching input h = rw (lt-ltb 65536 (length input) h)
-
--- another one is reported by its lines
-pub output-short : (matching : Tree Leaf → List ℕ → Bool) (input : List ℕ) → length input ≤ 65536
-    → output matching input ≡ reported matching (answered (expression (lines input))) (texts (lines input))
-unfolding output
-output-short matching input h = rw (le-ltb 65536 (length input) h)

@@ -8,7 +8,8 @@ use native.Mathlib.Numerals.{add-one}
 use native.Mathlib.Omega.{arith}
 use lib.ListN.{length, set, take, drop, length-append, length-drop, length-set}
 use lib.Seq.{take-at, drop-at, drop-drop, set-split, append-snoc, length-take-le, take-length, paste, paste-zero}
-use Rattle.picker.specs.Digits.{digit, digits, digits-small, digits-large}
+use Rattle.picker.specs.Digits.{digit, digits}
+use Rattle.picker.specs.DigitLaws.{digits-small, digits-large}
 
 -- the buffer with the bytes at the place
 unfoldable pub printed : (buffer : List ℕ) (at : ℕ) (bytes : List ℕ) → List ℕ

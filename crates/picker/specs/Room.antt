@@ -14,7 +14,7 @@ use Rattle.tree.specs.Records.{piece-count}
 use Rattle.reader.specs.Scanner.{Outcome, tree, refused, scanned}
 use Rattle.reader.specs.Agree.{scanned-exactly, scanned-refusal, written-size}
 use Rattle.picker.specs.Lines.{lines, expression, texts, texts-count}
-use Rattle.picker.specs.Digits.{digits-length}
+use Rattle.picker.specs.DigitLaws.{digits-length}
 use Rattle.picker.specs.Print.{
   few-pieces,
   text-line,
@@ -24,9 +24,8 @@ use Rattle.picker.specs.Print.{
   text-lines,
   reported,
   output,
-  output-long,
-  output-short,
 }
+use Rattle.picker.specs.OutputCases.{output-long, output-short}
 
 -- a text's line has at most 16 bytes
 pub text-line-length : (test : Bool) (number rank : ℕ) → number < 100000 → rank < 100000

@@ -2,8 +2,8 @@
 -- Assumes nothing.
 use native.Mathlib.Omega.{arith}
 use Rattle.finder.specs.Decide.{matches}
-use Rattle.picker.specs.Print.{output-long, output-short}
-use Rattle.picker.specs.Promise.{wrote}
+use Rattle.picker.specs.OutputCases.{output-long, output-short}
+use Rattle.picker.specs.Written.{wrote}
 use borrow.Author.Needs.{needs}
 use Rattle.picker.proofs.pick.Statement.{statement}
 use Rattle.picker.proofs.pick.Tie as tie
