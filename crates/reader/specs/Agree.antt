@@ -83,7 +83,8 @@ tree-case (long h) e = no-tree e
 tree-case {bytes = bytes} {t = t} (usual h k) e = (k, scanner-reads bytes t e)
 
 -- a written expression of at most 1,024 bytes has its tree for an outcome
-written-case : {bytes : List ℕ} {outcome : Outcome} {t : Tree Leaf} → Case bytes outcome → length bytes ≤ longest-expression
+written-case : {bytes : List ℕ} {outcome : Outcome} {t : Tree Leaf} → Case bytes outcome
+    → length bytes ≤ longest-expression
     → Written bytes t → outcome ≡ tree t
 written-case {bytes = bytes} (empty p) h w = let none : length bytes ≡ 0 =
     rw p in absurd (omega (arith, written-size w))
@@ -111,7 +112,8 @@ module _ {bytes : List ℕ} {place : ℕ} where
   long-case (usual h k) e = absurd (omega (arith, refused-cases bytes 2 place e))
 
   -- and more than 1,024 bytes give 2
-  long-given : {outcome : Outcome} → Case bytes outcome → longest-expression < length bytes → place ≡ longest-expression → outcome ≡ refused 2 place
+  long-given : {outcome : Outcome} → Case bytes outcome → longest-expression < length bytes → place
+      ≡ longest-expression → outcome ≡ refused 2 place
   long-given (empty p) h q = let none : length bytes ≡ 0 = rw p in absurd (omega arith)
   long-given (long k) h q = rw q
   long-given (usual k l) h q = absurd (omega arith)
@@ -137,7 +139,8 @@ refusal-case : {bytes : List ℕ} {outcome : Outcome} {number place : ℕ} → C
     → outcome ≡ refused number place → Refusal number place
 refusal-case {number = number} {place = place} (empty p) e = let n : 1 ≡ number = cc in let at : 0 ≡ place =
     cc in omega arith
-refusal-case {number = number} {place = place} (long h) e = let n : 2 ≡ number = cc in let at : longest-expression ≡ place =
+refusal-case {number = number} {place = place} (long h) e = let n : 2 ≡ number = cc in let at : longest-expression
+    ≡ place =
     cc in omega arith
 refusal-case {bytes = bytes} (usual h k) e = omega (arith, refused-cases bytes _ _ e)
 

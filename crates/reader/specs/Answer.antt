@@ -39,7 +39,8 @@ numbers (Refused number place) = refusing number place
 abbrev pub answer-for : Outcome → (room : ℕ) → Numbers
 answer-for (refused number place) room = refusing number place
 answer-for (tree t) room =
-    cond (ltb most-pieces (piece-count t)) (refusing 8 0) (cond (ltb room (record-size * nodes t)) (refusing 9 0) (reading t))
+    cond (ltb most-pieces (piece-count t)) (refusing 8 0) (cond (ltb room (record-size * nodes t)) (refusing 9 0)
+    (reading t))
 
 -- what the buffer holds afterwards: the records, and past them what it held; the same as before where the expression is
 -- refused

@@ -52,7 +52,8 @@ too-long (b ∷ bytes) h =
     }
 
 -- else the scan decides
-sized : (bytes : List ℕ) → (length bytes ≡ 0 → ⊥) → length bytes ≤ longest-expression → scanned bytes ≡ from bytes 0 due nothing []
+sized : (bytes : List ℕ) → (length bytes ≡ 0 → ⊥) → length bytes ≤ longest-expression → scanned bytes
+    ≡ from bytes 0 due nothing []
 unfolding scanned from
 sized [] some h = absurd (some refl)
 sized (b ∷ bytes) some h = ap (λ (t : Bool). cond t (refused 2 longest-expression) (scan (b ∷ bytes) 0 due nothing []))

@@ -59,7 +59,8 @@ Open-before end (g ∷ groups) = (g .place ≤ end) × Open-before end groups
 module _ (end place : ℕ) (h : place ≤ end) (on : Onward) (fits : (phase : Phase) (before : Before) (groups : List Group)
     → Escape-before end phase → Open-before end groups → Tree-or-fault end (on phase before groups)) where
   -- whichever of two outcomes a test picks
-  picked-fits : (test : Bool) (a b : Outcome) → Tree-or-fault end a → Tree-or-fault end b → Tree-or-fault end (cond test a b)
+  picked-fits : (test : Bool) (a b : Outcome) → Tree-or-fault end a → Tree-or-fault end b
+      → Tree-or-fault end (cond test a b)
   picked-fits true a b p q = p
   picked-fits false a b p q = q
 
@@ -92,7 +93,8 @@ module _ (end place : ℕ) (h : place ≤ end) (on : Onward) (fits : (phase : Ph
   follow-fits plain b t before groups o = operand-fits plain b (next-factor before t) groups o
 
   -- in each phase
-  byte-fits : (b : ℕ) (phase : Phase) (before : Before) (groups : List Group) → Escape-before end phase → Open-before end groups
+  byte-fits : (b : ℕ) (phase : Phase) (before : Before) (groups : List Group) → Escape-before end phase
+      → Open-before end groups
       → Tree-or-fault end (byte-at b place phase on before groups)
   byte-fits b due before groups m o = operand-fits (sign-of b) b before groups o
   byte-fits b (escaping begin) before groups m o =
@@ -101,7 +103,8 @@ module _ (end place : ℕ) (h : place ≤ end) (on : Onward) (fits : (phase : Ph
   byte-fits b (after t) before groups m o = follow-fits (sign-of b) b t before groups o
 
 -- at the end in each phase
-end-fits : (end place : ℕ) → place ≤ end → (phase : Phase) (before : Before) (groups : List Group) → Escape-before end phase
+end-fits : (end place : ℕ) → place ≤ end → (phase : Phase) (before : Before) (groups : List Group)
+    → Escape-before end phase
     → Open-before end groups → Tree-or-fault end (end-at place phase before groups)
 end-fits end place h due before groups m o = omega arith
 end-fits end place h (escaping begin) before groups m o = omega arith

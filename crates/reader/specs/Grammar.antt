@@ -30,7 +30,8 @@ pub data Spells : ℕ → Level → List ℕ → List ℕ → Tree Leaf → Type
       → Spells depth starred between rest t → Spells depth joined bytes rest (catenation s t)
   one-branch : {depth : ℕ} {bytes rest : List ℕ} {t : Tree Leaf} → Spells depth joined bytes rest t
       → Spells depth united bytes rest t
-  next-branch : {depth : ℕ} {bytes between rest : List ℕ} {s t : Tree Leaf} → Spells depth united bytes (124 ∷ between) s
+  next-branch : {depth : ℕ} {bytes between rest : List ℕ} {s t : Tree Leaf}
+      → Spells depth united bytes (124 ∷ between) s
       → Spells depth joined between rest t → Spells depth united bytes rest (union s t)
 
 -- the bytes are a written expression with the tree t

@@ -54,7 +54,8 @@ sure-pick t false false e f = omega (arith, nodes-positive t)
 sure-answer : (bytes : List ℕ) (room : ℕ) (outcome : Outcome) → scanned bytes ≡ outcome
     → answer-for outcome room .refusal ≡ 0 → answer-for outcome room .records ≡ 0 → ⊥
 sure-answer bytes room (refused number place) scans e f = omega (arith, scanned-refusal bytes number place scans .least)
-sure-answer bytes room (tree t) scans e f = sure-pick t (ltb most-pieces (piece-count t)) (ltb room (record-size * nodes t)) e f
+sure-answer bytes room (tree t) scans e f = sure-pick t (ltb most-pieces (piece-count t)) (ltb room
+    (record-size * nodes t)) e f
 
 -- two answers that both fit the promise are equal
 pub answer-unique : (bytes : List ℕ) (room : ℕ) (r s : Answer) → numbers r ≡ answered bytes room
@@ -92,7 +93,8 @@ kept-pick bytes before after records pieces t scans false false m h e f =
       parted = ap (λ (n : Numbers). n .pieces) e;
       fits = omega (arith, ltb-false (length before) (record-size * nodes t) h);
       good = record {
-        of-tree = rw (f, counted) (take-at (encode t) (drop (record-size * nodes t) before) (record-size * nodes t) long);
+        of-tree = rw (f, counted) (take-at (encode t) (drop (record-size * nodes t) before)
+            (record-size * nodes t) long);
         few = ltb-false most-pieces (piece-count t) m;
       };
       rest = rw (f, counted) (drop-at (encode t) (drop (record-size * nodes t) before) (record-size * nodes t) long);
@@ -104,7 +106,8 @@ kept-outcome : (bytes before after : List ℕ) (records pieces : ℕ) (outcome :
 kept-outcome bytes before after records pieces (refused number place) scans e f =
     absurd (omega (arith, ap (λ (n : Numbers). n .refusal) e, scanned-refusal bytes number place scans .least))
 kept-outcome bytes before after records pieces (tree t) scans e f =
-    kept-pick bytes before after records pieces t scans (ltb most-pieces (piece-count t)) (ltb (length before) (record-size * nodes t))
+    kept-pick bytes before after records pieces t scans (ltb most-pieces (piece-count t)) (ltb (length before)
+    (record-size * nodes t))
     refl refl e f
 
 -- from what `read` promises, where it answers that the records were written

@@ -134,7 +134,8 @@ module _ {bytes : List ℕ} {depth at count : ℕ} {earlier : List ℕ} where
   -- a closed group
   pub went-group : {next total : ℕ} {later : List ℕ}
       → Whole united bytes (depth + 1) (at + 1) count earlier next total later → next < length bytes → depth < 32
-      → at < length bytes → getD bytes at 0 ≡ 40 → Read-up-to starred bytes depth at count earlier (next + 1) total later
+      → at < length bytes → getD bytes at 0 ≡ 40 → Read-up-to starred bytes depth at count earlier
+      (next + 1) total later
   went-group {next = next} r inside few h e =
       record {
         read = r .went .read;
@@ -147,7 +148,8 @@ module _ {bytes : List ℕ} {depth at count : ℕ} {earlier : List ℕ} where
 
   -- an operand is read when its stars are
   pub then-stars : {next total : ℕ} {middle : List ℕ} (later : List ℕ) (answer : Part)
-      → Read-up-to starred bytes depth at count earlier next total middle → Stars-answer bytes next total middle later answer
+      → Read-up-to starred bytes depth at count earlier next total middle
+      → Stars-answer bytes next total middle later answer
       → Part-answer starred bytes at depth count earlier later answer
   then-stars later (Read last sum) w s = record { went = s .carries depth .on at count earlier w; stops = s .stops }
   then-stars later (Refused number place) w s = absurd s

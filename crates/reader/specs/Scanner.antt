@@ -111,4 +111,5 @@ scan (b ∷ rest) place phase before groups = byte-at b place phase (scan rest (
 -- or its tree
 unfoldable pub scanned : List ℕ → Outcome
 scanned [] = refused 1 0
-scanned (b ∷ rest) = cond (ltb longest-expression (length (b ∷ rest))) (refused 2 longest-expression) (scan (b ∷ rest) 0 due nothing [])
+scanned (b ∷ rest) = cond (ltb longest-expression (length (b ∷ rest))) (refused 2 longest-expression) (scan
+    (b ∷ rest) 0 due nothing [])

@@ -75,7 +75,8 @@ pub record Read-before (depth : ℕ) (bytes rest : List ℕ) (before : Before) :
 -- what stands before each open group's inside is already read: `inside` is where the innermost one's begins
 pub data Read-around (whole : List ℕ) : List Group → List ℕ → Type 0 where
   outermost : Read-around whole [] whole
-  in-group : {g : Group} {groups : List Group} {outer inside : List ℕ} → length groups < 32 → Read-around whole groups outer
+  in-group : {g : Group} {groups : List Group} {outer inside : List ℕ} → length groups < 32
+      → Read-around whole groups outer
       → Read-before (length groups) outer (40 ∷ inside) (g .outside) → Read-around whole (g ∷ groups) inside
 
 -- what the scanner's state says of the bytes before the rest, by its phase: where an operand is due, after a `\`, after
@@ -83,7 +84,8 @@ pub data Read-around (whole : List ℕ) : List Group → List ℕ → Type 0 whe
 pub data Read-so-far (whole : List ℕ) : List ℕ → Phase → Before → List Group → Type 0 where
   at-operand : {inside rest : List ℕ} {before : Before} {groups : List Group} → Read-around whole groups inside
       → Read-before (length groups) inside rest before → Read-so-far whole rest due before groups
-  at-escape : {place : ℕ} {inside rest : List ℕ} {before : Before} {groups : List Group} → Read-around whole groups inside
+  at-escape : {place : ℕ} {inside rest : List ℕ} {before : Before} {groups : List Group}
+      → Read-around whole groups inside
       → Read-before (length groups) inside (92 ∷ rest) before → Read-so-far whole rest (escaping place) before groups
   past-operand : {inside from rest : List ℕ} {before : Before} {groups : List Group} {t : Tree Leaf}
       → Read-around whole groups inside → Read-before (length groups) inside from before
@@ -108,7 +110,8 @@ one-more-branch none e r = rw e (one-branch r)
 one-more-branch (some s) q r = next-branch q r
 
 -- the last operand makes the whole expression of a group
-complete : {depth : ℕ} {bytes from rest : List ℕ} {before : Before} {t : Tree Leaf} → Read-before depth bytes from before
+complete : {depth : ℕ} {bytes from rest : List ℕ} {before : Before} {t : Tree Leaf}
+    → Read-before depth bytes from before
     → Spells depth starred from rest t → Spells depth united bytes rest (finished before t)
 complete {before = before} w r =
     one-more-branch (before .unions) (w .branches) (one-more-factor (before .factors) (w .factors) r)
@@ -149,11 +152,13 @@ module _ {whole rest : List ℕ} {before : Before} {groups : List Group} where
   opens-group h (at-operand around w) = at-operand (in-group h around w) started
 
   -- a `\` stands before the operand
-  escapes : {place : ℕ} → Read-so-far whole (92 ∷ rest) due before groups → Read-so-far whole rest (escaping place) before groups
+  escapes : {place : ℕ} → Read-so-far whole (92 ∷ rest) due before groups
+      → Read-so-far whole rest (escaping place) before groups
   escapes (at-operand around w) = at-escape around w
 
   -- a special byte after a `\`
-  takes-special : {b place : ℕ} → special (sign-of b) ≡ true → Read-so-far whole (b ∷ rest) (escaping place) before groups
+  takes-special : {b place : ℕ} → special (sign-of b) ≡ true → Read-so-far whole (b ∷ rest)
+      (escaping place) before groups
       → Read-so-far whole rest (after (leaf (character b))) before groups
   takes-special p (at-escape around w) = past-operand around w (no-star (escaped p))
 
@@ -191,7 +196,8 @@ module _ (whole rest : List ℕ) (t : Tree Leaf) (on : Onward)
 
   -- at a `)` after an operand
   closed-sound : (s : Tree Leaf) (place : ℕ) (before : Before) (groups : List Group)
-      → Read-so-far whole (41 ∷ rest) (after s) before groups → closed s place on before groups ≡ tree t → Written whole t
+      → Read-so-far whole (41 ∷ rest) (after s) before groups → closed s place on before groups ≡ tree t
+      → Written whole t
   closed-sound s place before [] st e = no-tree e
   closed-sound s place before (g ∷ groups) st e = sound (after (finished before s)) (g .outside) groups (ends-group st)
       e
@@ -213,7 +219,8 @@ module _ (whole rest : List ℕ) (t : Tree Leaf) (on : Onward)
 
   -- in each phase
   byte-sound : (b place : ℕ) (phase : Phase) (before : Before) (groups : List Group)
-      → Read-so-far whole (b ∷ rest) phase before groups → byte-at b place phase on before groups ≡ tree t → Written whole t
+      → Read-so-far whole (b ∷ rest) phase before groups → byte-at b place phase on before groups ≡ tree t
+      → Written whole t
   byte-sound b place due before groups st e = operand-sound (sign-of b) b place before groups refl (sign-means b) st e
   byte-sound b place (escaping begin) before groups st e =
       only-true (special (sign-of b)) _ 7 begin

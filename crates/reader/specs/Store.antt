@@ -38,7 +38,8 @@ module _ (ls before : List ℕ) (n : ℕ) (count : (t : Tree Leaf) → ls ≡ la
   pub stored-many : most-pieces < n → Store-answer ls before before (Refused 8 0)
   stored-many h = record { answer = λ t e. rw (many t e h); buffer = λ t e. rw (many t e h) }
 
-  pub stored-short : n ≤ most-pieces → length before < record-size * length ls → Store-answer ls before before (Refused 9 0)
+  pub stored-short : n ≤ most-pieces → length before < record-size * length ls
+      → Store-answer ls before before (Refused 9 0)
   stored-short h short =
       record {
         answer = λ t e. rw (not-many t e h, lt-ltb (length before) (record-size * nodes t) (omega (arith, long t e)));
@@ -56,5 +57,6 @@ module _ (ls before : List ℕ) (n : ℕ) (count : (t : Tree Leaf) → ls ≡ la
           long t e,
           count t e,
         );
-        buffer = λ t e. rw (not-many t e h, le-ltb (length before) (record-size * nodes t) (omega (arith, long t e))) (wrote t e);
+        buffer = λ t e. rw (not-many t e h, le-ltb (length before) (record-size * nodes t) (omega (arith, long t e)))
+            (wrote t e);
       }

@@ -1,4 +1,5 @@
--- Part-answer in all surroundings: scanning on from a place with an operand due is scanning on from a later place after a
+-- Part-answer in all surroundings: scanning on from a place with an operand due is scanning on from a later place after
+-- a
 -- tree, or a refusal.
 -- Assumes nothing.
 use Prim.Native.Nat.{ℕ, suc, _+_, _<_, _≤_}
@@ -316,7 +317,8 @@ module _ (bytes : List ℕ) where
     fails-factor f =
         record {
           onward = λ before groups d. l .onward before groups d
-              ∙ begins place s (seen joined before) groups h more ∙ f .onward (next-factor (seen joined before) s) groups d;
+              ∙ begins place s (seen joined before) groups h more
+              ∙ f .onward (next-factor (seen joined before) s) groups d;
         }
 
   -- a union with one more branch

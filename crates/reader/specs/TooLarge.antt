@@ -31,14 +31,16 @@ eight-first t false false e = absurd (omega (arith, ap (λ (n : Numbers). n .ref
 -- the cut decides
 eight-tree : (t : Tree Leaf) (room : ℕ) → (answer-for (tree t) room ≡ refusing 8 0) ↔ (most-pieces < piece-count t)
 eight-tree t room = (
-  λ e. ltb-true most-pieces (piece-count t) (eight-first t (ltb most-pieces (piece-count t)) (ltb room (record-size * nodes t)) e),
+  λ e. ltb-true most-pieces (piece-count t) (eight-first t (ltb most-pieces (piece-count t)) (ltb room
+      (record-size * nodes t)) e),
   λ many. ap (λ (b : Bool). cond b (refusing 8 0) (cond (ltb room (record-size * nodes t)) (refusing 9 0) (reading t)))
       (lt-ltb most-pieces (piece-count t) many),
 )
 
 -- an expression with no fault in its writing or length is refused as 8 exactly when every cut with pieces of at most 15
 -- nodes has more than 128 pieces
-pub too-large-exactly : (bytes : List ℕ) (room : ℕ) (t : Tree Leaf) → length bytes ≤ longest-expression → Written bytes t
+pub too-large-exactly : (bytes : List ℕ) (room : ℕ) (t : Tree Leaf) → length bytes ≤ longest-expression
+    → Written bytes t
     → (answered bytes room ≡ refusing 8 0) ↔ ((c : Cut t) → Fits t c → most-pieces < pieces t c)
 too-large-exactly bytes room t few w =
     let scans : scanned bytes ≡ tree t = scanned-exactly bytes t .1 (few, w) in (

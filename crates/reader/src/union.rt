@@ -8,7 +8,8 @@ ghost use Rattle.reader.specs.Reading.{Scratch-room, Part-answer};
 // Reads a union from a place on.
 pub fn union(expr: &[u8], at: usize, depth: usize, labels: &mut [u16], count: usize) -> Part
     requires { ⌜ Scratch-room (now expr) at depth count (now labels) ⌝ }
-    ensures { λ r. ⌜ Part-answer united (now (expr .entry)) at depth count (now (labels .entry)) (now (labels .exit)) r ⌝ }
+    ensures { λ r. ⌜ Part-answer united (now (expr .entry)) at depth count (now (labels .entry)) (now
+        (labels .exit)) r ⌝ }
 {
     let first = catenation(expr, at, depth, labels, count);
     let Part::Read { next, count } = first else {

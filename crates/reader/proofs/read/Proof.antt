@@ -1,4 +1,5 @@
--- `reader::read` meets its contract: the scratch holds the labels of the expression's tree, and they are records-after; or the
+-- `reader::read` meets its contract: the scratch holds the labels of the expression's tree, and they are records-after;
+-- or the
 -- refusal is handed on.
 -- Assumes nothing.
 use Prim.Native.Nat.{_≤_}

@@ -63,7 +63,8 @@ part-read : (t : ℕ) (c : After-next t)
     → let s = start-of t (head-of t c .before) in
     let l = head-of t c .loop in
     Whole starred (s .args .expr .now) (s .args .depth) (l .place) (l .n) (l .labels)
-    (c .before .part .given .0 .0) (c .before .part .given .0 .1 .0) (c .before .before .before .before .before .operand2 .last .1 .1 .1 .0)
+    (c .before .part .given .0 .0) (c .before .part .given .0 .1 .0)
+    (c .before .before .before .before .before .operand2 .last .1 .1 .1 .0)
 part-read t c = rw (c .before .part .given .1) at (c .before .before .before .before .before .operand2 .ensures)
 
 -- after both tests the next operand begins at the loop's place
@@ -168,7 +169,11 @@ same-length-4 t c = search needs
 pub returns-4 : (t : ℕ) → lts.Need-returns-4 (catenation-claims t) (catenation-at t) catenation.Post Inv-loop μ-loop
 returns-4 t c =
     let l = c .before .before .before in
-    record { went = here t l; stops = stops-at _ (l .loop .place) (c .before .before .loop-test .taken) (c .if1 .taken) refl }
+    record {
+      went = here t l;
+      stops = stops-at _ (l .loop .place) (c .before .before .loop-test .taken)
+          (c .if1 .taken) refl;
+    }
 
 pub same-length-5 : (t : ℕ) → lts.Need-same-length-5 (catenation-claims t) (catenation-at t) catenation.Post Inv-loop
     μ-loop

@@ -58,7 +58,8 @@ part-read : (t : ℕ) (c : After-next t)
     → let s = start-of t (head-of t c .before) in
     let l = head-of t c .loop in
     Whole joined (s .args .expr .now) (s .args .depth) (l .place + 1) (l .n) (l .labels)
-    (c .before .part .given .0 .0) (c .before .part .given .0 .1 .0) (c .before .before .before .before .before .catenation2 .last .1 .1 .1 .0)
+    (c .before .part .given .0 .0) (c .before .part .given .0 .1 .0)
+    (c .before .before .before .before .before .catenation2 .last .1 .1 .1 .0)
 part-read t c = rw (c .before .part .given .1) at (c .before .before .before .before .before .catenation2 .ensures)
 
 pub catenation-requires : (t : ℕ) → lts.Need-catenation-requires (union-claims t) (union-at t) union.Post Inv-loop

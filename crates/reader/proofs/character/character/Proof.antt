@@ -46,7 +46,8 @@ returns-2 c =
     let special = sym (tested .before .is-special .ensures) ∙ tested .if3 .taken in
     character-read (s .args .labels .now) _ _
     (λ depth. leads-escaped (s .args .expr .now) depth (s .args .at) (omega arith) (escape .if1 .taken) special)
-    (omega arith) (omega arith) (omega arith) (c .before .before .leaf .ensures .0) (c .before .before .leaf .ensures .1)
+    (omega arith) (omega arith) (omega arith) (c .before .before .leaf .ensures .0)
+    (c .before .before .leaf .ensures .1)
 
 returns-3 : tie.Need-returns-3
 returns-3 c =
