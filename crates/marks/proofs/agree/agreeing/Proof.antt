@@ -13,6 +13,10 @@ Inv-loop runs stands tops words pieces top child₀ child =
 abbrev μ-loop : tie.MeasureT-loop
 μ-loop runs stands tops words pieces top child₀ child = pieces - child
 
+-- where the call began, seen from the test of the bits past the last state
+abbrev entry : tie.After-none-past Inv-loop μ-loop → tie.Start Inv-loop μ-loop
+entry c = c .before .before .before .before .before .before .before
+
 shared-slice-read-top : tie.Need-shared-slice-read-top Inv-loop μ-loop
 shared-slice-read-top c = omega arith
 
@@ -23,19 +27,20 @@ shared-slice-read-none-past : tie.Need-shared-slice-read-none-past Inv-loop μ-l
 shared-slice-read-none-past c = omega arith
 
 none-past-requires : tie.Need-none-past-requires Inv-loop μ-loop
-none-past-requires c κs = c .before .before .before .before .before .before .pre .low-tops 0
-    (c .before .before .before .before .before .before .pre .some)
+none-past-requires c κs =
+    let known = c .before .before .before .before .before .before .pre in
+    known .low-tops 0 (known .some)
 
 loop-holds : tie.Need-loop-holds Inv-loop μ-loop
 loop-holds c = (
   omega arith,
-  c .before .before .before .before .before .before .before .before .pre .some,
+  entry (c .before) .pre .some,
   λ k l m. absurd (omega arith),
 )
 
 child-agrees-requires : tie.Need-child-agrees-requires Inv-loop μ-loop
 child-agrees-requires c κs = (
-  c .before .before .before .before .before .before .before .before .before .before .pre,
+  entry (c .before .before .before) .pre,
   c .before .loop .inv .0,
   c .loop-test .taken,
 )
@@ -67,7 +72,7 @@ returns-2 c =
     })
 
 returns-3 : tie.Need-returns-3 Inv-loop μ-loop
-returns-3 c = told-all {words = c .before .before .before .before .before .before .before .before .args .words .now}
+returns-3 c = told-all {words = entry (c .before) .args .words .now}
     (told-no (λ h. c .before .none-past .ensures .fails (c .if1 .left) (h .top-small)))
 
 pub agreeing-spec : {M : Type 1} → statement M

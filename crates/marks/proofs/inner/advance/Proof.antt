@@ -12,6 +12,16 @@ use Rattle.marks.proofs.bits.has_bit.Reads as has-bit-reads
 use Rattle.marks.proofs.moves.move_all.Reads as move-all-reads
 use Rattle.marks.proofs.sweep.close_twice.Reads as close-twice-reads
 
+-- where the marks were closed, where they had been moved along the byte, and where the call began
+abbrev closed : tie.After-slice-known4 → tie.After-close-twice
+closed c = c .before .before .before .before
+
+abbrev moved : tie.After-close-twice-arg → tie.After-move-all
+moved c = c .before .before .before .before .before .before .before
+
+abbrev entry : tie.After-move-all → tie.Start
+entry c = c .before .before .before .before .before .before .before .before
+
 move-all-requires : tie.Need-move-all-requires
 move-all-requires c κs = search needs
 
@@ -23,8 +33,8 @@ marked-to-requires c κs = search needs
 
 close-twice-requires : tie.Need-close-twice-requires
 close-twice-requires c κs =
-    moved-closable
-    (c .before .before .before .before .before .before .before .before .before .before .before .before .before .before .before .pre) (c .before .before .before .before .before .before .before .move-all .ensures) (c .before .before .before .marked-from .ensures) (c .before .marked-to .ensures)
+    moved-closable (entry (moved c) .pre) (moved c .move-all .ensures) (c .before .before .before .marked-from .ensures)
+    (c .before .marked-to .ensures)
 
 shared-slice-read-top : tie.Need-shared-slice-read-top
 shared-slice-read-top c = search needs
@@ -36,16 +46,16 @@ slice-read-has-bit : tie.Need-slice-read-has-bit
 slice-read-has-bit c = search needs
 
 has-bit-requires : tie.Need-has-bit-requires
-has-bit-requires c κs =
-    top-low (c .before .before .before .before .before .before .before .before .before .before .before .before .before .before .before .before .before .before .before .before .pre .ready .of-tree .1)
+has-bit-requires c κs = top-low (entry (moved (closed c .before)) .pre .ready .of-tree .1)
 
 same-length : tie.Need-same-length
 same-length c = search needs
 
 returns : tie.Need-returns
 returns c = λ t prepared marks.
-    advanced prepared _ _ _ _ _ marks
-    (c .before .before .before .before .before .before .before .before .before .before .before .before .before .move-all .ensures) (c .before .before .before .before .before .close-twice .ensures) (c .before .before .before .before .before .close-twice .kept .1 .1 .1 .1 .1 .1 .1 .0) (c .has-bit .ensures)
+    let done = closed (c .before) in
+    advanced prepared _ _ _ _ _ marks (moved (done .before) .move-all .ensures) (done .close-twice .ensures)
+    (done .close-twice .kept .1 .1 .1 .1 .1 .1 .1 .0) (c .has-bit .ensures)
 
 pub advance-spec : {M : Type 1} → statement M
 advance-spec =

@@ -13,6 +13,16 @@ use Rattle.marks.proofs.bits.has_bit.Reads as has-bit-reads
 use Rattle.marks.proofs.inner.copy.Reads as copy-reads
 use Rattle.marks.proofs.sweep.close_twice.Reads as close-twice-reads
 
+-- where the marks were put into the lent words, where they had been closed, and where the call began
+abbrev copied : tie.After-slice-known3 → tie.After-copy
+copied c = c .before .before .before .before
+
+abbrev closed : tie.After-copy → tie.After-close-twice
+closed c = c .before .before .before .before
+
+abbrev entry : tie.After-close-twice → tie.Start
+entry c = c .before .before .before .before .before .before .before .before
+
 array-write-marks : tie.Need-array-write-marks
 array-write-marks c = search needs
 
@@ -38,22 +48,18 @@ slice-read-has-bit : tie.Need-slice-read-has-bit
 slice-read-has-bit c = search needs
 
 has-bit-requires : tie.Need-has-bit-requires
-has-bit-requires c κs =
-    top-low (c .before .before .before .before .before .before .before .before .before .before .before .before .before .before .before .before .pre .0 .of-tree .1)
+has-bit-requires c κs = top-low (entry (closed (copied c)) .pre .0 .of-tree .1)
 
 same-length : tie.Need-same-length
 same-length c = search needs
 
 returns : tie.Need-returns
 returns c = λ t prepared.
-    begun prepared begins _ _ _ _ (begins-marked (cut-up t))
-    (c .before .before .before .before .before .before .before .before .before .close-twice .ensures)
-    (omega (
-      arith,
-      c .before .before .before .before .before .before .before .before .before .close-twice .kept .1 .1 .1 .1 .1 .1 .1 .0,
-      prepared .counted,
-      prepared .few,
-    )) (c .before .before .before .before .before .before .before .before .before .before .before .before .before .before .before .before .before .pre .1) (c .before .before .before .before .before .copy .ensures) (c .has-bit .ensures)
+    let put = copied (c .before) in
+    let done = closed put in
+    begun prepared begins _ _ _ _ (begins-marked (cut-up t)) (done .close-twice .ensures)
+    (omega (arith, done .close-twice .kept .1 .1 .1 .1 .1 .1 .1 .0, prepared .counted, prepared .few))
+    (entry done .pre .1) (put .copy .ensures) (c .has-bit .ensures)
 
 pub begin-spec : {M : Type 1} → statement M
 begin-spec =

@@ -278,7 +278,7 @@ sweep-at-rest-requires t c κs = let r =
       omega (
         arith,
         r .runs-room,
-        start-of t (c .before .before .before .before .before .before .before .before .before .before .before) .pre .1 .sized .runs-sized,
+        start-of t (missed-loop t (c .before .before) .before .before) .pre .1 .sized .runs-sized,
       ),
     )
 
@@ -346,11 +346,7 @@ sweep-sweep-requires t c κs =
 
 sweep-mul-pass-2 : (t : ℕ) → sweep-lts.Need-mul-pass-2 (sweep-claims t) (sweep-at t) sweep.Post sweep-Inv-loop
     sweep-μ-loop
-sweep-mul-pass-2 t c =
-    search (
-      needs,
-      room t (c .before .before .before .before .before .before .before .before .before .before .before .before .before .before .before .before .before .before .before .before),
-    )
+sweep-mul-pass-2 t c = search (needs, room t (going-on t (c .before .before)))
 
 sweep-slice-read-pass-3 : (t : ℕ)
     → sweep-lts.Need-slice-read-pass-3 (sweep-claims t) (sweep-at t) sweep.Post sweep-Inv-loop sweep-μ-loop
@@ -375,16 +371,12 @@ sweep-slice-read-pass-4 t c = let w =
     )
 
 sweep-add-pass : (t : ℕ) → sweep-lts.Need-add-pass (sweep-claims t) (sweep-at t) sweep.Post sweep-Inv-loop sweep-μ-loop
-sweep-add-pass t c =
-    search (
-      needs,
-      room t (c .before .before .before .before .before .before .before .before .before .before .before .before .before .before .before .before .before .before .before .before .before .before),
-    )
+sweep-add-pass t c = search (needs, room t (going-on t (c .before .before .before .before)))
 
 sweep-pass-requires-2 : (t : ℕ) → sweep-lts.Need-pass-requires-2 (sweep-claims t) (sweep-at t) sweep.Post sweep-Inv-loop
     sweep-μ-loop
-sweep-pass-requires-2 t c κs = let r =
-    room t (c .before .before .before .before .before .before .before .before .before .before .before .before .before .before .before .before .before .before .before .before .before .before) in (r .top-small, r .stand-small)
+sweep-pass-requires-2 t c κs =
+    let r = room t (going-on t (c .before .before .before .before)) in (r .top-small, r .stand-small)
 
 sweep-add-close-from : (t : ℕ) → sweep-lts.Need-add-close-from (sweep-claims t) (sweep-at t) sweep.Post sweep-Inv-loop
     sweep-μ-loop
