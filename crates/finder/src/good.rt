@@ -10,13 +10,13 @@ ghost use mathlib.Core.Logic.{_↔_};
 ghost use Rattle.language.specs.Tree.{Tree};
 ghost use Rattle.tree.specs.Leaf.{Leaf, Matches};
 ghost use Rattle.tree.specs.Records.{Good};
-ghost use Rattle.tables.specs.Given.{Good-list};
+ghost use Rattle.tables.specs.Given.{Decided-good};
 ghost use Rattle.finder.specs.Found.{Answers};
 ghost use Rattle.finder.specs.Parts.{answer-of, is-part};
 
 // The part in the language that starts earliest and then ends furthest; of the whole text alone where `whole` says so.
-pub fn find_good(list: &[u8], text: &[u8], whole: bool) -> Part
-    requires { ⌜ Good-list (now list) ⌝ }
+pub fn find_good(list: &[u8], cuts: &[u16], count: usize, text: &[u8], whole: bool) -> Part
+    requires { ⌜ Decided-good (now list) (now cuts) count ⌝ }
     ensures { λ r. ⌜ (whole ≡ true → (t : Tree Leaf) → Good (now (list .entry)) t
         → (is-part r ≡ true) ↔ Matches t (now (text .entry))) ⌝ }
     ensures { λ r. ⌜ (whole ≡ false → (t : Tree Leaf) → Good (now (list .entry)) t
@@ -27,8 +27,10 @@ pub fn find_good(list: &[u8], text: &[u8], whole: bool) -> Part
     let mut runs = [0u8; 128];
     let mut stands = [0u8; 128];
     let mut tops = [0u8; 128];
-    let count = prepare(
+    prepare(
         list,
+        cuts,
+        count,
         &mut reach,
         &mut labels,
         &mut runs,

@@ -9,7 +9,8 @@ pub use text::text_matches;
 ghost use Rattle.finder.specs.Answer.{match-numbers, search-numbers};
 ghost use Rattle.finder.specs.Promise.{Match-answers, Search-answers};
 use tree::good::Decided;
-use tree::good::decide;
+use tree::good::decide_with;
+use tree::limits::SLOT_COUNT;
 
 // The most bytes that a text may have.
 const LONGEST: usize = 65536;
@@ -41,18 +42,15 @@ pub enum Searched {
 pub fn is_match(list: &[u8], text: &[u8]) -> Matched
     ensures { λ r. ⌜ Match-answers (now (list .entry)) (now (text .entry)) (match-numbers r) ⌝ }
 {
-    let decided = decide(list);
-    let Decided::Good {
-        records: _,
-        pieces: _,
-    } = decided
-    else {
+    let mut cuts = [0u16; SLOT_COUNT];
+    let decided = decide_with(list, &mut cuts);
+    let Decided::Good { records: _, pieces } = decided else {
         return Matched::NotGood;
     };
     if LONGEST < text.len() {
         return Matched::TooLong;
     }
-    let part = good::find_good(list, text, true);
+    let part = good::find_good(list, &cuts, pieces, text, true);
     match part {
         Part::At { start: _, end: _ } => Matched::Yes,
         Part::Nothing => Matched::No,
@@ -63,18 +61,15 @@ pub fn is_match(list: &[u8], text: &[u8]) -> Matched
 pub fn search(list: &[u8], text: &[u8]) -> Searched
     ensures { λ r. ⌜ Search-answers (now (list .entry)) (now (text .entry)) (search-numbers r) ⌝ }
 {
-    let decided = decide(list);
-    let Decided::Good {
-        records: _,
-        pieces: _,
-    } = decided
-    else {
+    let mut cuts = [0u16; SLOT_COUNT];
+    let decided = decide_with(list, &mut cuts);
+    let Decided::Good { records: _, pieces } = decided else {
         return Searched::NotGood;
     };
     if LONGEST < text.len() {
         return Searched::TooLong;
     }
-    let part = good::find_good(list, text, false);
+    let part = good::find_good(list, &cuts, pieces, text, false);
     match part {
         Part::At { start, end } => Searched::Found { start, end },
         Part::Nothing => Searched::Nothing,

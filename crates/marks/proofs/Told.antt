@@ -1,25 +1,34 @@
--- What an answer tells, by its cases: that of `tree::good::decide`, and that of a start or a step.
+-- What an answer tells, by its cases: that of `tree::good::decide_with`, and that of a start or a step.
 use Prim.Native.Nat.{ℕ, suc}
-use mathlib.Core.Path.{_≡_, sym}
+use mathlib.Core.Path.{_≡_, sym, subst}
 use mathlib.Core.List.{List, [], _∷_}
 use native.Mathlib.Omega.{arith}
-use lib.ListN.{getD}
+use lib.ListN.{length, getD}
 use denote.Enum.Declared.{tagOf}
-use Rattle.tree.specs.Judged.{Judged}
+use Rattle.tree.specs.Limits.{slot-count}
+use Rattle.tree.specs.Judged.{Judged, Counts-below}
 use Rattle.tree.specs.declared.good.Decided.{Decided}
 use Rattle.tree.specs.declared.good.Decided.the-variants.{Good as good, NotGood as not-good}
 use Rattle.tree.proofs.good.Decided.{the-type}
-use Rattle.tables.specs.Given.{Good-list}
+use Rattle.tables.specs.Given.{Decided-good}
 use Rattle.marks.specs.declared.Answer.{Answer}
 use Rattle.marks.specs.declared.Answer.the-variants.{Marked, NotGood, TooFewWords, NotMarks}
 use Rattle.marks.proofs.Answer.{the-type as answer-type}
 use Rattle.marks.specs.Answer.{refusing, numbers}
 use Rattle.marks.specs.Promise.{Not-good}
 
--- the list is good
-pub told-good : {list : List ℕ} (answer : Decided) → tagOf the-type answer ≡ 0 → Judged list answer → Good-list list
-told-good (good records pieces) tag judged = record { some = judged .fits .tree; good = judged .fits .is-good }
-told-good not-good tag judged = absurd (omega arith)
+-- the list is good, and its tree is measured
+pub told-good : {list cuts : List ℕ} {answer : Decided} {records pieces : ℕ} → answer ≡ good records pieces
+    → Judged list answer × Counts-below list cuts → length cuts ≡ slot-count → Decided-good list cuts pieces
+told-good {list} e decided room =
+    let fits = subst (Judged list) e (decided .0) .fits in
+    record {
+      some = fits .tree;
+      good = fits .is-good;
+      counted = decided .1;
+      cuts-room = room;
+      pieces-are = fits .pieces-are;
+    }
 
 -- the list is not good
 pub told-not-good : {list : List ℕ} (answer : Decided) → tagOf the-type answer ≡ 1 → Judged list answer → Not-good list

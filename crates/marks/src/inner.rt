@@ -13,33 +13,35 @@ ghost use Rattle.language.specs.Tree.{Tree};
 ghost use Rattle.tree.specs.Leaf.{Leaf};
 ghost use Rattle.tree.specs.Records.{Good};
 ghost use Rattle.marks.specs.Bits.{Tells};
-ghost use Rattle.tables.specs.Given.{Good-list};
+ghost use Rattle.tables.specs.Given.{Decided-good};
 ghost use Rattle.marks.specs.Promise.{Marks-of};
 ghost use Rattle.tables.specs.Tables.{Prepared, Roomy, Ready};
 ghost use Rattle.marks.specs.AllZero.{All-zero};
 ghost use Rattle.marks.specs.Inner.{Running, Begun, Advanced};
 
-// Makes the tables of a good list, and answers how many pieces it has.
+// Makes the tables of a good list of `count` pieces, with the pieces below each record's node as deciding on the list
+// has left them.
 pub fn prepare(
     list: &[u8],
+    cuts: &[u16],
+    count: usize,
     reach: &mut [u64],
     labels: &mut [u16],
     runs: &mut [u8],
     stands: &mut [u8],
     tops: &mut [u8],
-) -> usize
-    requires { ⌜ Good-list (now list) ⌝ }
+)
+    requires { ⌜ Decided-good (now list) (now cuts) count ⌝ }
     requires { ⌜ Roomy (now reach) (now labels) (now runs) (now stands) (now tops) ⌝ }
-    ensures { λ r. ⌜ Roomy (now (reach .exit)) (now (labels .exit)) (now (runs .exit)) (now (stands .exit))
+    ensures { λ _. ⌜ Roomy (now (reach .exit)) (now (labels .exit)) (now (runs .exit)) (now (stands .exit))
         (now (tops .exit)) ⌝ }
-    ensures { λ r. ⌜ ((t : Tree Leaf) → Good (now (list .entry)) t
+    ensures { λ _. ⌜ ((t : Tree Leaf) → Good (now (list .entry)) t
         → Prepared t (now (reach .exit)) (now (labels .exit)) (now (runs .exit)) (now (stands .exit)) (now (tops .exit))
-        r) ⌝ }
+        count) ⌝ }
 {
-    let count = plan(list, reach, labels, runs, stands, tops);
+    plan(list, cuts, count, reach, labels, runs, stands, tops);
     close_all(reach, tops, count);
     note_leaves(reach, labels, count);
-    count
 }
 
 // Puts the first `count` words of one slice in the place of those of another.

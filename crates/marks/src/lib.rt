@@ -14,10 +14,11 @@ use crate::inner::advance;
 use crate::inner::begin;
 use crate::inner::prepare;
 use tree::good::Decided;
-use tree::good::decide;
+use tree::good::decide_with;
+use tree::limits::SLOT_COUNT;
 ghost use mathlib.Core.Path.{_≡_};
 ghost use mathlib.Core.Bool.{true, false};
-ghost use Rattle.tables.specs.Given.{Good-list};
+ghost use Rattle.tables.specs.Given.{Decided-good};
 ghost use Rattle.marks.specs.Answer.{numbers};
 ghost use Rattle.marks.specs.Promise.{Starts, Steps};
 
@@ -34,8 +35,15 @@ pub enum Answer {
 }
 
 // Starts, or steps along the byte, on a list that is known to be good: the tables are made for either.
-fn mark_good(list: &[u8], words: &mut [u64], stepping: bool, byte: u8) -> Answer
-    requires { ⌜ Good-list (now list) ⌝ }
+fn mark_good(
+    list: &[u8],
+    cuts: &[u16],
+    count: usize,
+    words: &mut [u64],
+    stepping: bool,
+    byte: u8,
+) -> Answer
+    requires { ⌜ Decided-good (now list) (now cuts) count ⌝ }
     ensures { λ r. ⌜ (stepping ≡ false
         → Starts (now (list .entry)) (now (words .entry)) (now (words .exit)) (numbers r)) ⌝ }
     ensures { λ r. ⌜ (stepping ≡ true
@@ -46,8 +54,10 @@ fn mark_good(list: &[u8], words: &mut [u64], stepping: bool, byte: u8) -> Answer
     let mut runs = [0u8; 128];
     let mut stands = [0u8; 128];
     let mut tops = [0u8; 128];
-    let count = prepare(
+    prepare(
         list,
+        cuts,
+        count,
         &mut reach,
         &mut labels,
         &mut runs,
@@ -72,28 +82,22 @@ fn mark_good(list: &[u8], words: &mut [u64], stepping: bool, byte: u8) -> Answer
 pub fn start(list: &[u8], words: &mut [u64]) -> Answer
     ensures { λ r. ⌜ Starts (now (list .entry)) (now (words .entry)) (now (words .exit)) (numbers r) ⌝ }
 {
-    let decided = decide(list);
-    let Decided::Good {
-        records: _,
-        pieces: _,
-    } = decided
-    else {
+    let mut cuts = [0u16; SLOT_COUNT];
+    let decided = decide_with(list, &mut cuts);
+    let Decided::Good { records: _, pieces } = decided else {
         return Answer::NotGood;
     };
-    mark_good(list, words, false, 0)
+    mark_good(list, &cuts, pieces, words, false, 0)
 }
 
 // Moves the marks in the lent words along the byte and closes.
 pub fn step(list: &[u8], words: &mut [u64], byte: u8) -> Answer
     ensures { λ r. ⌜ Steps (now (list .entry)) byte (now (words .entry)) (now (words .exit)) (numbers r) ⌝ }
 {
-    let decided = decide(list);
-    let Decided::Good {
-        records: _,
-        pieces: _,
-    } = decided
-    else {
+    let mut cuts = [0u16; SLOT_COUNT];
+    let decided = decide_with(list, &mut cuts);
+    let Decided::Good { records: _, pieces } = decided else {
         return Answer::NotGood;
     };
-    mark_good(list, words, true, byte)
+    mark_good(list, &cuts, pieces, words, true, byte)
 }

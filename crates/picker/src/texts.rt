@@ -5,12 +5,15 @@ use crate::report::text_line;
 use crate::report::total_line;
 use finder::text_matches;
 use marks::inner::prepare;
+use tree::good::Decided;
+use tree::good::decide_with;
+use tree::limits::SLOT_COUNT;
 ghost use Prim.Native.Nat.{ℕ};
 ghost use lib.ListN.{drop};
 ghost use Rattle.language.specs.Tree.{Tree};
 ghost use Rattle.tree.specs.Leaf.{Leaf};
 ghost use Rattle.tree.specs.Records.{Good};
-ghost use Rattle.tables.specs.Given.{Good-list};
+ghost use Rattle.tables.specs.Given.{Good-list, Decided-good};
 ghost use Rattle.tables.specs.Tables.{Prepared, Ready};
 ghost use Rattle.finder.specs.Decide.{matches};
 ghost use Rattle.picker.specs.Lines.{lines};
@@ -64,9 +67,16 @@ pub fn texts(
     total_line(out, at, count, yes)
 }
 
-// Makes the tables of an expression's list, and prints a line for each text and the last line.
-pub fn list_texts(list: &[u8], input: &[u8], start: usize, out: &mut [u8]) -> usize
-    requires list { ⌜ Good-list (now list) ⌝ }
+// Makes the tables of a list of so many pieces, and prints a line for each text and the last line.
+fn good_texts(
+    list: &[u8],
+    cuts: &[u16],
+    pieces: usize,
+    input: &[u8],
+    start: usize,
+    out: &mut [u8],
+) -> usize
+    requires list { ⌜ Decided-good (now list) (now cuts) pieces ⌝ }
     requires space { ⌜ Space (now input) start 0 0 0 (now out) ⌝ }
     ensures { λ r. ⌜ ((t : Tree Leaf) → Good (now (list .entry)) t
         → Prints (now (out .entry)) 0 (text-lines matches t 0 0 (lines (drop start (now (input .entry)))))
@@ -77,8 +87,10 @@ pub fn list_texts(list: &[u8], input: &[u8], start: usize, out: &mut [u8]) -> us
     let mut runs = [0u8; 128];
     let mut stands = [0u8; 128];
     let mut tops = [0u8; 128];
-    let pieces = prepare(
+    prepare(
         list,
+        cuts,
+        pieces,
         &mut reach,
         &mut labels,
         &mut runs,
@@ -96,4 +108,21 @@ pub fn list_texts(list: &[u8], input: &[u8], start: usize, out: &mut [u8]) -> us
         start,
         out,
     )
+}
+
+// Prints a line for each text, by an expression's list, and the last line.
+pub fn list_texts(list: &[u8], input: &[u8], start: usize, out: &mut [u8]) -> usize
+    requires list { ⌜ Good-list (now list) ⌝ }
+    requires space { ⌜ Space (now input) start 0 0 0 (now out) ⌝ }
+    ensures { λ r. ⌜ ((t : Tree Leaf) → Good (now (list .entry)) t
+        → Prints (now (out .entry)) 0 (text-lines matches t 0 0 (lines (drop start (now (input .entry)))))
+        (now (out .exit)) r) ⌝ }
+{
+    let mut cuts = [0u16; SLOT_COUNT];
+    let decided = decide_with(list, &mut cuts);
+    let Decided::Good { records: _, pieces } = decided else {
+        // The list is good: this is never reached.
+        return 0;
+    };
+    good_texts(list, &cuts, pieces, input, start, out)
 }

@@ -8,19 +8,20 @@ use lib.ListN.{length, getD}
 use Rattle.language.specs.Tree.{Tree, nodes}
 use Rattle.language.specs.Nested.{Nested, leaf, catenation, union, star, below, own}
 use Rattle.tree.specs.Leaf.{Leaf}
-use Rattle.tree.specs.Limits.{most-pieces, most-records, most-states}
+use Rattle.tree.specs.Limits.{most-pieces, most-records, most-states, slot-count}
 use Rattle.tree.specs.Layout.{record-size}
 use Rattle.tree.specs.Records.{Good, piece-count}
 use Rattle.tree.specs.Parts.{Small, Every-below}
 use Rattle.tree.specs.Stored.{stored}
+use Rattle.tree.specs.Judged.{Counts-below}
 use Rattle.tree.specs.Pieces.{cut-up, stated, good-small, good-tells}
-use Rattle.tables.specs.Words.{width}
+use Rattle.tables.specs.Words.{width, run}
 use Rattle.tables.specs.Plan.{Planned, Each, Nexts}
 use Rattle.tables.specs.Tables.{Roomy}
-use Rattle.tables.specs.Standing.{size, size-positive, length-stored, Plain, Sound}
+use Rattle.tables.specs.Standing.{here, size, size-positive, length-stored, Plain, Sound}
 use Rattle.tables.specs.Filling.{tables}
-use Rattle.tables.specs.Counting.{Top, Listed, Counted}
-use Rattle.tables.specs.Making.{whole-spot, made-none, made-planned, made-nexts, Making, making-at, Total}
+use Rattle.tables.specs.Below.{Top, Listed, slot-below}
+use Rattle.tables.specs.Making.{made-none, made-planned, made-nexts, Making, making-at, Total}
 
 -- two states for each node of a piece's own tree
 pub width-own : (x : Nested Leaf) → width x ≡ 2 * nodes (own x)
@@ -57,6 +58,9 @@ good-top {list} {t} good =
     let told = good-tells list t good in
     let small = told .cut .every-small in
     record {
+      of-tree = t;
+      good = good;
+      cut = refl;
       fine = record {
         written = record {
           before = [];
@@ -79,50 +83,60 @@ pub record Good-list (list : List ℕ) : Type 0 where
   pub some : Tree Leaf
   pub good : Good list some
 
+-- the list is good, and deciding on it has left the measures of its tree and the number of its pieces
+pub record Decided-good (list cuts : List ℕ) (pieces : ℕ) : Type 0 where
+  pub some : Tree Leaf
+  pub good : Good list some
+  pub counted : Counts-below list cuts
+  pub cuts-room : length cuts ≡ slot-count
+  pub pieces-are : pieces ≡ piece-count some
+
 -- the tables are those of t: of its pieces, the words of the empty transitions, and the number of the pieces
 pub record Laid (t : Tree Leaf) (nexts labels runs stands tops : List ℕ) (count : ℕ) : Type 0 where
   pub planned : Planned (record { labels = labels; runs = runs; stands = stands; tops = tops }) (cut-up t)
   pub words : Each Nexts nexts (cut-up t)
   pub counted : count ≡ piece-count t
 
--- a good list is that of a tree within bounds
-pub good-listed : {list : List ℕ} → Good-list list → Listed list
-good-listed h = record { some = cut-up (h .some); top = good-top (h .good) }
-
 -- the last record is the root's
 last-root : {list : List ℕ} {x : Nested Leaf} → Top list x → length list / record-size - 1 + 1 ≡ size x
 last-root {x = x} top = omega (arith, top .all, size-positive x)
 
--- it has a record at least
-pub has-records : {list : List ℕ} → Listed list → (1 ≤ length list / record-size)
-    × (length list / record-size ≤ most-records)
-has-records h = omega (arith, h .top .all, size-positive (h .some), h .top .fine .short)
+-- so its slot has the number of all pieces but the root's
+root-slot : {list cuts : List ℕ} {x : Nested Leaf} → Top list x → Counts-below list cuts
+    → getD cuts (length list / record-size - 1 + 1) 0 ≡ run x
+root-slot top counted = slot-below top counted here (top .plain) _ (last-root top ∙ omega arith)
 
--- the number of all pieces is one more than of those below the root's
-pub total-of : {list counts : List ℕ} {count total : ℕ} → Counted list counts (length list / record-size)
-    → count ≡ getD counts (length list / record-size - 1) 0 → total ≡ count + 1 → Total list total
-total-of counted e f = record {
-  counts-all = λ x top.
-      omega (
-        arith,
-        last-root top,
-        size-positive x,
-        counted .each _ (omega (arith, last-root top, size-positive x)) (whole-spot x) (top .fine) (top .plain)
-            (last-root top ∙ omega arith),
-      );
-}
+module _ {list cuts : List ℕ} {pieces : ℕ} (known : Decided-good list cuts pieces) where
+  -- the tree that deciding has found
+  known-top : Top list (cut-up (known .some))
+  known-top = good-top (known .good)
+
+  -- the list has a record at least, and not too many
+  pub has-records : (1 ≤ length list / record-size) × (length list / record-size ≤ most-records)
+  has-records = omega (arith, last-root known-top, known-top .all, known-top .fine .short)
+
+  -- whatever tree the list is that of, it has this number of pieces
+  pub total-of : Total list pieces
+  total-of = record {
+    counts-all = λ x top.
+        omega (
+          arith,
+          known .pieces-are,
+          stated (known .some) .all-pieces,
+          root-slot known-top (known .counted),
+          root-slot top (known .counted),
+        );
+  }
 
 -- before the first piece
-pub making-none : {list counts nexts labels runs stands tops roots : List ℕ} → Listed list
-    → Counted list counts (length list / record-size) → length counts ≡ most-records
-    → Roomy nexts labels runs stands tops
-    → length roots ≡ most-pieces
-    → getD roots 0 0 ≡ length list / record-size - 1 → Making list counts 0 (tables nexts labels stands roots) runs tops
-making-none {runs = runs} {tops = tops} listed counted counts-room roomy roots-room first =
+pub making-none : {list cuts nexts labels runs stands tops roots : List ℕ} {pieces : ℕ}
+    → Decided-good list cuts pieces → Roomy nexts labels runs stands tops → length roots ≡ most-pieces
+    → getD roots 0 0 ≡ length list / record-size - 1 → Making list cuts 0 (tables nexts labels stands roots) runs tops
+making-none {runs = runs} {tops = tops} known roomy roots-room first =
     record {
-      listed = listed;
-      counted = counted;
-      counts-room = counts-room;
+      listed = record { some = cut-up (known .some); top = good-top (known .good) };
+      counted = known .counted;
+      cuts-room = known .cuts-room;
       room = record {
         of-nexts = roomy .reach-room;
         of-labels = roomy .labels-room;
@@ -135,8 +149,8 @@ making-none {runs = runs} {tops = tops} listed counted counts-room roomy roots-r
     }
 
 -- after the last
-pub laid : {list counts nexts labels runs stands tops roots : List ℕ} {total : ℕ}
-    → Making list counts total (tables nexts labels stands roots) runs tops → Total list total
+pub laid : {list cuts nexts labels runs stands tops roots : List ℕ} {total : ℕ}
+    → Making list cuts total (tables nexts labels stands roots) runs tops → Total list total
     → (t : Tree Leaf) → Good list t → Laid t nexts labels runs stands tops total
 laid making all t good =
     let top = good-top good in

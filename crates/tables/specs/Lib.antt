@@ -6,6 +6,6 @@ pub mod Entries
 pub mod Standing
 pub mod Filling
 pub mod Walking
-pub mod Counting
+pub mod Below
 pub mod Making
 pub mod Given

@@ -9,8 +9,8 @@ use lib.ListN.{length, getD, set, take, drop}
 use lib.Seq.{getD-set-same, getD-set-other}
 use Rattle.language.specs.Nested.{Nested, leaf, catenation, union, star, below}
 use Rattle.tree.specs.Leaf.{Leaf}
-use Rattle.tree.specs.Limits.{most-pieces, most-records, most-states}
-use Rattle.tree.specs.Layout.{record-size}
+use Rattle.tree.specs.Limits.{most-pieces, most-records, most-states, slot-count}
+use Rattle.tree.specs.Judged.{Counts-below}
 use Rattle.tables.specs.Words.{width, run}
 use Rattle.tables.specs.Plan
 use Rattle.tables.specs.Plan.{row-size, takes}
@@ -59,8 +59,8 @@ use Rattle.tables.specs.Standing.{
   piece-below,
 }
 use Rattle.tables.specs.Filling.{Tables, tables, Room, Placed, Same-place, Filled, still-placed}
-use Rattle.tables.specs.Walking.{Sits, sits, Visited, Ready, filled-ends, room-kept}
-use Rattle.tables.specs.Counting.{Top, Listed, Counted, Node, Runs, node-listed, few-runs}
+use Rattle.tables.specs.Walking.{Sits, sits, Within, bounds, Visited, Ready, filled-ends, room-kept}
+use Rattle.tables.specs.Below.{Top, Listed, slot-below}
 
 -- what lies below what lies below a spot
 in-in : {s t u : Spot} → In s t → In t u → In s u
@@ -176,7 +176,7 @@ module _ {list : List ℕ} {x : Nested Leaf} (top : Top list x) (k : ℕ) (insid
     {runs tops : List ℕ} (runs-room : length runs ≡ most-pieces) (tops-room : length tops ≡ most-pieces)
     (made : Made x k t runs tops)
     {last r : ℕ} (done : Visited list (getD (t .roots) k 0) k 0 t after last)
-    (counted : Runs list (getD (t .roots) k 0) r) where
+    (counted : (y : Nested Leaf) (f : ℕ) → Head x y f k → r ≡ run y) where
   -- the walk has filled the row of the piece k
   filled : {y : Nested Leaf} {f : ℕ} → Head x y f k → Filled (head-spot y f k) t after last
   filled head = done _ (head-sits top made head)
@@ -240,12 +240,7 @@ module _ {list : List ℕ} {x : Nested Leaf} (top : Top list x) (k : ℕ) (insid
             (lies-append front (entry (getD-set-same (after .nexts) (row-size * k + last - 1) 0 0 (omega arith)) ends)
             (omega arith)) (sym (nexts-fronts y 0 0));
         leaves = lies-at (part .leaves) (omega arith);
-        ran = getD-set-same runs k (r + 1) 0 (omega arith)
-            ∙ omega (
-              arith,
-              counted _ (in-fine (head-in head) (top .fine)) (head-plain top head)
-                  (head-root top made head),
-            );
+        ran = getD-set-same runs k (r + 1) 0 (omega arith) ∙ omega (arith, counted y f head);
         topped = getD-set-same tops k (last - 1) 0 (omega arith) ∙ omega arith;
       }
 
@@ -347,10 +342,10 @@ module _ {list : List ℕ} {x : Nested Leaf} (top : Top list x) {t : Tables} (ro
   made-nexts = (words-told root, below-told x here)
 
 -- the tables of the list are being made, and have been made for the pieces up to k
-pub record Making (list counts : List ℕ) (k : ℕ) (t : Tables) (runs tops : List ℕ) : Type 0 where
+pub record Making (list cuts : List ℕ) (k : ℕ) (t : Tables) (runs tops : List ℕ) : Type 0 where
   pub listed : Listed list
-  pub counted : Counted list counts (length list / record-size)
-  pub counts-room : length counts ≡ most-records
+  pub counted : Counts-below list cuts
+  pub cuts-room : length cuts ≡ slot-count
   pub room : Room t
   pub runs-room : length runs ≡ most-pieces
   pub tops-room : length tops ≡ most-pieces
@@ -361,7 +356,7 @@ pub record Inside (list : List ℕ) (k : ℕ) : Type 0 where
   pub below-count : (x : Nested Leaf) → Top list x → k < 1 + run x
 
 -- what walking the piece k needs, and what it makes
-module _ {list counts : List ℕ} {k : ℕ} {t : Tables} {runs tops : List ℕ} (making : Making list counts k t runs tops)
+module _ {list cuts : List ℕ} {k : ℕ} {t : Tables} {runs tops : List ℕ} (making : Making list cuts k t runs tops)
     (inside : Inside list k) where
   -- the piece k of the tree that the list has
   the-top : Top list (making .listed .some)
@@ -380,17 +375,23 @@ module _ {list counts : List ℕ} {k : ℕ} {t : Tables} {runs tops : List ℕ} 
   pub piece-ready : Ready list (getD (t .roots) k 0) k 0 t
   piece-ready = record { some = _; sitting = the-sits; room = making .room }
 
-  pub piece-node : Node list (getD (t .roots) k 0)
-  piece-node = record {
-    at = head-spot (the-piece .top) (the-piece .begin) k;
-    fine = in-fine (head-in (the-piece .head)) (the-top .fine);
-    plain = head-plain the-top (the-piece .head);
-    is-root = head-root the-top (making .so-far _ the-top) (the-piece .head);
-  }
+  pub piece-within : Within list (getD (t .roots) k 0) k 0
+  piece-within = bounds the-sits
 
-  -- the number of the pieces below it has been counted
-  pub piece-runs : Runs list (getD (t .roots) k 0) (getD counts (getD (t .roots) k 0) 0)
-  piece-runs = making .counted .each _ (omega (arith, node-listed piece-node))
+  -- the number of the pieces below it is known
+  piece-runs : (x : Nested Leaf) → Top list x → (y : Nested Leaf) (f : ℕ) → Head x y f k
+      → getD cuts (getD (t .roots) k 0 + 1) 0 ≡ run y
+  piece-runs x top y f head =
+      slot-below top (making .counted) (head-in head) (head-plain top head) _
+      (head-root top (making .so-far x top) head)
+
+  pub piece-few-below : getD cuts (getD (t .roots) k 0 + 1) 0 < most-pieces
+  piece-few-below =
+      omega (
+        arith,
+        piece-runs _ the-top _ _ (the-piece .head),
+        in-fine (head-in (the-piece .head)) (the-top .fine) .few,
+      )
 
   module _ {after : Tables} {last : ℕ} (done : Visited list (getD (t .roots) k 0) k 0 t after last) where
     -- the walk ends within the row
@@ -399,10 +400,10 @@ module _ {list counts : List ℕ} {k : ℕ} {t : Tables} {runs tops : List ℕ} 
 
     -- and the pieces up to k + 1 have been made
     pub piece-made : Room after → (x : Nested Leaf) → Top list x
-        → Made x (k + 1) (closed-row after k last) (set runs k (getD counts (getD (t .roots) k 0) 0 + 1))
+        → Made x (k + 1) (closed-row after k last) (set runs k (getD cuts (getD (t .roots) k 0 + 1) 0 + 1))
         (set tops k (last - 1))
     piece-made full x top = made-more top k (inside .below-count x top) full (making .runs-room) (making .tops-room)
-        (making .so-far x top) done piece-runs
+        (making .so-far x top) done (piece-runs x top)
 
 -- all that storing the piece's numbers needs
 pub record Storable (k last node count : ℕ) : Type 0 where
@@ -412,20 +413,18 @@ pub record Storable (k last node count : ℕ) : Type 0 where
   pub few-nodes : node < most-records
   pub small : count < most-pieces
 
-pub piece-storable : {list counts : List ℕ} {k : ℕ} {t after : Tables} {runs tops : List ℕ} {last : ℕ}
-    → Making list counts k t runs tops → Inside list k
+pub piece-storable : {list cuts : List ℕ} {k : ℕ} {t after : Tables} {runs tops : List ℕ} {last : ℕ}
+    → Making list cuts k t runs tops → Inside list k
     → Visited list (getD (t .roots) k 0) k 0 t after last
-    → Storable k last (getD (t .roots) k 0) (getD counts (getD (t .roots) k 0) 0)
+    → Storable k last (getD (t .roots) k 0) (getD cuts (getD (t .roots) k 0 + 1) 0)
 piece-storable making inside done =
     let ended = piece-ends making inside done in
-    let node = piece-node making inside in
     record {
       few = piece-few making inside;
       two = ended .0;
       narrow = ended .1;
-      few-nodes = node-listed node .1;
-      small =
-          few-runs node (piece-runs making inside);
+      few-nodes = piece-within making inside .few-nodes;
+      small = piece-few-below making inside;
     }
 
 -- the number of the pieces
@@ -441,24 +440,24 @@ pub total-few : {list : List ℕ} {total : ℕ} → Listed list → Total list t
 total-few listed all = omega (arith, all .counts-all _ (listed .top), listed .top .fine .few)
 
 -- from one piece to the next
-pub making-more : {list counts : List ℕ} {k : ℕ} {t : Tables} {runs tops : List ℕ} → Making list counts k t runs tops
+pub making-more : {list cuts : List ℕ} {k : ℕ} {t : Tables} {runs tops : List ℕ} → Making list cuts k t runs tops
     → (nexts labels runs-after stands tops-after roots : List ℕ) → length nexts ≡ length (t .nexts)
     → length labels ≡ length (t .labels) → length runs-after ≡ length runs
     → length stands ≡ length (t .stands) → length tops-after ≡ length tops → length roots ≡ length (t .roots)
     → ((x : Nested Leaf) → Top list x → Made x (k + 1) (tables nexts labels stands roots) runs-after tops-after)
-    → Making list counts (k + 1) (tables nexts labels stands roots) runs-after tops-after
+    → Making list cuts (k + 1) (tables nexts labels stands roots) runs-after tops-after
 making-more making nexts labels runs-after stands tops-after roots a b c d e f more =
     record {
       listed = making .listed;
       counted = making .counted;
-      counts-room = making .counts-room;
+      cuts-room = making .cuts-room;
       room = room-kept nexts labels stands roots (making .room) a b d f;
       runs-room = c ∙ making .runs-room;
       tops-room = e ∙ making .tops-room;
       so-far = more;
     }
 
-pub making-at : {list counts : List ℕ} {k j : ℕ} {t : Tables} {runs tops : List ℕ} → Making list counts k t runs tops
-    → k ≡ j → Making list counts j t runs tops
-making-at {list} {counts} {t = t} {runs = runs} {tops = tops} making e =
-    subst (λ (m : ℕ). Making list counts m t runs tops) e making
+pub making-at : {list cuts : List ℕ} {k j : ℕ} {t : Tables} {runs tops : List ℕ} → Making list cuts k t runs tops
+    → k ≡ j → Making list cuts j t runs tops
+making-at {list} {cuts} {t = t} {runs = runs} {tops = tops} making e =
+    subst (λ (m : ℕ). Making list cuts m t runs tops) e making

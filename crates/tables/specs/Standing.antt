@@ -393,44 +393,6 @@ piece-grows h (step union-right m) = piece-grows (child-fine union-right h) m
 piece-grows h (step operand m) = piece-grows (child-fine operand h) m
 piece-grows h (step under m) = omega (arith, piece-grows (child-fine under h) m)
 
--- the node of the record r below a spot
-pub record Node-at (s : Spot) (r : ℕ) : Type 0 where
-  pub at : Spot
-  pub inside : In s at
-  pub plain : Plain (tree at)
-  pub is-root : r + 1 ≡ first at + size (tree at)
-
--- a node below a child is below its parent
-node-below : {s t : Spot} {r : ℕ} → Child s t → Node-at t r → Node-at s r
-node-below c h = record { at = h .at; inside = step c (h .inside); plain = h .plain; is-root = h .is-root }
-
--- each record of a spot is the root of a node below it
-pub node-at : (x : Nested Leaf) (f p n i r : ℕ) → f ≤ r → r < f + size x → Node-at (spot x f p n i) r
-node-at (leaf a) f p n i r low high = record { at = _; inside = here; plain = tt; is-root = omega arith }
-node-at (catenation x y) f p n i r low high =
-    elim (decLt r (f + size x)) [
-      | yes h ↦ node-below catenation-left (node-at x f p n (i + 1) r low h)
-      | no h ↦ elim (decLt r (f + size x + size y)) [
-        | yes g ↦ node-below catenation-right
-            (node-at y (f + size x) p (n + run x) (i + (1 + width x)) r (omega arith) g)
-        | no g ↦ record { at = _; inside = here; plain = tt; is-root = omega arith }
-      ]
-    ]
-node-at (union x y) f p n i r low high =
-    elim (decLt r (f + size x)) [
-      | yes h ↦ node-below union-left (node-at x f p n (i + 1) r low h)
-      | no h ↦ elim (decLt r (f + size x + size y)) [
-        | yes g ↦ node-below union-right (node-at y (f + size x) p (n + run x) (i + (1 + width x)) r (omega arith) g)
-        | no g ↦ record { at = _; inside = here; plain = tt; is-root = omega arith }
-      ]
-    ]
-node-at (star x) f p n i r low high =
-    elim (decLt r (f + size x)) [
-      | yes h ↦ node-below operand (node-at x f p n (i + 1) r low h)
-      | no h ↦ record { at = _; inside = here; plain = tt; is-root = omega arith }
-    ]
-node-at (below x) f p n i r low high = node-below under (node-at x f n (n + 1) 0 r low high)
-
 -- the stand-in of the child piece k below a spot: `top` is the top piece's tree, and its records begin at `begin`
 pub record Piece-below (s : Spot) (k : ℕ) : Type 0 where
   pub top : Nested Leaf

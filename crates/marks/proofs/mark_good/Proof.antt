@@ -30,7 +30,7 @@ abbrev tables-made : tie.After-tops2 → tie.After-prepare
 tables-made c = c .before .before .before .before .before
 
 abbrev entry : tie.After-prepare → tie.Start
-entry c = c .before .before .before .before .before .before .before .before
+entry c = c .before .before .before .before .before .before .before .before .before
 
 -- there are words enough: before the marks are looked at, before the step, and before the start
 abbrev enough-to-look : tie.After-agreeing-arg → tie.Else1

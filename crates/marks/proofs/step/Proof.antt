@@ -1,35 +1,39 @@
 -- `marks::step` meets its contract: a list that is not good is refused, and for a good one the promise is that of
 -- `mark_good`.
--- Assumes nothing.
 use mathlib.Core.Path.{refl}
 use Rattle.marks.specs.Promise.{step-not-good}
 use Rattle.marks.proofs.Told.{told-good, told-not-good}
 use borrow.Author.Needs.{needs}
 use Rattle.marks.proofs.step.Statement.{statement}
 use Rattle.marks.proofs.step.Tie as tie
-use Rattle.marks.proofs.step.Reads as reads
-use Rattle.marks.proofs.step.Lts as lts
-use Rattle.marks.proofs.mark_good.Reads as mark-good-reads
-use Rattle.tree.proofs.good.decide.Reads as decide-reads
 
-decide-requires : tie.Need-decide-requires
-decide-requires c κs = search needs
+slice-aggregate-decide-with : tie.Need-slice-aggregate-decide-with
+slice-aggregate-decide-with c = search needs
+
+decide-with-requires : tie.Need-decide-with-requires
+decide-with-requires c κs = search needs
+
+enum-known-decided : tie.Need-enum-known-decided
+enum-known-decided c = search needs
 
 enum-told : tie.Need-enum-told
 enum-told c = search needs
 
-enum-told-2 : tie.Need-enum-told-2
-enum-told-2 c = search needs
-
 returns : tie.Need-returns
 returns c = step-not-good (record {
-  because = told-not-good _ (c .before .match .keys2) (c .before .before .decide .ensures);
+  because = told-not-good _ (c .before .match .keys2) (c .before .before .before .decide-with .ensures .0);
   refuses = refl;
   unchanged = refl;
 })
 
+slice-aggregate-mark-good : tie.Need-slice-aggregate-mark-good
+slice-aggregate-mark-good c = search needs
+
 mark-good-requires : tie.Need-mark-good-requires
-mark-good-requires c κs = told-good _ (c .before .before .match .keys1) (c .before .before .before .decide .ensures)
+mark-good-requires c κs =
+    let known = c .before .before .before in
+    let decided = known .before .before .before in
+    told-good (known .decided .given .1) (decided .decide-with .ensures) (decided .decide-with .kept .1 .0)
 
 same-length : tie.Need-same-length
 same-length c = search needs
@@ -41,10 +45,12 @@ pub step-spec : {M : Type 1} → statement M
 step-spec =
     tie.close
     (tie.spec
-    decide-requires
+    slice-aggregate-decide-with
+    decide-with-requires
+    enum-known-decided
     enum-told
-    enum-told-2
     returns
+    slice-aggregate-mark-good
     mark-good-requires
     same-length
     returns-2)

@@ -1,6 +1,6 @@
 -- `marks::inner::prepare` meets its contract: the tables are laid, the words of the empty transitions closed, and the
 -- leaves
--- noted. Assumes nothing.
+-- noted.
 use mathlib.Core.Path.{_∙_}
 use native.Mathlib.Omega.{arith}
 use Rattle.marks.specs.Inner.{tops-low, prepared-of}
@@ -13,35 +13,42 @@ use Rattle.tables.proofs.plan.plan.Reads as plan-reads
 use Rattle.marks.proofs.reach.close_all.Reads as close-all-reads
 use Rattle.marks.proofs.leaves.note_leaves.Reads as note-leaves-reads
 
+-- where the call began
+abbrev entry : tie.After-plan → tie.Start
+entry c = c .before .before .before .before .before .before .before .before .before .before .before .before .before
+
 plan-requires : tie.Need-plan-requires
 plan-requires c κs = search needs
 
 close-all-requires : tie.Need-close-all-requires
 close-all-requires c κs =
-    let known = c .before .before .before .before .before .before .before .before .before .before .before .before .before .before .before .before .before .before .before .before .before .before .before .before .pre .0 in
-    let roomy = c .before .before .before .before .before .before .before .before .before .before .before .before .before .before .before .before .before .before .before .before .before .before .before .before .pre .1 in
-    let kept = c .before .before .before .before .before .before .before .before .before .before .before .before .plan .kept in
-    let made = c .before .before .before .before .before .before .before .before .before .before .before .before .plan .ensures (known .some) (known .good) in (
-      omega (arith, made .counted, known .good .few, roomy .reach-room, kept .1 .0),
-      omega (arith, made .counted, known .good .few, roomy .tops-room, kept .1 .1 .1 .1 .1 .0),
+    let planned = c .before .before .before .before .before .before .before .before .before .before .before .before in
+    let known = entry planned .pre .0 in
+    let roomy = entry planned .pre .1 in
+    let kept = planned .plan .kept .1 .1 .1 in
+    let made = planned .plan .ensures (known .some) (known .good) in (
+      omega (arith, made .counted, known .good .few, roomy .reach-room, kept .0),
+      omega (arith, made .counted, known .good .few, roomy .tops-room, kept .1 .1 .1 .1 .0),
       tops-low (known .some) made,
     )
 
 note-leaves-requires : tie.Need-note-leaves-requires
 note-leaves-requires c κs =
-    let known = c .before .before .before .before .before .before .before .before .before .before .before .before .before .before .before .before .before .before .before .before .before .before .before .before .before .before .before .before .before .pre .0 in
-    let roomy = c .before .before .before .before .before .before .before .before .before .before .before .before .before .before .before .before .before .before .before .before .before .before .before .before .before .before .before .before .before .pre .1 in
-    let kept = c .before .before .before .before .before .before .before .before .before .before .before .before .before .before .before .before .before .plan .kept in
-    let made = c .before .before .before .before .before .before .before .before .before .before .before .before .before .before .before .before .before .plan .ensures (known .some) (known .good) in (
+    let closed = c .before .before .before .before in
+    let planned = closed .before .before .before .before .before .before .before .before .before .before .before .before .before in
+    let known = entry planned .pre .0 in
+    let roomy = entry planned .pre .1 in
+    let kept = planned .plan .kept .1 .1 .1 in
+    let made = planned .plan .ensures (known .some) (known .good) in (
       omega (
         arith,
         made .counted,
         known .good .few,
         roomy .reach-room,
-        kept .1 .0,
-        c .before .before .before .before .close-all .ensures .same-length,
+        kept .0,
+        closed .close-all .ensures .same-length,
       ),
-      omega (arith, made .counted, known .good .few, roomy .labels-room, kept .1 .1 .0),
+      omega (arith, made .counted, known .good .few, roomy .labels-room, kept .1 .0),
     )
 
 same-length : tie.Need-same-length
@@ -61,19 +68,21 @@ same-length-5 c = search needs
 
 returns : tie.Need-returns
 returns c =
-    let roomy = c .before .before .before .before .before .before .before .before .before .before .before .before .before .before .before .before .before .before .before .before .before .before .before .before .before .before .before .before .before .before .before .before .pre .1 in
-    let kept = c .before .before .before .before .before .before .before .before .before .before .before .before .before .before .before .before .before .before .before .before .plan .kept in
-    let closed = c .before .before .before .before .before .before .before .close-all .ensures in
-    let noted = c .before .before .note-leaves .ensures in (
+    let noted = c .before .before in
+    let closed = noted .before .before .before .before .before in
+    let planned = closed .before .before .before .before .before .before .before .before .before .before .before .before .before in
+    let roomy = entry planned .pre .1 in
+    let kept = planned .plan .kept .1 .1 .1 in (
       record {
-        reach-room = noted .same-length ∙ closed .same-length ∙ kept .1 .0 ∙ roomy .reach-room;
-        labels-room = kept .1 .1 .0 ∙ roomy .labels-room;
-        runs-room = kept .1 .1 .1 .0 ∙ roomy .runs-room;
-        stands-room = kept .1 .1 .1 .1 .0 ∙ roomy .stands-room;
-        tops-room = kept .1 .1 .1 .1 .1 .0 ∙ roomy .tops-room;
+        reach-room = noted .note-leaves .ensures .same-length ∙ closed .close-all .ensures .same-length ∙ kept .0
+            ∙ roomy .reach-room;
+        labels-room = kept .1 .0 ∙ roomy .labels-room;
+        runs-room = kept .1 .1 .0 ∙ roomy .runs-room;
+        stands-room = kept .1 .1 .1 .0 ∙ roomy .stands-room;
+        tops-room = kept .1 .1 .1 .1 .0 ∙ roomy .tops-room;
       },
-      λ t good. prepared-of t good
-          (c .before .before .before .before .before .before .before .before .before .before .before .before .before .before .before .before .before .before .before .before .plan .ensures t good) closed noted,
+      λ t good. prepared-of t good (planned .plan .ensures t good) (closed .close-all .ensures)
+          (noted .note-leaves .ensures),
     )
 
 pub prepare-spec : {M : Type 1} → statement M

@@ -1,72 +1,53 @@
--- `picker::texts::list_texts` meets its contract: the tables are those of the list's tree, and the texts are printed by
--- them. Assumes nothing.
+-- `picker::texts::list_texts` meets its contract: the list is good, so it is decided to be, and the texts are printed by
+-- its tables.
+use Rattle.marks.proofs.Told.{told-good, told-not-good}
 use borrow.Author.Needs.{needs}
 use Rattle.picker.proofs.texts.list_texts.Statement.{statement}
 use Rattle.picker.proofs.texts.list_texts.Tie as tie
 
-slice-aggregate-prepare : tie.Need-slice-aggregate-prepare
-slice-aggregate-prepare c = search needs
+slice-aggregate-decide-with : tie.Need-slice-aggregate-decide-with
+slice-aggregate-decide-with c = search needs
 
-slice-aggregate-prepare-2 : tie.Need-slice-aggregate-prepare-2
-slice-aggregate-prepare-2 c = search needs
+decide-with-requires : tie.Need-decide-with-requires
+decide-with-requires c κs = search needs
 
-slice-aggregate-prepare-3 : tie.Need-slice-aggregate-prepare-3
-slice-aggregate-prepare-3 c = search needs
+enum-known-decided : tie.Need-enum-known-decided
+enum-known-decided c = search needs
 
-slice-aggregate-prepare-4 : tie.Need-slice-aggregate-prepare-4
-slice-aggregate-prepare-4 c = search needs
+enum-told : tie.Need-enum-told
+enum-told c = search needs
 
-slice-aggregate-prepare-5 : tie.Need-slice-aggregate-prepare-5
-slice-aggregate-prepare-5 c = search needs
+returns : tie.Need-returns
+returns c = λ t good.
+    absurd (told-not-good _ (c .before .match .keys2) (c .before .before .before .decide-with .ensures .0) t good)
 
-prepare-requires : tie.Need-prepare-requires
-prepare-requires c κs = search needs
+slice-aggregate-good-texts : tie.Need-slice-aggregate-good-texts
+slice-aggregate-good-texts c = search needs
 
-slice-aggregate-texts : tie.Need-slice-aggregate-texts
-slice-aggregate-texts c = search needs
-
-slice-aggregate-texts-2 : tie.Need-slice-aggregate-texts-2
-slice-aggregate-texts-2 c = search needs
-
-slice-aggregate-texts-3 : tie.Need-slice-aggregate-texts-3
-slice-aggregate-texts-3 c = search needs
-
-slice-aggregate-texts-4 : tie.Need-slice-aggregate-texts-4
-slice-aggregate-texts-4 c = search needs
-
-slice-aggregate-texts-5 : tie.Need-slice-aggregate-texts-5
-slice-aggregate-texts-5 c = search needs
-
-texts-requires : tie.Need-texts-requires
-texts-requires c κs =
-    let start = c .before .before .before .before .before .before .before .before .before .before .before .before .before .before .before .before .before .before .before .before in
-    let (made, of-list) =
-    c .before .before .before .before .before .before .before .before .before .before .before .prepare .ensures in
-    let list = start .pre .0 in
-    (record { roomy = made; of-tree = (list .some, of-list (list .some) (list .good)) }, start .pre .1)
+good-texts-requires : tie.Need-good-texts-requires
+good-texts-requires c κs =
+    let known = c .before .before .before in
+    let decided = known .before .before .before in (
+      told-good (known .decided .given .1) (decided .decide-with .ensures) (decided .decide-with .kept .1 .0),
+      decided .before .before .before .before .before .pre .1,
+    )
 
 same-length : tie.Need-same-length
 same-length c = search needs
 
-returns : tie.Need-returns
-returns c = λ t good. c .before .before .texts .ensures t
-    (c .before .before .before .before .before .before .before .before .before .before .before .before .before .before .prepare .ensures .1 t good)
+returns-2 : tie.Need-returns-2
+returns-2 c = c .before .before .good-texts .ensures
 
 pub list-texts-spec : {M : Type 1} → statement M
 list-texts-spec =
     tie.close
     (tie.spec
-    slice-aggregate-prepare
-    slice-aggregate-prepare-2
-    slice-aggregate-prepare-3
-    slice-aggregate-prepare-4
-    slice-aggregate-prepare-5
-    prepare-requires
-    slice-aggregate-texts
-    slice-aggregate-texts-2
-    slice-aggregate-texts-3
-    slice-aggregate-texts-4
-    slice-aggregate-texts-5
-    texts-requires
+    slice-aggregate-decide-with
+    decide-with-requires
+    enum-known-decided
+    enum-told
+    returns
+    slice-aggregate-good-texts
+    good-texts-requires
     same-length
-    returns)
+    returns-2)

@@ -1,6 +1,6 @@
--- `tables::plan::piece` meets its contract: it walks the piece, and stores what the walk and the count tell. Assumes
--- nothing.
-
+-- `tables::plan::piece` meets its contract: it walks the piece, and stores what the walk and the decision on the list
+-- tell.
+use Prim.Native.Nat.{_+_}
 use native.Mathlib.Omega.{arith}
 use lib.ListN.{getD}
 use Rattle.tables.specs.Filling.{Room, tables}
@@ -10,37 +10,33 @@ use borrow.Author.Needs.{needs}
 use Rattle.tables.proofs.plan.piece.Statement.{statement}
 use Rattle.tables.proofs.plan.piece.Tie as tie
 
-abbrev Stored : Type 0
-Stored = tie.After-shared-slice-known3
+-- where the walk has ended, and where the call began
+abbrev walked : tie.After-slice-known11 → tie.After-fill
+walked c = c .before .before .before .before .before .before .before .before
+
+abbrev entry : tie.After-fill → tie.Start
+entry c = c .before .before .before .before .before .before .before .before .before .before .before .before .before
+    .before
 
 -- the tables that the walk leaves have the same room
-room : (c : Stored)
-    → Room (tables
-    (c .before .before .before .before .before .before .before .before .before .fill .last .1 .1 .1 .1 .0)
-    (c .before .before .before .before .before .before .before .before .before .fill .last .1 .1 .1 .1 .1 .0)
-    (c .before .before .before .before .before .before .before .before .before .fill .last .1 .1 .1 .1 .1 .1 .0)
-    (c .before .before .before .before .before .before .before .before .before .fill .last .1 .1 .1 .1 .1 .1 .1 .0))
-room c = room-kept _ _ _ _
-    (c .before .before .before .before .before .before .before .before .before .before .before .before .before .before .before .before .before .before .before .before .before .before .before .pre .0 .room) (c .before .before .before .before .before .before .before .before .before .fill .kept .1 .1 .1 .1 .0) (c .before .before .before .before .before .before .before .before .before .fill .kept .1 .1 .1 .1 .1 .0) (c .before .before .before .before .before .before .before .before .before .fill .kept .1 .1 .1 .1 .1 .1 .0) (c .before .before .before .before .before .before .before .before .before .fill .kept .1 .1 .1 .1 .1 .1 .1 .0)
+room : (c : tie.After-fill)
+    → Room (tables (c .fill .last .1 .1 .1 .1 .0) (c .fill .last .1 .1 .1 .1 .1 .0) (c .fill .last .1 .1 .1 .1 .1 .1 .0)
+    (c .fill .last .1 .1 .1 .1 .1 .1 .1 .0))
+room c = room-kept _ _ _ _ (entry c .pre .0 .room) (c .fill .kept .1 .1 .1 .1 .0) (c .fill .kept .1 .1 .1 .1 .1 .0)
+    (c .fill .kept .1 .1 .1 .1 .1 .1 .0) (c .fill .kept .1 .1 .1 .1 .1 .1 .1 .0)
 
 -- the numbers that are stored are small
-storable : (c : Stored) → let start =
-    c .before .before .before .before .before .before .before .before .before .before .before .before .before .before .before .before .before .before .before .before .before .before .before .args in let node = getD (start .roots .now) (start .k) 0 in
-    Storable (start .k) (c .before .before .before .before .before .before .before .before .before .fill .result) node
-    (getD (start .counts .now) node 0)
-storable c =
-    piece-storable
-    (c .before .before .before .before .before .before .before .before .before .before .before .before .before .before .before .before .before .before .before .before .before .before .before .pre .0) (c .before .before .before .before .before .before .before .before .before .before .before .before .before .before .before .before .before .before .before .before .before .before .before .pre .1) (c .before .before .before .before .before .before .before .before .before .fill .ensures)
+storable : (c : tie.After-fill) → let start = entry c .args in let node = getD (start .roots .now) (start .k) 0 in
+    Storable (start .k) (c .fill .result) node (getD (start .cuts .now) (node + 1) 0)
+storable c = piece-storable (entry c .pre .0) (entry c .pre .1) (c .fill .ensures)
 
 mul-node : tie.Need-mul-node
-mul-node c = let few = piece-few (c .before .before .before .before .before .before .before .before .pre .0)
-    (c .before .before .before .before .before .before .before .before .pre .1) in omega arith
+mul-node c = let start = c .before .before .before .before .before .before .before .before in
+    omega (arith, piece-few (start .pre .0) (start .pre .1))
 
 slice-read-node : tie.Need-slice-read-node
-slice-read-node c = let few =
-    piece-few (c .before .before .before .before .before .before .before .before .before .pre .0)
-    (c .before .before .before .before .before .before .before .before .before .pre .1) in omega
-    (arith, c .before .before .before .before .before .before .before .before .before .pre .0 .room .of-roots)
+slice-read-node c = let start = c .before .before .before .before .before .before .before .before .before in
+    omega (arith, piece-few (start .pre .0) (start .pre .1), start .pre .0 .room .of-roots)
 
 cast-node : tie.Need-cast-node
 cast-node c =
@@ -50,52 +46,54 @@ cast-node c =
     )
 
 fill-requires : tie.Need-fill-requires
-fill-requires c κs =
-    piece-ready (c .before .before .before .before .before .before .before .before .before .before .before .before .before .pre .0) (c .before .before .before .before .before .before .before .before .before .before .before .before .before .pre .1)
+fill-requires c κs = let start =
+    c .before .before .before .before .before .before .before .before .before .before .before .before .before in
+    piece-ready (start .pre .0) (start .pre .1)
+
+add-below : tie.Need-add-below
+add-below c = let small = storable (walked c) in omega arith
+
+mul-below : tie.Need-mul-below
+mul-below c = let small = storable (walked c) in omega arith
 
 shared-slice-read-below : tie.Need-shared-slice-read-below
-shared-slice-read-below c = let small = storable c in let wide = room c in let making =
-    c .before .before .before .before .before .before .before .before .before .before .before .before .before .before .before .before .before .before .before .before .before .before .before .pre .0 in omega (arith, wide .of-nexts, making .runs-room, making .tops-room, making .counts-room)
+shared-slice-read-below c = let small = storable (walked (c .before)) in omega
+    (arith, entry (walked (c .before)) .pre .0 .cuts-room)
 
 mul-nexts : tie.Need-mul-nexts
-mul-nexts c = let small = storable c in let wide = room c in let making =
-    c .before .before .before .before .before .before .before .before .before .before .before .before .before .before .before .before .before .before .before .before .before .before .before .pre .0 in omega (arith, wide .of-nexts, making .runs-room, making .tops-room, making .counts-room)
+mul-nexts c = let small = storable (walked (c .before)) in omega arith
 
 add-nexts : tie.Need-add-nexts
-add-nexts c = let small = storable c in let wide = room c in let making =
-    c .before .before .before .before .before .before .before .before .before .before .before .before .before .before .before .before .before .before .before .before .before .before .before .pre .0 in omega (arith, wide .of-nexts, making .runs-room, making .tops-room, making .counts-room)
+add-nexts c = let small = storable (walked (c .before)) in omega arith
 
 sub-nexts : tie.Need-sub-nexts
-sub-nexts c = let small = storable c in let wide = room c in let making =
-    c .before .before .before .before .before .before .before .before .before .before .before .before .before .before .before .before .before .before .before .before .before .before .before .pre .0 in omega (arith, wide .of-nexts, making .runs-room, making .tops-room, making .counts-room)
+sub-nexts c = let small = storable (walked (c .before)) in omega arith
 
 mul-nexts-2 : tie.Need-mul-nexts-2
-mul-nexts-2 c = let small = storable c in let wide = room c in let making =
-    c .before .before .before .before .before .before .before .before .before .before .before .before .before .before .before .before .before .before .before .before .before .before .before .pre .0 in omega (arith, wide .of-nexts, making .runs-room, making .tops-room, making .counts-room)
+mul-nexts-2 c = let small = storable (walked (c .before)) in omega arith
 
 slice-write-nexts : tie.Need-slice-write-nexts
-slice-write-nexts c = let small = storable c in let wide = room c in let making =
-    c .before .before .before .before .before .before .before .before .before .before .before .before .before .before .before .before .before .before .before .before .before .before .before .pre .0 in omega (arith, wide .of-nexts, making .runs-room, making .tops-room, making .counts-room)
+slice-write-nexts c = let small = storable (walked (c .before)) in omega (arith, room (walked (c .before)) .of-nexts)
 
 add-runs : tie.Need-add-runs
-add-runs c = let small = storable c in let wide = room c in let making =
-    c .before .before .before .before .before .before .before .before .before .before .before .before .before .before .before .before .before .before .before .before .before .before .before .pre .0 in omega (arith, wide .of-nexts, making .runs-room, making .tops-room, making .counts-room)
+add-runs c = let small = storable (walked (c .before)) in omega arith
+
+cast-runs : tie.Need-cast-runs
+cast-runs c = let small = storable (walked (c .before)) in omega arith
 
 slice-write-runs : tie.Need-slice-write-runs
-slice-write-runs c = let small = storable c in let wide = room c in let making =
-    c .before .before .before .before .before .before .before .before .before .before .before .before .before .before .before .before .before .before .before .before .before .before .before .pre .0 in omega (arith, wide .of-nexts, making .runs-room, making .tops-room, making .counts-room)
+slice-write-runs c = let small = storable (walked (c .before)) in omega
+    (arith, entry (walked (c .before)) .pre .0 .runs-room)
 
 sub-tops : tie.Need-sub-tops
-sub-tops c = let small = storable c in let wide = room c in let making =
-    c .before .before .before .before .before .before .before .before .before .before .before .before .before .before .before .before .before .before .before .before .before .before .before .pre .0 in omega (arith, wide .of-nexts, making .runs-room, making .tops-room, making .counts-room)
+sub-tops c = let small = storable (walked (c .before)) in omega arith
 
 cast-tops : tie.Need-cast-tops
-cast-tops c = let small = storable c in let wide = room c in let making =
-    c .before .before .before .before .before .before .before .before .before .before .before .before .before .before .before .before .before .before .before .before .before .before .before .pre .0 in omega (arith, wide .of-nexts, making .runs-room, making .tops-room, making .counts-room)
+cast-tops c = let small = storable (walked (c .before)) in omega arith
 
 slice-write-tops : tie.Need-slice-write-tops
-slice-write-tops c = let small = storable c in let wide = room c in let making =
-    c .before .before .before .before .before .before .before .before .before .before .before .before .before .before .before .before .before .before .before .before .before .before .before .pre .0 in omega (arith, wide .of-nexts, making .runs-room, making .tops-room, making .counts-room)
+slice-write-tops c = let small = storable (walked (c .before)) in omega
+    (arith, entry (walked (c .before)) .pre .0 .tops-room)
 
 same-length : tie.Need-same-length
 same-length c = search needs
@@ -116,8 +114,8 @@ same-length-6 : tie.Need-same-length-6
 same-length-6 c = search needs
 
 returns : tie.Need-returns
-returns c = piece-made
-    (c .before .before .before .before .before .before .before .before .before .before .before .before .before .before .before .before .before .before .before .before .before .before .before .pre .0) (c .before .before .before .before .before .before .before .before .before .before .before .before .before .before .before .before .before .before .before .before .before .before .before .pre .1) (c .before .before .before .before .before .before .before .before .before .fill .ensures) (room c)
+returns c = let made = walked (c .before) in
+    piece-made (entry made .pre .0) (entry made .pre .1) (made .fill .ensures) (room made)
 
 pub piece-spec : {M : Type 1} → statement M
 piece-spec =
@@ -127,6 +125,8 @@ piece-spec =
     slice-read-node
     cast-node
     fill-requires
+    add-below
+    mul-below
     shared-slice-read-below
     mul-nexts
     add-nexts
@@ -134,6 +134,7 @@ piece-spec =
     mul-nexts-2
     slice-write-nexts
     add-runs
+    cast-runs
     slice-write-runs
     sub-tops
     cast-tops

@@ -8,11 +8,11 @@ use Rattle.tables.proofs.plan.pieces.Statement.{statement}
 use Rattle.tables.proofs.plan.pieces.Tie as tie
 
 abbrev Inv-loop : tie.InvT-loop
-Inv-loop list counts total nexts₀ labels₀ runs₀ stands₀ tops₀ roots₀ k₀ nexts labels runs stands tops roots k =
-    (k ≤ total) × Making list counts k (tables nexts labels stands roots) runs tops
+Inv-loop list cuts total nexts₀ labels₀ runs₀ stands₀ tops₀ roots₀ k₀ nexts labels runs stands tops roots k =
+    (k ≤ total) × Making list cuts k (tables nexts labels stands roots) runs tops
 
 abbrev μ-loop : tie.MeasureT-loop
-μ-loop list counts total nexts₀ labels₀ runs₀ stands₀ tops₀ roots₀ k₀ nexts labels runs stands tops roots k =
+μ-loop list cuts total nexts₀ labels₀ runs₀ stands₀ tops₀ roots₀ k₀ nexts labels runs stands tops roots k =
     total - k
 
 loop-holds : tie.Need-loop-holds Inv-loop μ-loop

@@ -1,0 +1,81 @@
+-- `picker::texts::good_texts` meets its contract: the tables are those of the list's tree, and the texts are printed by
+-- them.
+use borrow.Author.Needs.{needs}
+use Rattle.picker.proofs.texts.good_texts.Statement.{statement}
+use Rattle.picker.proofs.texts.good_texts.Tie as tie
+
+-- where the call began
+abbrev entry : tie.After-prepare → tie.Start
+entry c = c .before .before .before .before .before .before .before .before .before .before
+
+slice-aggregate-prepare : tie.Need-slice-aggregate-prepare
+slice-aggregate-prepare c = search needs
+
+slice-aggregate-prepare-2 : tie.Need-slice-aggregate-prepare-2
+slice-aggregate-prepare-2 c = search needs
+
+slice-aggregate-prepare-3 : tie.Need-slice-aggregate-prepare-3
+slice-aggregate-prepare-3 c = search needs
+
+slice-aggregate-prepare-4 : tie.Need-slice-aggregate-prepare-4
+slice-aggregate-prepare-4 c = search needs
+
+slice-aggregate-prepare-5 : tie.Need-slice-aggregate-prepare-5
+slice-aggregate-prepare-5 c = search needs
+
+prepare-requires : tie.Need-prepare-requires
+prepare-requires c κs = search needs
+
+slice-aggregate-texts : tie.Need-slice-aggregate-texts
+slice-aggregate-texts c = search needs
+
+slice-aggregate-texts-2 : tie.Need-slice-aggregate-texts-2
+slice-aggregate-texts-2 c = search needs
+
+slice-aggregate-texts-3 : tie.Need-slice-aggregate-texts-3
+slice-aggregate-texts-3 c = search needs
+
+slice-aggregate-texts-4 : tie.Need-slice-aggregate-texts-4
+slice-aggregate-texts-4 c = search needs
+
+slice-aggregate-texts-5 : tie.Need-slice-aggregate-texts-5
+slice-aggregate-texts-5 c = search needs
+
+texts-requires : tie.Need-texts-requires
+texts-requires c κs =
+    let made = c .before .before .before .before .before .before .before .before .before .before .before in
+    let list = entry made .pre .0 in (
+      record {
+        roomy = made .prepare .ensures .0;
+        of-tree = (list .some, made .prepare .ensures .1 (list .some) (list .good));
+      },
+      entry made .pre .1,
+    )
+
+same-length : tie.Need-same-length
+same-length c = search needs
+
+returns : tie.Need-returns
+returns c = λ t good.
+    let printed = c .before .before in
+    let made = printed .before .before .before .before .before .before .before .before .before .before .before .before in
+    printed .texts .ensures t (made .prepare .ensures .1 t good)
+
+pub good-texts-spec : {M : Type 1} → statement M
+good-texts-spec =
+    tie.close
+    (tie.spec
+    slice-aggregate-prepare
+    slice-aggregate-prepare-2
+    slice-aggregate-prepare-3
+    slice-aggregate-prepare-4
+    slice-aggregate-prepare-5
+    prepare-requires
+    slice-aggregate-texts
+    slice-aggregate-texts-2
+    slice-aggregate-texts-3
+    slice-aggregate-texts-4
+    slice-aggregate-texts-5
+    texts-requires
+    same-length
+    returns)
