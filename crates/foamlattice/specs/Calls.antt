@@ -12,7 +12,7 @@ use Rattle.tree.specs.Leaf.{Leaf, Matches}
 use Rattle.tree.specs.Records.{Good, piece-count}
 use Rattle.marks.specs.declared.numbers.Numbers.{Numbers}
 use Rattle.marks.specs.Chain.{Chain, begun, further, Follows}
-use Rattle.marks.specs.Chained.{chain-follows}
+use Rattle.marks.specs.ChainFollows.{chain-follows}
 use Rattle.foamlattice.specs.Packed.{number-in, flag-in, Unpacks}
 use Rattle.foamlattice.specs.Promise.{Starting, Stepping}
 use Rattle.foamlattice.specs.Bounds.{starting-unpacks, stepping-unpacks}

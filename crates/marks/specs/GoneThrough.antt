@@ -20,8 +20,8 @@ use Rattle.marks.specs.Passing.{bit-passed, passed-below}
 use Rattle.marks.specs.AllZero.{zero-holds}
 use Rattle.marks.specs.Within.{sweep-extends}
 use Rattle.marks.specs.Visiting.{own-holds, part-at, started-own, started-below}
-use Rattle.marks.specs.Reclosing.{closes-keeps}
-use Rattle.marks.specs.Chains.{Gone, Further, Visitable}
+use Rattle.marks.specs.ClosedFromState.{closes-keeps}
+use Rattle.marks.specs.RunOfChildren.{Gone, Further, Visitable}
 
 module _ {reach runs stands tops : List ℕ} {x : Nested Leaf} {c : Child} {k at : ℕ} {words : List ℕ}
     (can : Visitable reach runs stands tops x c k at words) where

@@ -14,7 +14,7 @@ use Rattle.tables.specs.Words.{Bit, run}
 use Rattle.marks.specs.Bits.{bit-zero}
 use Rattle.marks.specs.Swept.{Sweepable}
 use Rattle.marks.specs.Passing.{missed-with}
-use Rattle.marks.specs.Chains.{Under-way, waiting-child}
+use Rattle.marks.specs.RunOfChildren.{Under-way, waiting-child}
 use Rattle.marks.specs.GoneThrough.{further, gone, visited-at-rest, settled-at-rest}
 
 module _ (reach runs stands tops : List ℕ) (x : Nested Leaf) (k : ℕ) (begun : List ℕ)

@@ -26,16 +26,16 @@ use Rattle.tables.specs.Plan.{Pieces, Planned}
 use Rattle.marks.specs.Bits.{Tells}
 use Rattle.tables.specs.Tables.{Prepared, Roomy, Ready, Holding, Answered}
 use Rattle.marks.specs.Promise.{Hold, Marks-of}
-use Rattle.marks.specs.EachClosed.{Each-closed-below}
+use Rattle.marks.specs.EachPieceClosed.{Each-closed-below}
 use Rattle.marks.specs.Swept.{Nearly-closed, Quiet, Narrow-below, In-tables}
-use Rattle.marks.specs.Reclosing.{closed-nearly}
+use Rattle.marks.specs.ClosedFromState.{closed-nearly}
 use Rattle.tables.specs.Given
 use Rattle.tables.specs.Given.{small-narrow}
 use Rattle.marks.specs.Table.{Closed-all}
 use Rattle.marks.specs.Leaves.{Leaves-noted, kept-each}
 use Rattle.marks.specs.Low.{low-tops, checkable}
 use Rattle.marks.specs.Checked.{Checkable}
-use Rattle.marks.specs.MovedClosed.{
+use Rattle.marks.specs.WordsMovedClosed.{
   Moved-closed,
   moved-length,
   moved-others,

@@ -4,7 +4,7 @@ pub mod Answer
 pub mod Promise
 pub mod Chain
 pub mod Unique
-pub mod Chained
+pub mod ChainFollows
 pub mod States
 -- The layer inside, for callers that make a list's tables once: its start and step, and the words after a text.
 pub mod Inner
@@ -27,16 +27,16 @@ pub mod Reaching
 pub mod Reached
 pub mod Table
 -- Closing a piece by that table: a whole word, a word but for one state, and every word.
-pub mod Closing
-pub mod Reclosing
-pub mod EachClosed
-pub mod ClosedWords
+pub mod WordClosed
+pub mod ClosedFromState
+pub mod EachPieceClosed
+pub mod WordsClosed
 -- Moving along a byte: one word, all words, and all words with each piece closed.
 pub mod Labels
 pub mod Leaves
-pub mod Moving
-pub mod Moved
-pub mod MovedClosed
+pub mod WordMoved
+pub mod WordsMoved
+pub mod WordsMovedClosed
 -- A sweep: where parts and child pieces stand, what passing, visiting and leaving out make of the words, two sweeps.
 pub mod Swept
 pub mod Within
@@ -44,7 +44,7 @@ pub mod Places
 pub mod Passing
 pub mod Visiting
 pub mod Settling
-pub mod Chains
+pub mod RunOfChildren
 pub mod GoneThrough
 pub mod Idle
 pub mod Sweeping

@@ -15,7 +15,7 @@ use Rattle.language.specs.Unmoved.{settled-agree}
 use Rattle.tree.specs.Leaf.{Leaf, meaning}
 use Rattle.tables.specs.Words.{Bit, width, run, Holds}
 use Rattle.tables.specs.Plan.{Closes}
-use Rattle.marks.specs.EachClosed.{Each-closed, Each-closed-below, closed-same}
+use Rattle.marks.specs.EachPieceClosed.{Each-closed, Each-closed-below, closed-same}
 use Rattle.marks.specs.Transitions.{transition-own}
 use Rattle.marks.specs.Swept.{Child, children-of, part}
 use Rattle.marks.specs.Spots.{bit-at, bit-of}

@@ -18,7 +18,7 @@ use Rattle.tables.specs.Words.{Bit, width, run, number, Holds, Clean}
 use Rattle.tables.specs.Plan.{Planned, Each, Reaches}
 use Rattle.marks.specs.Numbers.{width-two, number-injective}
 use Rattle.marks.specs.Bits.{bit-zero, bit-power}
-use Rattle.marks.specs.EachClosed.{Each-closed-below, zeros-closed}
+use Rattle.marks.specs.EachPieceClosed.{Each-closed-below, zeros-closed}
 use Rattle.marks.specs.Swept.{Nearly-closed, Narrow-below, tables, In-tables}
 use Rattle.marks.specs.Spots.{
   Spot,

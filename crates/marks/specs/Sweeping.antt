@@ -45,9 +45,9 @@ use Rattle.marks.specs.Swept.{
 }
 use Rattle.marks.specs.Spots.{widths, Bounded, clean-words, below-power}
 use Rattle.marks.specs.Visiting.{part-at, started-own, started-below}
-use Rattle.marks.specs.Reclosing.{Closes-from, passed-nearly}
-use Rattle.marks.specs.EachClosed.{closed-below-same}
-use Rattle.marks.specs.Chains.{
+use Rattle.marks.specs.ClosedFromState.{Closes-from, passed-nearly}
+use Rattle.marks.specs.EachPieceClosed.{closed-below-same}
+use Rattle.marks.specs.RunOfChildren.{
   Visitable,
   Under-way,
   Waiting,

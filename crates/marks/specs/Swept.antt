@@ -12,7 +12,7 @@ use Rattle.tree.specs.Leaf.{Leaf, meaning}
 use Rattle.tree.specs.Parts.{Every-below}
 use Rattle.tables.specs.Words.{Bit, width, run, Own, number, Holds, Clean}
 use Rattle.tables.specs.Plan.{Pieces, Piece-at, Children-at, row, Reaches, Each-below, Closes}
-use Rattle.marks.specs.EachClosed.{Each-closed, Each-closed-below}
+use Rattle.marks.specs.EachPieceClosed.{Each-closed, Each-closed-below}
 
 -- the word with bit `to` set where bit `from` of the other is
 unfoldable pub passed : (other from word to : ℕ) → ℕ

@@ -14,9 +14,9 @@ use Rattle.language.specs.Same.{Agree, sweep-same}
 use Rattle.language.specs.Unmoved.{settled-agree, sweep-settled}
 use Rattle.tree.specs.Leaf.{Leaf, meaning}
 use Rattle.tables.specs.Words.{width, run, Holds, Clean}
-use Rattle.marks.specs.EachClosed.{Each-closed-below, closed-below-same, closed-same}
+use Rattle.marks.specs.EachPieceClosed.{Each-closed-below, closed-below-same, closed-same}
 use Rattle.marks.specs.Swept.{Nearly-closed, Quiet, In-tables, Sweepable, Tables-sized, Sweep-ready, Swept}
-use Rattle.marks.specs.Reclosing.{closed-nearly}
+use Rattle.marks.specs.ClosedFromState.{closed-nearly}
 use Rattle.marks.specs.Sweeping.{sized-same}
 use Rattle.marks.specs.Spots.{
   Spot,

@@ -11,7 +11,7 @@ ghost use Rattle.tree.specs.Leaf.{Leaf};
 ghost use Rattle.tables.specs.Words.{width};
 ghost use Rattle.tables.specs.Plan.{row, takes, Moves};
 ghost use Rattle.tables.specs.Tables.{Noted};
-ghost use Rattle.marks.specs.MovedClosed.{Word-after, Moved-closed};
+ghost use Rattle.marks.specs.WordsMovedClosed.{Word-after, Moved-closed};
 
 // The word of a piece, moved along the byte: a state that takes it has the label one above it, and leads to the next
 // state. Only leaves are

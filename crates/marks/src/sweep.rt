@@ -11,7 +11,7 @@ ghost use Rattle.tree.specs.Leaf.{Leaf, meaning};
 ghost use Rattle.tables.specs.Words.{Bit, Holds};
 ghost use Rattle.marks.specs.Bits.{Tells};
 ghost use Rattle.marks.specs.Swept.{passed, Sweep-ready, Sweepable, Swept, At-rest, Missed, Apart};
-ghost use Rattle.marks.specs.Reclosing.{Closes-from};
+ghost use Rattle.marks.specs.ClosedFromState.{Closes-from};
 ghost use Rattle.marks.specs.Twice.{Closable, Closed-twice};
 
 // The word with bit `to` set where bit `from` of the other is.

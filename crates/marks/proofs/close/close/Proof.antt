@@ -5,7 +5,7 @@ use native.Mathlib.Omega.{arith}
 use mathlib.Core.Path.{refl}
 use Rattle.marks.specs.LowestBit.{left-smaller}
 use Rattle.marks.specs.Joining.{Rows-joined, joined-none, joined-more}
-use Rattle.marks.specs.Closing.{closed-by-joining}
+use Rattle.marks.specs.WordClosed.{closed-by-joining}
 use Rattle.marks.proofs.close.close.Statement.{statement}
 use Rattle.marks.proofs.close.close.Tie as tie
 

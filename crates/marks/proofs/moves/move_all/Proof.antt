@@ -2,7 +2,7 @@
 -- nothing.
 use Prim.Native.Nat.{_≤_, _-_}
 use native.Mathlib.Omega.{arith}
-use Rattle.marks.specs.MovedClosed.{Moving-closing, moving-none, moving-more, moving-all}
+use Rattle.marks.specs.WordsMovedClosed.{Moving-closing, moving-none, moving-more, moving-all}
 use Rattle.marks.proofs.moves.move_all.Statement.{statement}
 use Rattle.marks.proofs.moves.move_all.Tie as tie
 

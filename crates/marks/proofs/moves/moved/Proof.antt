@@ -5,7 +5,7 @@ use mathlib.Core.Path.{refl, _∙_}
 use mathlib.Core.Logic.{⊎-elim}
 use native.Mathlib.Omega.{arith}
 use Rattle.marks.specs.LowestBit.{left-smaller}
-use Rattle.marks.specs.Moving.{Picked, picked-none, picked-more, picked-same, moves-by-leaves}
+use Rattle.marks.specs.WordMoved.{Picked, picked-none, picked-more, picked-same, moves-by-leaves}
 use Rattle.marks.proofs.moves.moved.Statement.{statement}
 use Rattle.marks.proofs.moves.moved.Tie as tie
 

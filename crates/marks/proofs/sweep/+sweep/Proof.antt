@@ -16,7 +16,7 @@ use Rattle.tree.specs.Leaf.{meaning}
 use Rattle.tables.specs.Words.{Holds}
 use Rattle.tables.specs.Plan.{Closes}
 use Rattle.marks.specs.Swept.{Sweepable, Tables-sized}
-use Rattle.marks.specs.Chains.{Waiting}
+use Rattle.marks.specs.RunOfChildren.{Waiting}
 use Rattle.marks.specs.Sweeping.{
   Sweeping,
   Sweep-room,

@@ -14,12 +14,12 @@ use Rattle.tree.specs.Leaf.{Leaf, meaning}
 use Rattle.tables.specs.Words.{width, run, number, Holds, Clean}
 use Rattle.tables.specs.Plan.{row, takes, Moves, Pieces, Planned, Reaches, Each, Closes}
 use Rattle.marks.specs.Bits.{bit-zero}
-use Rattle.marks.specs.Closing.{closes-none}
+use Rattle.marks.specs.WordClosed.{closes-none}
 use Rattle.marks.specs.Rows.{Rows, rows-none}
 use Rattle.marks.specs.Swept.{Narrow-below}
-use Rattle.marks.specs.EachClosed.{Each-closed}
-use Rattle.marks.specs.Moved.{Word-moved, moved-more, Marks-moved, Moved-all, moved-all}
-use Rattle.marks.specs.ClosedWords.{
+use Rattle.marks.specs.EachPieceClosed.{Each-closed}
+use Rattle.marks.specs.WordsMoved.{Word-moved, moved-more, Marks-moved, Moved-all, moved-all}
+use Rattle.marks.specs.WordsClosed.{
   Closed-words,
   closed-none,
   closed-more,

@@ -15,7 +15,7 @@ use Rattle.language.specs.Settled.{Settled}
 use Rattle.tree.specs.Leaf.{Leaf, meaning}
 use Rattle.tables.specs.Words.{Bit, width, run, Holds, Clean}
 use Rattle.tables.specs.Plan.{Children-at, row, Reaches, Each-below, Closes}
-use Rattle.marks.specs.EachClosed.{Each-closed, Each-closed-below, closed-same}
+use Rattle.marks.specs.EachPieceClosed.{Each-closed, Each-closed-below, closed-same}
 use Rattle.marks.specs.Swept.{
   Apart,
   Narrow-below,
@@ -29,8 +29,8 @@ use Rattle.marks.specs.Swept.{
   Visited,
   Visits,
 }
-use Rattle.marks.specs.Closing.{closes-again}
-use Rattle.marks.specs.Reclosing.{closed-nearly}
+use Rattle.marks.specs.WordClosed.{closes-again}
+use Rattle.marks.specs.ClosedFromState.{closed-nearly}
 use Rattle.marks.specs.Spots.{widths, Bounded, clean-words, below-power}
 use Rattle.marks.specs.Places.{
   Part-seat,

@@ -13,7 +13,7 @@ use Rattle.language.specs.Nested.{Nested, leaf, catenation, union, star, below}
 use Rattle.tree.specs.Leaf.{Leaf}
 use Rattle.tables.specs.Words.{run}
 use Rattle.tables.specs.Plan.{Closes}
-use Rattle.marks.specs.Closing.{closes-none}
+use Rattle.marks.specs.WordClosed.{closes-none}
 
 -- in the words of the child pieces below x each is closed
 abbrev pub Each-closed-below : Nested Leaf → List ℕ → Type 0

@@ -21,11 +21,11 @@ use Rattle.tables.specs.Plan.{row, Reaches, Each-below, Each, Closes}
 use Rattle.marks.specs.Bits.{bit-below}
 use Rattle.marks.specs.Numbers.{number-onto}
 use Rattle.marks.specs.Swept.{Narrow-below}
-use Rattle.marks.specs.EachClosed.{Each-closed-below, Each-closed}
-use Rattle.marks.specs.Closing.{closes-again}
+use Rattle.marks.specs.EachPieceClosed.{Each-closed-below, Each-closed}
+use Rattle.marks.specs.WordClosed.{closes-again}
 use Rattle.marks.specs.Spots.{Spot, own-spot, Lit, marked-lit, bit-at}
 use Rattle.marks.specs.Within.{own-has}
-use Rattle.marks.specs.Moved.{first-left}
+use Rattle.marks.specs.WordsMoved.{first-left}
 
 -- each of the first n words is closed in itself, by the table's row of its piece; the others are as before
 pub record Closed-words (reach before after : List ℕ) (n : ℕ) : Type 0 where
