@@ -17,8 +17,8 @@ use Rattle.tables.specs.Words.{run}
 use Rattle.tables.specs.Standing.{
   size,
   size-positive,
-  Spot,
-  spot,
+  Site,
+  site,
   tree,
   first,
   catenation-left,
@@ -40,7 +40,7 @@ pub record Top (list : List ℕ) (x : Nested Leaf) : Type 0 where
   pub of-tree : Tree Leaf
   pub good : Good list of-tree
   pub cut : x ≡ cut-up of-tree
-  pub fine : Fine list (spot x 0 0 1 0)
+  pub fine : Fine list (site x 0 0 1 0)
   pub plain : Plain x
   pub all : length list ≡ record-size * size x
 
@@ -49,12 +49,12 @@ pub record Listed (list : List ℕ) : Type 0 where
   pub some : Nested Leaf
   pub top : Top list some
 
--- the records of the second spot are among those of the first
-pub record Among (s u : Spot) : Type 0 where
+-- the records of the second site are among those of the first
+pub record Among (s u : Site) : Type 0 where
   pub begins : first s ≤ first u
   pub ends : first u + size (tree u) ≤ first s + size (tree s)
 
-child-among : {s u : Spot} → Child s u → Among s u
+child-among : {s u : Site} → Child s u → Among s u
 child-among (catenation-left {x = x} {y = y}) = record { begins = omega arith; ends = omega arith }
 child-among (catenation-right {x = x} {y = y}) = record { begins = omega arith; ends = omega arith }
 child-among (union-left {x = x} {y = y}) = record { begins = omega arith; ends = omega arith }
@@ -62,7 +62,7 @@ child-among (union-right {x = x} {y = y}) = record { begins = omega arith; ends 
 child-among (operand {x = x}) = record { begins = omega arith; ends = omega arith }
 child-among (under {x = x}) = record { begins = omega arith; ends = omega arith }
 
-pub in-among : {s u : Spot} → In s u → Among s u
+pub in-among : {s u : Site} → In s u → Among s u
 in-among here = record { begins = omega arith; ends = omega arith }
 in-among (step c m) =
     let near = child-among c in
@@ -115,7 +115,7 @@ root-below (star x) plain r e =
 root-below (below x) plain r e = absurd plain
 
 -- the number at a node's record is that of the pieces below the node
-in-below : {s u : Spot} → In s u → Plain (tree u) → (r : ℕ) → first s + r + 1 ≡ first u + size (tree u)
+in-below : {s u : Site} → In s u → Plain (tree u) → (r : ℕ) → first s + r + 1 ≡ first u + size (tree u)
     → getD (below-each (tree s)) r 0 ≡ run (tree u)
 in-below {s} here plain r e = root-below (tree s) plain r (omega arith)
 in-below {u = u} (step (catenation-left {x = x} {y = y}) m) plain r e =
@@ -144,8 +144,8 @@ in-below (step (operand {x = x}) m) plain r e =
 in-below (step under m) plain r e = in-below m plain r e
 
 -- so is the slot that deciding on the list has left for it
-pub slot-below : {list cuts : List ℕ} {x : Nested Leaf} → Top list x → Counts-below list cuts → {u : Spot}
-    → In (spot x 0 0 1 0) u → Plain (tree u) → (r : ℕ) → r + 1 ≡ first u + size (tree u)
+pub slot-below : {list cuts : List ℕ} {x : Nested Leaf} → Top list x → Counts-below list cuts → {u : Site}
+    → In (site x 0 0 1 0) u → Plain (tree u) → (r : ℕ) → r + 1 ≡ first u + size (tree u)
     → getD cuts (r + 1) 0 ≡ run (tree u)
 slot-below {x = x} top counts m plain r e =
     let t = top .of-tree in

@@ -1,5 +1,4 @@
 -- What filling a node's part of its piece's row makes of the tables, from the parts of its children.
--- Assumes nothing.
 use Prim.Native.Nat.{ℕ, _+_, _*_, _-_, _^_, _<_}
 use mathlib.Core.Path.{_≡_, refl, sym, ap, subst, _∙_}
 use mathlib.Core.Bool.{cond}
@@ -39,8 +38,8 @@ use Rattle.tables.specs.Entries.{
 }
 use Rattle.tables.specs.Standing.{
   size,
-  Spot,
-  spot,
+  Site,
+  site,
   tree,
   first,
   piece,
@@ -83,20 +82,20 @@ pub tables-same : {a b : List ℕ} {c d : List ℕ} (stands roots : List ℕ) �
 tables-same stands roots p q = λ i. tables (p i) (q i) stands roots
 
 -- the tables have room for 128 pieces of 64 states
-pub record Room (t : Tables) : Type 0 where
+pub record Tables-room (t : Tables) : Type 0 where
   pub of-nexts : length (t .nexts) ≡ row-size * most-pieces
   pub of-labels : length (t .labels) ≡ row-size * most-pieces
   pub of-stands : length (t .stands) ≡ most-pieces
   pub of-roots : length (t .roots) ≡ most-pieces
 
 -- u is the stand-in of the child piece k in the piece of s, at or below s
-pub record Own-stand-in (s u : Spot) (k : ℕ) : Type 0 where
+pub record Own-stand-in (s u : Site) (k : ℕ) : Type 0 where
   pub inside : In s u
   pub stands-for : Stand-in u k
   pub same-piece : piece u ≡ piece s
 
 -- the tables have the number of the stand-in u of the child piece k, and the child piece's root
-pub record Placed (t : Tables) (u : Spot) (k : ℕ) : Type 0 where
+pub record Stand-in-placed (t : Tables) (u : Site) (k : ℕ) : Type 0 where
   pub stand : getD (t .stands) k 0 ≡ number u
   pub root : getD (t .roots) k 0 + 1 ≡ first u + size (tree u)
 
@@ -108,14 +107,14 @@ pub record Same-place (t after : Tables) (k : ℕ) : Type 0 where
 -- the part of s has been filled but for the word of its accepting state, and `end` is the number after its last
 -- state's.
 -- What comes before it in the tables is as it was, and so is what is told of child pieces with no stand-in in this part
-pub record Filled (s : Spot) (t after : Tables) (end : ℕ) : Type 0 where
+pub record Filled (s : Site) (t after : Tables) (end : ℕ) : Type 0 where
   pub ended : end ≡ number s + width (tree s)
   pub words : Lies (after .nexts) (row-size * piece s + number s) (fronts (tree s) (number s))
   pub words-before : (j : ℕ) → j < row-size * piece s + number s → getD (after .nexts) j 0 ≡ getD (t .nexts) j 0
   pub leaves : Lies (after .labels) (row-size * piece s + number s) (takes (tree s))
   pub leaves-before : (j : ℕ) → j < row-size * piece s + number s → getD (after .labels) j 0 ≡ getD (t .labels) j 0
-  pub placed : (u : Spot) (k : ℕ) → Own-stand-in s u k → Placed after u k
-  pub others : (k : ℕ) → ((u : Spot) → Own-stand-in s u k → ⊥) → Same-place t after k
+  pub placed : (u : Site) (k : ℕ) → Own-stand-in s u k → Stand-in-placed after u k
+  pub others : (k : ℕ) → ((u : Site) → Own-stand-in s u k → ⊥) → Same-place t after k
 
 -- two entries for a leaf or a stand-in, but for the word of its accepting state
 abbrev pub two-entries : Tables → (at label : ℕ) → Tables
@@ -135,16 +134,17 @@ labels-before table at label j low = getD-set-other (set table at label) (at + 1
     ∙ getD-set-other table at j label 0 (λ e. omega arith)
 
 -- a node is no stand-in
-plain-no-stand-in : {u : Spot} {k : ℕ} → Plain (tree u) → Stand-in u k → ⊥
+plain-no-stand-in : {u : Site} {k : ℕ} → Plain (tree u) → Stand-in u k → ⊥
 plain-no-stand-in plain stand-in = plain
 
 -- no stand-in is at or below a leaf
-no-stand-in-at-leaf : {a f p n i : ℕ} {u : Spot} {k : ℕ} → In (spot (leaf (character a)) f p n i) u → Stand-in u k → ⊥
+no-stand-in-at-leaf : {a f p n i : ℕ} {u : Site} {k : ℕ} → In (site (leaf (character a)) f p n i) u → Stand-in u k → ⊥
 no-stand-in-at-leaf here m = plain-no-stand-in tt m
 
 -- a leaf's part
-pub fill-leaf : {list : List ℕ} {a f p n i : ℕ} → Fine list (spot (leaf (character a)) f p n i) → (t : Tables) → Room t
-    → Filled (spot (leaf (character a)) f p n i) t (two-entries t (row-size * p + i) (a + 1)) (i + 2)
+pub fill-leaf : {list : List ℕ} {a f p n i : ℕ} → Fine list (site (leaf (character a)) f p n i) → (t : Tables)
+    → Tables-room t
+    → Filled (site (leaf (character a)) f p n i) t (two-entries t (row-size * p + i) (a + 1)) (i + 2)
 fill-leaf {a = a} {p = p} {i = i} h t room =
     let r = room .of-nexts in
     let q = room .of-labels in
@@ -164,10 +164,10 @@ stand-entries t at k i node = tables (set (t .nexts) at 0) (set (set (t .labels)
     (set (t .roots) k node)
 
 -- a stand-in's own child piece is told of
-stand-placed : {list : List ℕ} {x : Nested Leaf} {f p n i : ℕ} → Fine list (spot (below x) f p n i) → (t : Tables)
-    → Room t → (node : ℕ) → node + 1 ≡ f + size x
-    → {u : Spot} {k : ℕ} → In (spot (below x) f p n i) u → Stand-in u k → piece u ≡ p
-    → Placed (stand-entries t (row-size * p + i) n i node) u k
+stand-placed : {list : List ℕ} {x : Nested Leaf} {f p n i : ℕ} → Fine list (site (below x) f p n i) → (t : Tables)
+    → Tables-room t → (node : ℕ) → node + 1 ≡ f + size x
+    → {u : Site} {k : ℕ} → In (site (below x) f p n i) u → Stand-in u k → piece u ≡ p
+    → Stand-in-placed (stand-entries t (row-size * p + i) n i node) u k
 stand-placed {x = x} {n = n} {i = i} h t room node at here stand-in e =
     let r = room .of-stands in
     let q = room .of-roots in
@@ -178,9 +178,9 @@ stand-placed {x = x} {n = n} {i = i} h t room node at here stand-in e =
 stand-placed h t room node at (step under m) s e = absurd (omega (arith, piece-grows (child-fine under h) m))
 
 -- a stand-in's part
-pub fill-stand : {list : List ℕ} {x : Nested Leaf} {f p n i : ℕ} → Fine list (spot (below x) f p n i) → (t : Tables)
-    → Room t → (node : ℕ) → node + 1 ≡ f + size x
-    → Filled (spot (below x) f p n i) t (stand-entries t (row-size * p + i) n i node) (i + 2)
+pub fill-stand : {list : List ℕ} {x : Nested Leaf} {f p n i : ℕ} → Fine list (site (below x) f p n i) → (t : Tables)
+    → Tables-room t → (node : ℕ) → node + 1 ≡ f + size x
+    → Filled (site (below x) f p n i) t (stand-entries t (row-size * p + i) n i node) (i + 2)
 fill-stand {x = x} {f = f} {p = p} {n = n} {i = i} h t room node at =
     let r = room .of-nexts in
     let q = room .of-labels in
@@ -197,7 +197,7 @@ fill-stand {x = x} {f = f} {p = p} {n = n} {i = i} h t room node at =
           (record {
             inside = here;
             stands-for =
-                subst (λ (m : ℕ). Stand-in (spot (below x) f p n i) m) (sym e) stand-in;
+                subst (λ (m : ℕ). Stand-in (site (below x) f p n i) m) (sym e) stand-in;
             same-piece = refl;
           }) in
           record {
@@ -238,7 +238,7 @@ joined t base kind at middle last =
     (t .roots)
 
 -- s is a node of this kind with the children l and r
-pub record Joint (kind : ℕ) (s l r : Spot) : Type 0 where
+pub record Joint (kind : ℕ) (s l r : Site) : Type 0 where
   pub left : Child s l
   pub right : Child s r
   pub piece-left : piece l ≡ piece s
@@ -251,27 +251,27 @@ pub record Joint (kind : ℕ) (s l r : Spot) : Type 0 where
       ∷ (Plan.nexts (tree l) (number l) (left-exit kind (number s) (number r) last)
       ++ Plan.nexts (tree r) (number r) (right-exit kind (number s) (number r) last))
   pub leaves-as : takes (tree s) ≡ 0 ∷ (takes (tree l) ++ takes (tree r) ++ (0 ∷ []))
-  pub either : (u : Spot) (k : ℕ) → In s u → Stand-in u k → In l u ⊎ In r u
+  pub either : (u : Site) (k : ℕ) → In s u → Stand-in u k → In l u ⊎ In r u
   pub apart : (k : ℕ) → Reaches-piece l k → Reaches-piece r k → ⊥
 
 -- a stand-in below a node with two children is below one of them
-either-catenation : {x y : Nested Leaf} {f p n i : ℕ} {u : Spot} {k : ℕ} → In (spot (catenation x y) f p n i) u
+either-catenation : {x y : Nested Leaf} {f p n i : ℕ} {u : Site} {k : ℕ} → In (site (catenation x y) f p n i) u
     → Stand-in u k
-    → In (spot x f p n (i + 1)) u ⊎ In (spot y (f + size x) p (n + run x) (i + (1 + width x))) u
+    → In (site x f p n (i + 1)) u ⊎ In (site y (f + size x) p (n + run x) (i + (1 + width x))) u
 either-catenation here s = absurd (plain-no-stand-in tt s)
 either-catenation (step catenation-left m) s = inl m
 either-catenation (step catenation-right m) s = inr m
 
-either-union : {x y : Nested Leaf} {f p n i : ℕ} {u : Spot} {k : ℕ} → In (spot (union x y) f p n i) u → Stand-in u k
-    → In (spot x f p n (i + 1)) u ⊎ In (spot y (f + size x) p (n + run x) (i + (1 + width x))) u
+either-union : {x y : Nested Leaf} {f p n i : ℕ} {u : Site} {k : ℕ} → In (site (union x y) f p n i) u → Stand-in u k
+    → In (site x f p n (i + 1)) u ⊎ In (site y (f + size x) p (n + run x) (i + (1 + width x))) u
 either-union here s = absurd (plain-no-stand-in tt s)
 either-union (step union-left m) s = inl m
 either-union (step union-right m) s = inr m
 
 module _ {x y : Nested Leaf} {f p n i : ℕ} where
   -- catenations and unions are such nodes
-  pub catenation-joint : Joint catenation-kind (spot (catenation x y) f p n i) (spot x f p n (i + 1))
-      (spot y (f + size x) p (n + run x) (i + (1 + width x)))
+  pub catenation-joint : Joint catenation-kind (site (catenation x y) f p n i) (site x f p n (i + 1))
+      (site y (f + size x) p (n + run x) (i + (1 + width x)))
   catenation-joint = record {
     left = catenation-left;
     right = catenation-right;
@@ -286,8 +286,8 @@ module _ {x y : Nested Leaf} {f p n i : ℕ} where
     apart = λ k a b. omega arith;
   }
 
-  pub union-joint : Joint union-kind (spot (union x y) f p n i) (spot x f p n (i + 1))
-      (spot y (f + size x) p (n + run x) (i + (1 + width x)))
+  pub union-joint : Joint union-kind (site (union x y) f p n i) (site x f p n (i + 1))
+      (site y (f + size x) p (n + run x) (i + (1 + width x)))
   union-joint = record {
     left = union-left;
     right = union-right;
@@ -314,24 +314,25 @@ labels-last : (table : List ℕ) (a b : ℕ) → b < length table → getD (set 
 labels-last table a b fits = getD-set-same (set table a 0) b 0 0 (simp length-set fits)
 
 -- a stand-in of a child's part in the child's piece is one of the parent's
-up : {s l u : Spot} {k : ℕ} → Child s l → piece l ≡ piece s → Own-stand-in l u k → Own-stand-in s u k
+up : {s l u : Site} {k : ℕ} → Child s l → piece l ≡ piece s → Own-stand-in l u k → Own-stand-in s u k
 up c e m = record { inside = step c (m .inside); stands-for = m .stands-for; same-piece = m .same-piece ∙ e }
 
 -- and one that is below the child is one of the child
-down : {s l u : Spot} {k : ℕ} → piece l ≡ piece s → In l u → Own-stand-in s u k → Own-stand-in l u k
+down : {s l u : Site} {k : ℕ} → piece l ≡ piece s → In l u → Own-stand-in s u k → Own-stand-in l u k
 down e inside m = record { inside = inside; stands-for = m .stands-for; same-piece = m .same-piece ∙ sym e }
 
 -- what is told of a child piece stands while nothing of it changes
-pub still-placed : {t after : Tables} {u : Spot} {k : ℕ} → Placed t u k → Same-place t after k → Placed after u k
+pub still-placed : {t after : Tables} {u : Site} {k : ℕ} → Stand-in-placed t u k → Same-place t after k
+    → Stand-in-placed after u k
 still-placed p e = record { stand = e .stand ∙ p .stand; root = ap (λ (n : ℕ). n + 1) (e .root) ∙ p .root }
 
 both-same : {t mid after : Tables} {k : ℕ} → Same-place t mid k → Same-place mid after k → Same-place t after k
 both-same a b = record { stand = b .stand ∙ a .stand; root = b .root ∙ a .root }
 
-module _ {list : List ℕ} {kind : ℕ} {s l r : Spot} (j : Joint kind s l r) (h : Fine list s) (t mid after : Tables)
-    (room : Room after) (middle last : ℕ) (a : Filled l t mid middle) (b : Filled r mid after last) where
+module _ {list : List ℕ} {kind : ℕ} {s l r : Site} (j : Joint kind s l r) (h : Fine list s) (t mid after : Tables)
+    (room : Tables-room after) (middle last : ℕ) (a : Filled l t mid middle) (b : Filled r mid after last) where
   -- what the children's parts tell of child pieces stands
-  two-placed : (u : Spot) (k : ℕ) → Own-stand-in s u k → Placed after u k
+  two-placed : (u : Site) (k : ℕ) → Own-stand-in s u k → Stand-in-placed after u k
   two-placed u k m =
       ⊎-elim
       (λ inside. still-placed (a .placed u k (down (j .piece-left) inside m))
@@ -341,7 +342,7 @@ module _ {list : List ℕ} {kind : ℕ} {s l r : Spot} (j : Joint kind s l r) (h
       (λ inside. b .placed u k (down (j .piece-right) inside m))
       (j .either u k (m .inside) (m .stands-for))
 
-  two-others : (k : ℕ) → ((u : Spot) → Own-stand-in s u k → ⊥) → Same-place t after k
+  two-others : (k : ℕ) → ((u : Site) → Own-stand-in s u k → ⊥) → Same-place t after k
   two-others k none = both-same (a .others k (λ u w. none u (up (j .left) (j .piece-left) w)))
       (b .others k (λ u w. none u (up (j .right) (j .piece-right) w)))
 
@@ -469,13 +470,13 @@ module _ {list : List ℕ} {kind : ℕ} {s l r : Spot} (j : Joint kind s l r) (h
       }
 
 -- a stand-in below a star is below its operand
-operand-only : {x : Nested Leaf} {f p n i : ℕ} {u : Spot} {k : ℕ} → In (spot (star x) f p n i) u → Stand-in u k
-    → In (spot x f p n (i + 1)) u
+operand-only : {x : Nested Leaf} {f p n i : ℕ} {u : Site} {k : ℕ} → In (site (star x) f p n i) u → Stand-in u k
+    → In (site x f p n (i + 1)) u
 operand-only here s = absurd (plain-no-stand-in tt s)
 operand-only (step operand m) s = m
 
-module _ {list : List ℕ} {x : Nested Leaf} {f p n i : ℕ} (h : Fine list (spot (star x) f p n i)) (t after : Tables)
-    (room : Room after) (last : ℕ) (a : Filled (spot x f p n (i + 1)) t after last) where
+module _ {list : List ℕ} {x : Nested Leaf} {f p n i : ℕ} (h : Fine list (site (star x) f p n i)) (t after : Tables)
+    (room : Tables-room after) (last : ℕ) (a : Filled (site x f p n (i + 1)) t after last) where
   -- a star's words, from those of its operand's part
   star-words : Lies (joined after (row-size * p) star-kind i last last .nexts) (row-size * p + i) (fronts (star x) i)
   star-words =
@@ -520,7 +521,7 @@ module _ {list : List ℕ} {x : Nested Leaf} {f p n i : ℕ} (h : Fine list (spo
       (omega arith))
 
   -- the part of a star
-  pub fill-star : Filled (spot (star x) f p n i) t (joined after (row-size * p) star-kind i last last) (last + 1)
+  pub fill-star : Filled (site (star x) f p n i) t (joined after (row-size * p) star-kind i last last) (last + 1)
   fill-star =
       let e = a .ended in
       let wide-x = wide x in

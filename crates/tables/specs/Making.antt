@@ -1,5 +1,4 @@
 -- The tables while they are made, piece by piece in the order of the pieces' numbers.
--- Assumes nothing.
 use Prim.Native.Nat.{ℕ, _+_, _*_, _-_, _/_, _≤_, _<_}
 use mathlib.Core.Path.{_≡_, refl, sym, ap, subst, _∙_}
 use mathlib.Core.List.{List}
@@ -32,8 +31,8 @@ use Rattle.tables.specs.Entries.{
 }
 use Rattle.tables.specs.Standing.{
   size,
-  Spot,
-  spot,
+  Site,
+  site,
   tree,
   first,
   piece,
@@ -58,30 +57,30 @@ use Rattle.tables.specs.Standing.{
   one-stand-in,
   piece-below,
 }
-use Rattle.tables.specs.Filling.{Tables, tables, Room, Placed, Same-place, Filled, still-placed}
-use Rattle.tables.specs.Walking.{Sits, sits, Within, bounds, Visited, Ready, filled-ends, room-kept}
+use Rattle.tables.specs.Filling.{Tables, tables, Tables-room, Stand-in-placed, Same-place, Filled, still-placed}
+use Rattle.tables.specs.Walking.{Sits, sits, Within, bounds, Visited, Visitable, filled-ends, room-kept}
 use Rattle.tables.specs.Below.{Top, Listed, slot-below}
 
--- what lies below what lies below a spot
-in-in : {s t u : Spot} → In s t → In t u → In s u
+-- what lies below what lies below a site
+in-in : {s t u : Site} → In s t → In t u → In s u
 in-in here m = m
 in-in (step c l) m = step c (in-in l m)
 
 -- the whole tree stands at the first record, in the piece 0
-abbrev pub whole-spot : Nested Leaf → Spot
-whole-spot x = spot x 0 0 1 0
+abbrev pub whole-site : Nested Leaf → Site
+whole-site x = site x 0 0 1 0
 
 -- y is the tree of the piece n with the child pieces below it, and its records begin at f
 pub data Head (x : Nested Leaf) : (y : Nested Leaf) (f n : ℕ) → Type 0 where
   root : Head x x 0 0
-  child : {y : Nested Leaf} {f p n i : ℕ} → In (whole-spot x) (spot (below y) f p n i) → Head x y f n
+  child : {y : Nested Leaf} {f p n i : ℕ} → In (whole-site x) (site (below y) f p n i) → Head x y f n
 
 -- the top of a piece
-abbrev pub head-spot : Nested Leaf → (f n : ℕ) → Spot
-head-spot y f n = spot y f n (n + 1) 0
+abbrev pub head-site : Nested Leaf → (f n : ℕ) → Site
+head-site y f n = site y f n (n + 1) 0
 
 -- a piece's top lies in the whole tree
-pub head-in : {x y : Nested Leaf} {f n : ℕ} → Head x y f n → In (whole-spot x) (head-spot y f n)
+pub head-in : {x y : Nested Leaf} {f n : ℕ} → Head x y f n → In (whole-site x) (head-site y f n)
 head-in root = here
 head-in (child m) = in-child m under
 
@@ -104,15 +103,15 @@ piece-of x k low =
       | no h ↦ subst (Piece-of x) (omega arith) (record { top = x; begin = 0; head = root })
     ]
 
--- the piece in which a spot is
-pub record Owner (x : Nested Leaf) (u : Spot) : Type 0 where
+-- the piece in which a site is
+pub record Owner (x : Nested Leaf) (u : Site) : Type 0 where
   pub top : Nested Leaf
   pub begin : ℕ
   pub head : Head x top begin (piece u)
-  pub inside : In (head-spot top begin (piece u)) u
+  pub inside : In (head-site top begin (piece u)) u
 
 -- a child is in its parent's piece, or is the top of its own
-child-owner : {x : Nested Leaf} {s t : Spot} → Child s t → Owner x s → Owner x t
+child-owner : {x : Nested Leaf} {s t : Site} → Child s t → Owner x s → Owner x t
 child-owner catenation-left o =
     record { top = o .top; begin = o .begin; head = o .head; inside = in-child (o .inside) catenation-left }
 child-owner catenation-right o =
@@ -124,12 +123,12 @@ child-owner union-right o =
 child-owner operand o = record { top = o .top; begin = o .begin; head = o .head; inside = in-child (o .inside) operand }
 child-owner under o = record { top = _; begin = _; head = child (in-in (head-in (o .head)) (o .inside)); inside = here }
 
-in-owner : {x : Nested Leaf} {s t : Spot} → In s t → Owner x s → Owner x t
+in-owner : {x : Nested Leaf} {s t : Site} → In s t → Owner x s → Owner x t
 in-owner here o = o
 in-owner (step c m) o = in-owner m (child-owner c o)
 
--- each spot is in a piece
-pub owner : {x : Nested Leaf} {u : Spot} → In (whole-spot x) u → Owner x u
+-- each site is in a piece
+pub owner : {x : Nested Leaf} {u : Site} → In (whole-site x) u → Owner x u
 owner {x} m = in-owner m (record { top = x; begin = 0; head = root; inside = here })
 
 -- all entries of the piece n, which is the top piece of y, are there
@@ -140,20 +139,20 @@ pub record Row-made (y : Nested Leaf) (n : ℕ) (t : Tables) (runs tops : List �
   pub topped : getD tops n 0 ≡ width y - 1
 
 -- the pieces of x up to k have been made
-pub record Made (x : Nested Leaf) (k : ℕ) (t : Tables) (runs tops : List ℕ) : Type 0 where
+pub record Pieces-made (x : Nested Leaf) (k : ℕ) (t : Tables) (runs tops : List ℕ) : Type 0 where
   pub rooted : getD (t .roots) 0 0 + 1 ≡ size x
-  pub placed : (u : Spot) (n : ℕ) → In (whole-spot x) u → Stand-in u n → piece u < k → Placed t u n
+  pub placed : (u : Site) (n : ℕ) → In (whole-site x) u → Stand-in u n → piece u < k → Stand-in-placed t u n
   pub rows : {y : Nested Leaf} {f n : ℕ} → Head x y f n → n < k → Row-made y n t runs tops
 
 -- the root's record of a piece whose parent has been made
 head-root : {list : List ℕ} {x y : Nested Leaf} {f n : ℕ} {t : Tables} {runs tops : List ℕ} → Top list x
-    → Made x n t runs tops → Head x y f n → getD (t .roots) n 0 + 1 ≡ f + size y
+    → Pieces-made x n t runs tops → Head x y f n → getD (t .roots) n 0 + 1 ≡ f + size y
 head-root top made root = made .rooted ∙ omega arith
 head-root top made (child m) = made .placed _ _ m stand-in (in-fine m (top .fine) .later) .root
 
 -- so the top of the piece sits at that record
 pub head-sits : {list : List ℕ} {x y : Nested Leaf} {f n : ℕ} {t : Tables} {runs tops : List ℕ} → Top list x
-    → Made x n t runs tops → Head x y f n → Sits list (getD (t .roots) n 0) n 0 (head-spot y f n)
+    → Pieces-made x n t runs tops → Head x y f n → Sits list (getD (t .roots) n 0) n 0 (head-site y f n)
 head-sits top made head = sits (in-fine (head-in head) (top .fine)) (head-root top made head)
 
 -- a piece's top is a node
@@ -163,7 +162,7 @@ head-plain top (child m) = in-fine m (top .fine) .sound .0
 
 -- nothing has been made yet
 pub made-none : (x : Nested Leaf) (t : Tables) (runs tops : List ℕ) → getD (t .roots) 0 0 + 1 ≡ size x
-    → Made x 0 t runs tops
+    → Pieces-made x 0 t runs tops
 made-none x t runs tops e =
     record { rooted = e; placed = λ u n m s low. absurd (omega arith); rows = λ head low. absurd (omega arith) }
 
@@ -172,34 +171,34 @@ abbrev pub closed-row : Tables → (k last : ℕ) → Tables
 closed-row t k last = tables (set (t .nexts) (row-size * k + last - 1) 0) (t .labels) (t .stands) (t .roots)
 
 module _ {list : List ℕ} {x : Nested Leaf} (top : Top list x) (k : ℕ) (inside : k < 1 + run x) {t after : Tables}
-    (full : Room after)
+    (full : Tables-room after)
     {runs tops : List ℕ} (runs-room : length runs ≡ most-pieces) (tops-room : length tops ≡ most-pieces)
-    (made : Made x k t runs tops)
+    (made : Pieces-made x k t runs tops)
     {last r : ℕ} (done : Visited list (getD (t .roots) k 0) k 0 t after last)
     (counted : (y : Nested Leaf) (f : ℕ) → Head x y f k → r ≡ run y) where
   -- the walk has filled the row of the piece k
-  filled : {y : Nested Leaf} {f : ℕ} → Head x y f k → Filled (head-spot y f k) t after last
+  filled : {y : Nested Leaf} {f : ℕ} → Head x y f k → Filled (head-site y f k) t after last
   filled head = done _ (head-sits top made head)
 
   -- there is a piece k
   this : Piece-of x k
   this = piece-of x k inside
 
-  this-filled : Filled (head-spot (this .top) (this .begin) k) t after last
+  this-filled : Filled (head-site (this .top) (this .begin) k) t after last
   this-filled = filled (this .head)
 
   few : k < most-pieces
   few = omega (arith, top .fine .few)
 
   -- a stand-in of a piece made before keeps its place
-  still : (u : Spot) (n : ℕ) → In (whole-spot x) u → Stand-in u n → piece u < k → Same-place t after n
+  still : (u : Site) (n : ℕ) → In (whole-site x) u → Stand-in u n → piece u < k → Same-place t after n
   still u n m s low =
       this-filled .others n (λ v own.
       let same : u ≡ v = one-stand-in m (in-in (head-in (this .head)) (own .inside)) s (own .stands-for) in
       omega (arith, ap piece same, own .same-piece))
 
   -- the stand-ins in the piece k have their places now
-  placed-more : (u : Spot) (n : ℕ) → In (whole-spot x) u → Stand-in u n → piece u < k + 1 → Placed after u n
+  placed-more : (u : Site) (n : ℕ) → In (whole-site x) u → Stand-in u n → piece u < k + 1 → Stand-in-placed after u n
   placed-more u n m s low =
       elim (decLt (piece u) k) [
         | yes h ↦ still-placed (made .placed u n m s h) (still u n m s h)
@@ -207,8 +206,8 @@ module _ {list : List ℕ} {x : Nested Leaf} (top : Top list x) (k : ℕ) (insid
             let same : piece u ≡ k = omega arith in
             let own = owner m in
             let at : Head x (own .top) (own .begin) k = subst (Head x (own .top) (own .begin)) same (own .head) in
-            let inside-u : In (head-spot (own .top) (own .begin) k) u =
-            subst (λ (p : ℕ). In (head-spot (own .top) (own .begin) p) u) same (own .inside) in
+            let inside-u : In (head-site (own .top) (own .begin) k) u =
+            subst (λ (p : ℕ). In (head-site (own .top) (own .begin) p) u) same (own .inside) in
             filled at .placed u n (record { inside = inside-u; stands-for = s; same-piece = same })
       ]
 
@@ -265,7 +264,7 @@ module _ {list : List ℕ} {x : Nested Leaf} (top : Top list x) (k : ℕ) (insid
       }
 
   -- one piece more
-  pub made-more : Made x (k + 1) (closed-row after k last) (set runs k (r + 1)) (set tops k (last - 1))
+  pub made-more : Pieces-made x (k + 1) (closed-row after k last) (set runs k (r + 1)) (set tops k (last - 1))
   made-more = record {
     rooted = rooted-more;
     placed = λ u n m s low. still-placed (placed-more u n m s low) (record { stand = refl; root = refl });
@@ -278,8 +277,8 @@ module _ {list : List ℕ} {x : Nested Leaf} (top : Top list x) (k : ℕ) (insid
   }
 
 -- when all pieces have been made, the tables are those that are wanted
-module _ {list : List ℕ} {x : Nested Leaf} (top : Top list x) {t : Tables} (room : Room t) {runs tops : List ℕ}
-    (made : Made x (1 + run x) t runs tops) where
+module _ {list : List ℕ} {x : Nested Leaf} (top : Top list x) {t : Tables} (room : Tables-room t) {runs tops : List ℕ}
+    (made : Pieces-made x (1 + run x) t runs tops) where
   -- the tables without the words
   abbrev told : Plan.Pieces
   told = record { labels = t .labels; runs = runs; stands = t .stands; tops = tops }
@@ -288,7 +287,7 @@ module _ {list : List ℕ} {x : Nested Leaf} (top : Top list x) {t : Tables} (ro
   head-low : {y : Nested Leaf} {f n : ℕ} → Head x y f n → n < 1 + run x
   head-low root = omega arith
   head-low (child {y = y} {f = f} {p = p} {n = n} {i = i} m) =
-      let itself : Stand-in (spot (below y) f p n i) n = stand-in in
+      let itself : Stand-in (site (below y) f p n i) n = stand-in in
       omega (arith, in-reaches m (stand-in-reaches itself))
 
   -- the tables tell of each piece
@@ -313,8 +312,8 @@ module _ {list : List ℕ} {x : Nested Leaf} (top : Top list x) {t : Tables} (ro
       subst (λ (k : ℕ). take k (drop (row-size * n) (t .nexts)) ≡ Plan.nexts y 0 0) long
       (lies-row (row .words) (omega (arith, room .of-nexts, small .narrow, small .later, small .few)))
 
-  -- so they do of the child pieces below each spot
-  children-told : (y : Nested Leaf) {f p n i : ℕ} → In (whole-spot x) (spot y f p n i) → Plan.Children-at told y i n
+  -- so they do of the child pieces below each site
+  children-told : (y : Nested Leaf) {f p n i : ℕ} → In (whole-site x) (site y f p n i) → Plan.Children-at told y i n
   children-told (leaf a) m = tt
   children-told (catenation y z) m =
       (children-told y (in-child m catenation-left), children-told z (in-child m catenation-right))
@@ -326,7 +325,7 @@ module _ {list : List ℕ} {x : Nested Leaf} (top : Top list x) {t : Tables} (ro
     children-told y (in-child m under),
   )
 
-  below-told : (y : Nested Leaf) {f p n i : ℕ} → In (whole-spot x) (spot y f p n i)
+  below-told : (y : Nested Leaf) {f p n i : ℕ} → In (whole-site x) (site y f p n i)
       → Plan.Each-below Plan.Nexts (t .nexts) y n
   below-told (leaf a) m = tt
   below-told (catenation y z) m =
@@ -346,18 +345,18 @@ pub record Making (list cuts : List ℕ) (k : ℕ) (t : Tables) (runs tops : Lis
   pub listed : Listed list
   pub counted : Counts-below list cuts
   pub cuts-room : length cuts ≡ slot-count
-  pub room : Room t
+  pub room : Tables-room t
   pub runs-room : length runs ≡ most-pieces
   pub tops-room : length tops ≡ most-pieces
-  pub so-far : (x : Nested Leaf) → Top list x → Made x k t runs tops
+  pub so-far : (x : Nested Leaf) → Top list x → Pieces-made x k t runs tops
 
 -- k is the number of a piece
-pub record Inside (list : List ℕ) (k : ℕ) : Type 0 where
+pub record Piece-number (list : List ℕ) (k : ℕ) : Type 0 where
   pub below-count : (x : Nested Leaf) → Top list x → k < 1 + run x
 
 -- what walking the piece k needs, and what it makes
 module _ {list cuts : List ℕ} {k : ℕ} {t : Tables} {runs tops : List ℕ} (making : Making list cuts k t runs tops)
-    (inside : Inside list k) where
+    (inside : Piece-number list k) where
   -- the piece k of the tree that the list has
   the-top : Top list (making .listed .some)
   the-top = making .listed .top
@@ -365,14 +364,14 @@ module _ {list cuts : List ℕ} {k : ℕ} {t : Tables} {runs tops : List ℕ} (m
   the-piece : Piece-of (making .listed .some) k
   the-piece = piece-of (making .listed .some) k (inside .below-count _ the-top)
 
-  the-sits : Sits list (getD (t .roots) k 0) k 0 (head-spot (the-piece .top) (the-piece .begin) k)
+  the-sits : Sits list (getD (t .roots) k 0) k 0 (head-site (the-piece .top) (the-piece .begin) k)
   the-sits = head-sits the-top (making .so-far _ the-top) (the-piece .head)
 
   -- what its walk needs
   pub piece-few : k < most-pieces
   piece-few = omega (arith, inside .below-count _ the-top, the-top .fine .few)
 
-  pub piece-ready : Ready list (getD (t .roots) k 0) k 0 t
+  pub piece-ready : Visitable list (getD (t .roots) k 0) k 0 t
   piece-ready = record { some = _; sitting = the-sits; room = making .room }
 
   pub piece-within : Within list (getD (t .roots) k 0) k 0
@@ -399,8 +398,8 @@ module _ {list cuts : List ℕ} {k : ℕ} {t : Tables} {runs tops : List ℕ} (m
     piece-ends = omega (arith, filled-ends the-sits (done _ the-sits))
 
     -- and the pieces up to k + 1 have been made
-    pub piece-made : Room after → (x : Nested Leaf) → Top list x
-        → Made x (k + 1) (closed-row after k last) (set runs k (getD cuts (getD (t .roots) k 0 + 1) 0 + 1))
+    pub piece-made : Tables-room after → (x : Nested Leaf) → Top list x
+        → Pieces-made x (k + 1) (closed-row after k last) (set runs k (getD cuts (getD (t .roots) k 0 + 1) 0 + 1))
         (set tops k (last - 1))
     piece-made full x top = made-more top k (inside .below-count x top) full (making .runs-room) (making .tops-room)
         (making .so-far x top) done (piece-runs x top)
@@ -414,7 +413,7 @@ pub record Storable (k last node count : ℕ) : Type 0 where
   pub small : count < most-pieces
 
 pub piece-storable : {list cuts : List ℕ} {k : ℕ} {t after : Tables} {runs tops : List ℕ} {last : ℕ}
-    → Making list cuts k t runs tops → Inside list k
+    → Making list cuts k t runs tops → Piece-number list k
     → Visited list (getD (t .roots) k 0) k 0 t after last
     → Storable k last (getD (t .roots) k 0) (getD cuts (getD (t .roots) k 0 + 1) 0)
 piece-storable making inside done =
@@ -432,7 +431,7 @@ pub record Total (list : List ℕ) (total : ℕ) : Type 0 where
   pub counts-all : (x : Nested Leaf) → Top list x → total ≡ 1 + run x
 
 -- each number below the count is that of a piece
-pub total-inside : {list : List ℕ} {k total : ℕ} → Total list total → k < total → Inside list k
+pub total-inside : {list : List ℕ} {k total : ℕ} → Total list total → k < total → Piece-number list k
 total-inside all low = record { below-count = λ x top. omega (arith, all .counts-all x top) }
 
 -- there are at most 128 pieces
@@ -444,7 +443,7 @@ pub making-more : {list cuts : List ℕ} {k : ℕ} {t : Tables} {runs tops : Lis
     → (nexts labels runs-after stands tops-after roots : List ℕ) → length nexts ≡ length (t .nexts)
     → length labels ≡ length (t .labels) → length runs-after ≡ length runs
     → length stands ≡ length (t .stands) → length tops-after ≡ length tops → length roots ≡ length (t .roots)
-    → ((x : Nested Leaf) → Top list x → Made x (k + 1) (tables nexts labels stands roots) runs-after tops-after)
+    → ((x : Nested Leaf) → Top list x → Pieces-made x (k + 1) (tables nexts labels stands roots) runs-after tops-after)
     → Making list cuts (k + 1) (tables nexts labels stands roots) runs-after tops-after
 making-more making nexts labels runs-after stands tops-after roots a b c d e f more =
     record {

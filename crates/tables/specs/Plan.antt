@@ -1,7 +1,6 @@
 -- What is made of a list once, before any byte is read: for each piece where its states, its leaves and its child
 -- pieces are.
 -- Entry row-size * k + i of a table speaks of state i of the piece k.
--- Assumes nothing.
 use Prim.Native.Nat.{ℕ, _+_, _*_, _-_, _^_, _<_}
 use mathlib.Core.Path.{_≡_}
 use mathlib.Core.Bool.{cond}

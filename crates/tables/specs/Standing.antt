@@ -1,5 +1,4 @@
 -- Where each node of a cut tree stands: its records in the list, its piece, and the number of its start in the piece.
--- Assumes nothing.
 use Prim.Native.Nat.{ℕ, _+_, _*_, _-_, _≤_, _<_}
 use mathlib.Core.Path.{_≡_, refl, sym, ap, subst, _∙_}
 use mathlib.Core.List.{List, [], _++_, append-assoc}
@@ -85,47 +84,47 @@ length-inner (below x) f p n = length-inner x f n (n + 1)
 
 -- a node, or a stand-in with the child piece below it, and where it stands: the number of its first record, its piece,
 -- the number from which the child pieces below it are numbered, and the number of its start in its piece
-pub data Spot : Type 0 where
-  spot : Nested Leaf → (first piece new number : ℕ) → Spot
+pub data Site : Type 0 where
+  site : Nested Leaf → (first piece new number : ℕ) → Site
 
--- the spot's node, with all below it
-abbrev pub tree : Spot → Nested Leaf
-tree (spot x f p n i) = x
+-- the site's node, with all below it
+abbrev pub tree : Site → Nested Leaf
+tree (site x f p n i) = x
 
--- the number of the spot's first record
-abbrev pub first : Spot → ℕ
-first (spot x f p n i) = f
+-- the number of the site's first record
+abbrev pub first : Site → ℕ
+first (site x f p n i) = f
 
--- the piece in which the spot is
-abbrev pub piece : Spot → ℕ
-piece (spot x f p n i) = p
+-- the piece in which the site is
+abbrev pub piece : Site → ℕ
+piece (site x f p n i) = p
 
--- the number of the first child piece below the spot
-abbrev pub new : Spot → ℕ
-new (spot x f p n i) = n
+-- the number of the first child piece below the site
+abbrev pub new : Site → ℕ
+new (site x f p n i) = n
 
--- the number of the spot's start in its piece
-abbrev pub number : Spot → ℕ
-number (spot x f p n i) = i
+-- the number of the site's start in its piece
+abbrev pub number : Site → ℕ
+number (site x f p n i) = i
 
--- the second spot is a child of the first; a stand-in's child is the top of the child piece
-pub data Child : Spot → Spot → Type 0 where
-  catenation-left : {x y : Nested Leaf} {f p n i : ℕ} → Child (spot (catenation x y) f p n i) (spot x f p n (i + 1))
+-- the second site is a child of the first; a stand-in's child is the top of the child piece
+pub data Child : Site → Site → Type 0 where
+  catenation-left : {x y : Nested Leaf} {f p n i : ℕ} → Child (site (catenation x y) f p n i) (site x f p n (i + 1))
   catenation-right : {x y : Nested Leaf} {f p n i : ℕ}
-      → Child (spot (catenation x y) f p n i) (spot y (f + size x) p (n + run x) (i + (1 + width x)))
-  union-left : {x y : Nested Leaf} {f p n i : ℕ} → Child (spot (union x y) f p n i) (spot x f p n (i + 1))
+      → Child (site (catenation x y) f p n i) (site y (f + size x) p (n + run x) (i + (1 + width x)))
+  union-left : {x y : Nested Leaf} {f p n i : ℕ} → Child (site (union x y) f p n i) (site x f p n (i + 1))
   union-right : {x y : Nested Leaf} {f p n i : ℕ}
-      → Child (spot (union x y) f p n i) (spot y (f + size x) p (n + run x) (i + (1 + width x)))
-  operand : {x : Nested Leaf} {f p n i : ℕ} → Child (spot (star x) f p n i) (spot x f p n (i + 1))
-  under : {x : Nested Leaf} {f p n i : ℕ} → Child (spot (below x) f p n i) (spot x f n (n + 1) 0)
+      → Child (site (union x y) f p n i) (site y (f + size x) p (n + run x) (i + (1 + width x)))
+  operand : {x : Nested Leaf} {f p n i : ℕ} → Child (site (star x) f p n i) (site x f p n (i + 1))
+  under : {x : Nested Leaf} {f p n i : ℕ} → Child (site (below x) f p n i) (site x f n (n + 1) 0)
 
--- the second spot is the first or lies below it
-pub data In : Spot → Spot → Type 0 where
-  here : {s : Spot} → In s s
-  step : {s t u : Spot} → Child s t → In t u → In s u
+-- the second site is the first or lies below it
+pub data In : Site → Site → Type 0 where
+  here : {s : Site} → In s s
+  step : {s t u : Site} → Child s t → In t u → In s u
 
--- a child of what lies below a spot lies below it
-pub in-child : {s t u : Spot} → In s t → Child t u → In s u
+-- a child of what lies below a site lies below it
+pub in-child : {s t u : Site} → In s t → Child t u → In s u
 in-child here c = step c here
 in-child (step d m) c = step d (in-child m c)
 
@@ -145,15 +144,15 @@ Sound (union x y) = Sound x × Sound y
 Sound (star x) = Sound x
 Sound (below x) = Plain x × (width x ≤ most-states) × Sound x
 
--- the records of the spot stand in the list
-pub record Written (list : List ℕ) (s : Spot) : Type 0 where
+-- the records of the site stand in the list
+pub record Written (list : List ℕ) (s : Site) : Type 0 where
   pub before : List ℕ
   pub after : List ℕ
   pub parts : list ≡ before ++ (stored (tree s) (first s) (piece s) (new s) ++ after)
   pub begins : length before ≡ record-size * first s
 
--- the spot stands in the list, and its numbers are within bounds
-pub record Fine (list : List ℕ) (s : Spot) : Type 0 where
+-- the site stands in the list, and its numbers are within bounds
+pub record Fine (list : List ℕ) (s : Site) : Type 0 where
   pub written : Written list s
   pub later : piece s < new s
   pub few : new s + run (tree s) ≤ most-pieces
@@ -176,7 +175,7 @@ written-right : {list : List ℕ} (xs ys zs before after : List ℕ) → list �
 written-right xs ys zs before after e = e ∙ regroup before xs ys zs after ∙ sym (append-assoc before xs _)
 
 -- a child's records stand within its parent's
-child-written : {list : List ℕ} {s t : Spot} → Child s t → Written list s → Written list t
+child-written : {list : List ℕ} {s t : Site} → Child s t → Written list s → Written list t
 child-written (catenation-left {x = x} {y = y} {f = f} {p = p} {n = n}) w =
     record {
       before = w .before;
@@ -216,8 +215,8 @@ child-written (operand {x = x} {f = f} {p = p} {n = n}) w =
     }
 child-written under w = record { before = w .before; after = w .after; parts = w .parts; begins = w .begins }
 
--- the children of a spot within bounds are so too
-pub child-fine : {list : List ℕ} {s t : Spot} → Child s t → Fine list s → Fine list t
+-- the children of a site within bounds are so too
+pub child-fine : {list : List ℕ} {s t : Site} → Child s t → Fine list s → Fine list t
 child-fine (catenation-left {x = x} {y = y}) h =
     record {
       written = child-written catenation-left (h .written);
@@ -278,17 +277,17 @@ child-fine (under {x = x}) h =
     }
 
 -- and so is all that lies below it
-pub in-fine : {list : List ℕ} {s t : Spot} → In s t → Fine list s → Fine list t
+pub in-fine : {list : List ℕ} {s t : Site} → In s t → Fine list s → Fine list t
 in-fine here h = h
 in-fine (step c m) h = in-fine m (child-fine c h)
 
--- the root's record of a spot in the list
-root-shows : {list : List ℕ} {s : Spot} → Written list s → (r kind character left right own : ℕ)
+-- the root's record of a site in the list
+root-shows : {list : List ℕ} {s : Site} → Written list s → (r kind character left right own : ℕ)
     → r + 1 ≡ first s + size (tree s)
     → root-record (tree s) (first s) (piece s) (new s) ≡ record-of kind character left right own → left < 65536
     → right < 65536 → own < 65536
     → Shows list r kind character left right own
-root-shows {list} {s = spot x f p n i} w r kind character left right own at e small-left small-right small-piece =
+root-shows {list} {s = site x f p n i} w r kind character left right own at e small-left small-right small-piece =
     let split : list ≡ (w .before ++ inner x f p n) ++ (record-of kind character left right own ++ w .after) =
     w .parts ∙ ap (λ (l : List ℕ). w .before ++ (l ++ w .after))
     (stored-inner x f p n ∙ ap (λ (l : List ℕ). inner x f p n ++ l) e) ∙ simp append-assoc in
@@ -299,24 +298,24 @@ root-shows {list} {s = spot x f p n i} w r kind character left right own at e sm
 
 module _ {list : List ℕ} {f p n i : ℕ} where
   -- what the record of a node shows, by the node's kind
-  pub leaf-shows : {a : ℕ} → Fine list (spot (leaf (Leaf.character a)) f p n i) → (r : ℕ) → r + 1 ≡ f + 1
+  pub leaf-shows : {a : ℕ} → Fine list (site (leaf (Leaf.character a)) f p n i) → (r : ℕ) → r + 1 ≡ f + 1
       → Shows list r character-kind a no-child no-child p
   leaf-shows h r at = root-shows (h .written) r _ _ _ _ _ at refl (omega arith) (omega arith) (omega arith)
 
-  pub catenation-shows : {x y : Nested Leaf} → Fine list (spot (catenation x y) f p n i) → (r : ℕ)
+  pub catenation-shows : {x y : Nested Leaf} → Fine list (site (catenation x y) f p n i) → (r : ℕ)
       → r + 1 ≡ f + size (catenation x y) → Shows list r catenation-kind 0 (f + size x - 1) (f + size x + size y - 1) p
   catenation-shows h r at = root-shows (h .written) r _ _ _ _ _ at refl (omega arith) (omega arith) (omega arith)
 
-  pub union-shows : {x y : Nested Leaf} → Fine list (spot (union x y) f p n i) → (r : ℕ) → r + 1 ≡ f + size (union x y)
+  pub union-shows : {x y : Nested Leaf} → Fine list (site (union x y) f p n i) → (r : ℕ) → r + 1 ≡ f + size (union x y)
       → Shows list r union-kind 0 (f + size x - 1) (f + size x + size y - 1) p
   union-shows h r at = root-shows (h .written) r _ _ _ _ _ at refl (omega arith) (omega arith) (omega arith)
 
-  pub star-shows : {x : Nested Leaf} → Fine list (spot (star x) f p n i) → (r : ℕ) → r + 1 ≡ f + size (star x)
+  pub star-shows : {x : Nested Leaf} → Fine list (site (star x) f p n i) → (r : ℕ) → r + 1 ≡ f + size (star x)
       → Shows list r star-kind 0 (f + size x - 1) no-child p
   star-shows h r at = root-shows (h .written) r _ _ _ _ _ at refl (omega arith) (omega arith) (omega arith)
 
 -- the piece that a node's record shows is the node's
-pub piece-shows : {list : List ℕ} {f p n i : ℕ} (x : Nested Leaf) → Plain x → Fine list (spot x f p n i) → (r : ℕ)
+pub piece-shows : {list : List ℕ} {f p n i : ℕ} (x : Nested Leaf) → Plain x → Fine list (site x f p n i) → (r : ℕ)
     → r + 1 ≡ f + size x → piece-at list r ≡ p
 piece-shows (leaf (Leaf.character a)) plain h r at = leaf-shows h r at .piece-is
 piece-shows (catenation x y) plain h r at = catenation-shows h r at .piece-is
@@ -324,19 +323,19 @@ piece-shows (union x y) plain h r at = union-shows h r at .piece-is
 piece-shows (star x) plain h r at = star-shows h r at .piece-is
 piece-shows (below x) plain h r at = absurd plain
 
--- the list holds the records of the spot
-pub within : {list : List ℕ} {s : Spot} → Fine list s → record-size * (first s + size (tree s)) ≤ length list
-within {list} {s = spot x f p n i} h =
+-- the list holds the records of the site
+pub within : {list : List ℕ} {s : Site} → Fine list s → record-size * (first s + size (tree s)) ≤ length list
+within {list} {s = site x f p n i} h =
     let w = h .written in
     let e = w .begins in
     omega (arith, simp length-append at (ap length (w .parts)), length-stored x f p n)
 
--- k is the number of a child piece below the spot
-abbrev pub Reaches-piece : Spot → ℕ → Type 0
+-- k is the number of a child piece below the site
+abbrev pub Reaches-piece : Site → ℕ → Type 0
 Reaches-piece s k = (new s ≤ k) × (k < new s + run (tree s))
 
 -- the child pieces below a child are below its parent
-child-reaches : {s t : Spot} {k : ℕ} → Child s t → Reaches-piece t k → Reaches-piece s k
+child-reaches : {s t : Site} {k : ℕ} → Child s t → Reaches-piece t k → Reaches-piece s k
 child-reaches catenation-left h = omega arith
 child-reaches catenation-right h = omega arith
 child-reaches union-left h = omega arith
@@ -344,13 +343,13 @@ child-reaches union-right h = omega arith
 child-reaches operand h = h
 child-reaches under h = omega arith
 
--- and those below what lies below a spot
-pub in-reaches : {s t : Spot} {k : ℕ} → In s t → Reaches-piece t k → Reaches-piece s k
+-- and those below what lies below a site
+pub in-reaches : {s t : Site} {k : ℕ} → In s t → Reaches-piece t k → Reaches-piece s k
 in-reaches here h = h
 in-reaches (step c m) h = child-reaches c (in-reaches m h)
 
 -- no two children have a child piece below them in common
-same-child : {s t u : Spot} {k : ℕ} → Child s t → Child s u → Reaches-piece t k → Reaches-piece u k → t ≡ u
+same-child : {s t u : Site} {k : ℕ} → Child s t → Child s u → Reaches-piece t k → Reaches-piece u k → t ≡ u
 same-child catenation-left catenation-left h g = refl
 same-child catenation-left catenation-right h g = absurd (omega arith)
 same-child catenation-right catenation-left h g = absurd (omega arith)
@@ -362,29 +361,29 @@ same-child union-right union-right h g = refl
 same-child operand operand h g = refl
 same-child under under h g = refl
 
--- the spot is the stand-in of the child piece k
-pub data Stand-in : Spot → ℕ → Type 0 where
-  stand-in : {x : Nested Leaf} {f p n i : ℕ} → Stand-in (spot (below x) f p n i) n
+-- the site is the stand-in of the child piece k
+pub data Stand-in : Site → ℕ → Type 0 where
+  stand-in : {x : Nested Leaf} {f p n i : ℕ} → Stand-in (site (below x) f p n i) n
 
 -- a stand-in has its child piece below it
-pub stand-in-reaches : {s : Spot} {k : ℕ} → Stand-in s k → Reaches-piece s k
+pub stand-in-reaches : {s : Site} {k : ℕ} → Stand-in s k → Reaches-piece s k
 stand-in-reaches stand-in = omega arith
 
 -- a stand-in's own child piece does not lie below that piece's top
-not-below-itself : {s t : Spot} {k : ℕ} → Stand-in s k → Child s t → Reaches-piece t k → ⊥
+not-below-itself : {s t : Site} {k : ℕ} → Stand-in s k → Child s t → Reaches-piece t k → ⊥
 not-below-itself stand-in under h = omega arith
 
 -- a child piece has one stand-in
-pub one-stand-in : {s u v : Spot} {k : ℕ} → In s u → In s v → Stand-in u k → Stand-in v k → u ≡ v
+pub one-stand-in : {s u v : Site} {k : ℕ} → In s u → In s v → Stand-in u k → Stand-in v k → u ≡ v
 one-stand-in here here a b = refl
 one-stand-in here (step c m) a b = absurd (not-below-itself a c (in-reaches m (stand-in-reaches b)))
 one-stand-in (step c m) here a b = absurd (not-below-itself b c (in-reaches m (stand-in-reaches a)))
 one-stand-in {v = v} (step {t = t} c m) (step d l) a b =
     let e = same-child c d (in-reaches m (stand-in-reaches a)) (in-reaches l (stand-in-reaches b)) in
-    one-stand-in m (subst (λ (q : Spot). In q v) (sym e) l) a b
+    one-stand-in m (subst (λ (q : Site). In q v) (sym e) l) a b
 
--- pieces below a spot have higher numbers than the spot's
-pub piece-grows : {list : List ℕ} {s u : Spot} → Fine list s → In s u → piece s ≤ piece u
+-- pieces below a site have higher numbers than the site's
+pub piece-grows : {list : List ℕ} {s u : Site} → Fine list s → In s u → piece s ≤ piece u
 piece-grows h here = omega arith
 piece-grows h (step catenation-left m) = piece-grows (child-fine catenation-left h) m
 piece-grows h (step catenation-right m) = piece-grows (child-fine catenation-right h) m
@@ -393,16 +392,16 @@ piece-grows h (step union-right m) = piece-grows (child-fine union-right h) m
 piece-grows h (step operand m) = piece-grows (child-fine operand h) m
 piece-grows h (step under m) = omega (arith, piece-grows (child-fine under h) m)
 
--- the stand-in of the child piece k below a spot: `top` is the top piece's tree, and its records begin at `begin`
-pub record Piece-below (s : Spot) (k : ℕ) : Type 0 where
+-- the stand-in of the child piece k below a site: `top` is the top piece's tree, and its records begin at `begin`
+pub record Piece-below (s : Site) (k : ℕ) : Type 0 where
   pub top : Nested Leaf
   pub begin : ℕ
   pub parent : ℕ
   pub place : ℕ
-  pub inside : In s (spot (below top) begin parent k place)
+  pub inside : In s (site (below top) begin parent k place)
 
 -- a child piece below a child is below its parent
-piece-under : {s t : Spot} {k : ℕ} → Child s t → Piece-below t k → Piece-below s k
+piece-under : {s t : Site} {k : ℕ} → Child s t → Piece-below t k → Piece-below s k
 piece-under c h = record {
   top = h .top;
   begin = h .begin;
@@ -412,8 +411,8 @@ piece-under c h = record {
       step c (h .inside);
 }
 
--- each child piece below a spot has a stand-in below it
-pub piece-below : (x : Nested Leaf) (f p n i k : ℕ) → n ≤ k → k < n + run x → Piece-below (spot x f p n i) k
+-- each child piece below a site has a stand-in below it
+pub piece-below : (x : Nested Leaf) (f p n i k : ℕ) → n ≤ k → k < n + run x → Piece-below (site x f p n i) k
 piece-below (leaf a) f p n i k low high = absurd (omega arith)
 piece-below (catenation x y) f p n i k low high =
     elim (decLt k (n + run x)) [
@@ -437,6 +436,6 @@ piece-below (below x) f p n i k low high =
         parent = p;
         place = i;
         inside =
-            subst (λ (m : ℕ). In (spot (below x) f p n i) (spot (below x) f p m i)) (omega arith) here;
+            subst (λ (m : ℕ). In (site (below x) f p n i) (site (below x) f p m i)) (omega arith) here;
       }
     ]

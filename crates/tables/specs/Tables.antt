@@ -1,5 +1,4 @@
 -- The tables of a list, made once for many bytes and many texts, and what the words hold after a text.
--- Assumes nothing.
 use Prim.Native.Nat.{ℕ, _+_, _*_, _≤_, _<_}
 use mathlib.Core.Path.{_≡_}
 use mathlib.Core.Bool.{Bool, true}

@@ -1,5 +1,4 @@
 -- What the walk of a piece finds at a record, and what it has filled when it leaves it.
--- Assumes nothing.
 use Prim.Native.Nat.{ℕ, _+_, _*_, _-_, _≤_, _<_}
 use mathlib.Core.Path.{_≡_, sym, ap, subst, _∙_}
 use mathlib.Core.List.{List}
@@ -23,8 +22,8 @@ use Rattle.tables.specs.Entries.{wide, thrice}
 use Rattle.tables.specs.Standing.{
   size,
   size-positive,
-  Spot,
-  spot,
+  Site,
+  site,
   number,
   catenation-left,
   catenation-right,
@@ -45,7 +44,7 @@ use Rattle.tables.specs.Filling.{
   Tables,
   tables,
   tables-same,
-  Room,
+  Tables-room,
   Filled,
   two-entries,
   stand-entries,
@@ -62,20 +61,20 @@ use Rattle.tables.specs.Filling.{
   fill-star,
 }
 
--- the spot stands in the list, `node` is its root's record, and its start has the number `at` in the piece
-pub data Sits (list : List ℕ) (node : ℕ) : (piece at : ℕ) → Spot → Type 0 where
-  sits : {x : Nested Leaf} {f p n i : ℕ} → Fine list (spot x f p n i) → node + 1 ≡ f + size x
-      → Sits list node p i (spot x f p n i)
+-- the site stands in the list, `node` is its root's record, and its start has the number `at` in the piece
+pub data Sits (list : List ℕ) (node : ℕ) : (piece at : ℕ) → Site → Type 0 where
+  sits : {x : Nested Leaf} {f p n i : ℕ} → Fine list (site x f p n i) → node + 1 ≡ f + size x
+      → Sits list node p i (site x f p n i)
 
--- how far the numbers at a spot go
+-- how far the numbers at a site go
 pub record Within (list : List ℕ) (node piece at : ℕ) : Type 0 where
   pub listed : record-size * node + record-size ≤ length list
   pub few-nodes : node < most-records
   pub few-pieces : piece < most-pieces
   pub narrow : at + 2 ≤ most-states
 
--- the numbers of a spot that sits in the list are within bounds
-pub bounds : {list : List ℕ} {node piece at : ℕ} {s : Spot} → Sits list node piece at s → Within list node piece at
+-- the numbers of a site that sits in the list are within bounds
+pub bounds : {list : List ℕ} {node piece at : ℕ} {s : Site} → Sits list node piece at s → Within list node piece at
 bounds (sits {x = x} h e) = record {
   listed = omega (arith, within h);
   few-nodes = omega (arith, h .short);
@@ -85,17 +84,17 @@ bounds (sits {x = x} h e) = record {
 }
 
 -- a stand-in's record shows the child piece, which is new
-below-shows : {list : List ℕ} {x : Nested Leaf} {f p n i : ℕ} → Fine list (spot (below x) f p n i) → (node : ℕ)
+below-shows : {list : List ℕ} {x : Nested Leaf} {f p n i : ℕ} → Fine list (site (below x) f p n i) → (node : ℕ)
     → node + 1 ≡ f + size x → piece-at list node ≡ n
 below-shows {x = x} h node e = piece-shows x (h .sound .0) (child-fine under h) node e
 
-below-differs : {list : List ℕ} {x : Nested Leaf} {f p n i : ℕ} → Fine list (spot (below x) f p n i) → (node : ℕ)
+below-differs : {list : List ℕ} {x : Nested Leaf} {f p n i : ℕ} → Fine list (site (below x) f p n i) → (node : ℕ)
     → node + 1 ≡ f + size x → piece-at list node ≡ p → ⊥
 below-differs h node e same = omega (arith, below-shows h node e, h .later)
 
--- where the record shows another piece than the walk's, the spot is a stand-in
-pub visit-stand : {list : List ℕ} {node piece at : ℕ} {s : Spot} → Sits list node piece at s
-    → (piece-at list node ≡ piece → ⊥) → (t : Tables) → Room t
+-- where the record shows another piece than the walk's, the site is a stand-in
+pub visit-stand : {list : List ℕ} {node piece at : ℕ} {s : Site} → Sits list node piece at s
+    → (piece-at list node ≡ piece → ⊥) → (t : Tables) → Tables-room t
     → Filled s t (stand-entries t (row-size * piece + at) (piece-at list node) at node) (at + 2)
 visit-stand (sits {x = leaf (character a)} h e) other t room =
     absurd (other (piece-shows (leaf (character a)) tt h _ e))
@@ -104,11 +103,11 @@ visit-stand (sits {x = union x y} h e) other t room = absurd (other (piece-shows
 visit-stand (sits {x = star x} h e) other t room = absurd (other (piece-shows (star x) tt h _ e))
 visit-stand {list} {node} {piece} {at} (sits {x = below x} {f = f} {n = n} h e) other t room =
     subst
-    (λ (k : ℕ). Filled (spot (below x) f piece n at) t (stand-entries t (row-size * piece + at) k at node) (at + 2))
+    (λ (k : ℕ). Filled (site (below x) f piece n at) t (stand-entries t (row-size * piece + at) k at node) (at + 2))
     (sym (below-shows h node e)) (fill-stand h t room node e)
 
 -- the piece that a record shows is one of 128
-pub stand-few : {list : List ℕ} {node piece at : ℕ} {s : Spot} → Sits list node piece at s
+pub stand-few : {list : List ℕ} {node piece at : ℕ} {s : Site} → Sits list node piece at s
     → piece-at list node < most-pieces
 stand-few (sits {x = leaf (character a)} h e) =
     omega (arith, piece-shows (leaf (character a)) tt h _ e, h .later, h .few)
@@ -117,12 +116,12 @@ stand-few (sits {x = union x y} h e) = omega (arith, piece-shows (union x y) tt 
 stand-few (sits {x = star x} h e) = omega (arith, piece-shows (star x) tt h _ e, h .later, h .few)
 stand-few {node = node} (sits {x = below x} h e) = omega (arith, below-shows h node e, h .few)
 
--- where it shows a character, the spot is a leaf
-pub visit-leaf : {list : List ℕ} {node piece at : ℕ} {s : Spot} → Sits list node piece at s
-    → piece-at list node ≡ piece → kind-at list node ≡ character-kind → (t : Tables) → Room t
+-- where it shows a character, the site is a leaf
+pub visit-leaf : {list : List ℕ} {node piece at : ℕ} {s : Site} → Sits list node piece at s
+    → piece-at list node ≡ piece → kind-at list node ≡ character-kind → (t : Tables) → Tables-room t
     → Filled s t (two-entries t (row-size * piece + at) (character-at list node + 1)) (at + 2)
 visit-leaf {list} {node} {piece} {at} (sits {x = leaf (character a)} {f = f} {n = n} h e) own kind t room =
-    subst (λ (b : ℕ). Filled (spot (leaf (character a)) f piece n at) t (two-entries t (row-size * piece + at) (b + 1))
+    subst (λ (b : ℕ). Filled (site (leaf (character a)) f piece n at) t (two-entries t (row-size * piece + at) (b + 1))
     (at + 2))
     (sym (leaf-shows h node e .character-is)) (fill-leaf h t room)
 visit-leaf {node = node} (sits {x = catenation x y} h e) own kind t room =
@@ -133,24 +132,24 @@ visit-leaf {node = node} (sits {x = star x} h e) own kind t room =
     absurd (omega (arith, star-shows h node e .kind-is))
 visit-leaf {node = node} (sits {x = below x} h e) own kind t room = absurd (below-differs h node e own)
 
--- the left or only child's spot
+-- the left or only child's site
 pub record Kid (list : List ℕ) (node child piece at : ℕ) : Type 0 where
-  pub at-spot : Spot
-  pub sitting : Sits list child piece at at-spot
+  pub at-site : Site
+  pub sitting : Sits list child piece at at-site
   pub earlier : child < node
 
--- a child's spot, from what its parent's record shows
-left-kid : {list : List ℕ} {x : Nested Leaf} {f p n i node child : ℕ} → Fine list (spot x f p n i)
+-- a child's site, from what its parent's record shows
+left-kid : {list : List ℕ} {x : Nested Leaf} {f p n i node child : ℕ} → Fine list (site x f p n i)
     → child ≡ f + size x - 1 → f + size x ≤ node → Kid list node child p i
 left-kid {x = x} h e low = record {
-  at-spot = _;
+  at-site = _;
   sitting = sits h (omega (arith, size-positive x));
   earlier =
       omega (arith, size-positive x);
 }
 
 -- where the record shows no character, there is a left or only child
-pub visit-left : {list : List ℕ} {node piece at : ℕ} {s : Spot} → Sits list node piece at s
+pub visit-left : {list : List ℕ} {node piece at : ℕ} {s : Site} → Sits list node piece at s
     → piece-at list node ≡ piece → (kind-at list node ≡ character-kind → ⊥)
     → Kid list node (left-at list node) piece (at + 1)
 visit-left {node = node} (sits {x = leaf (character a)} h e) own kind = absurd (kind (leaf-shows h node e .kind-is))
@@ -162,18 +161,18 @@ visit-left {node = node} (sits {x = star x} h e) own kind =
     left-kid (child-fine operand h) (star-shows h node e .left-is) (omega arith)
 visit-left {node = node} (sits {x = below x} h e) own kind = absurd (below-differs h node e own)
 
--- what a child's visit has filled, whatever spot sits there
+-- what a child's visit has filled, whatever site sits there
 abbrev pub Visited : (list : List ℕ) (child piece at : ℕ) → (t after : Tables) → ℕ → Type 0
-Visited list child piece at t after end = (s : Spot) → Sits list child piece at s → Filled s t after end
+Visited list child piece at t after end = (s : Site) → Sits list child piece at s → Filled s t after end
 
 -- a child sits where its parent's record says
-kid-sits : {list : List ℕ} {x : Nested Leaf} {f p n i : ℕ} (child : ℕ) → Fine list (spot x f p n i)
-    → child ≡ f + size x - 1 → Sits list child p i (spot x f p n i)
+kid-sits : {list : List ℕ} {x : Nested Leaf} {f p n i : ℕ} (child : ℕ) → Fine list (site x f p n i)
+    → child ≡ f + size x - 1 → Sits list child p i (site x f p n i)
 kid-sits {x = x} child h e = sits h (omega (arith, size-positive x))
 
--- where it shows a star, the spot is one
-pub visit-star : {list : List ℕ} {node piece at : ℕ} {s : Spot} → Sits list node piece at s
-    → piece-at list node ≡ piece → kind-at list node ≡ star-kind → (t after : Tables) → Room after → (last : ℕ)
+-- where it shows a star, the site is one
+pub visit-star : {list : List ℕ} {node piece at : ℕ} {s : Site} → Sits list node piece at s
+    → piece-at list node ≡ piece → kind-at list node ≡ star-kind → (t after : Tables) → Tables-room after → (last : ℕ)
     → Visited list (left-at list node) piece (at + 1) t after last
     → Filled s t (joined after (row-size * piece) (kind-at list node) at last last) (last + 1)
 visit-star {node = node} (sits {x = leaf (character a)} h e) own kind t after room last done =
@@ -183,19 +182,19 @@ visit-star {node = node} (sits {x = catenation x y} h e) own kind t after room l
 visit-star {node = node} (sits {x = union x y} h e) own kind t after room last done =
     absurd (omega (arith, union-shows h node e .kind-is))
 visit-star {list} {node} {piece} {at} (sits {x = star x} {f = f} {n = n} h e) own kind t after room last done =
-    subst (λ (k : ℕ). Filled (spot (star x) f piece n at) t (joined after (row-size * piece) k at last last) (last + 1))
+    subst (λ (k : ℕ). Filled (site (star x) f piece n at) t (joined after (row-size * piece) k at last last) (last + 1))
     (sym kind)
     (fill-star h t after room last
     (done _ (kid-sits (left-at list node) (child-fine operand h) (star-shows h node e .left-is))))
 visit-star {node = node} (sits {x = below x} h e) own kind t after room last done = absurd (below-differs h node e own)
 
-right-kid : {list : List ℕ} {x : Nested Leaf} {f p n i node child at : ℕ} → Fine list (spot x f p n i)
+right-kid : {list : List ℕ} {x : Nested Leaf} {f p n i node child at : ℕ} → Fine list (site x f p n i)
     → child ≡ f + size x - 1 → f + size x ≤ node → i ≡ at → Kid list node child p at
 right-kid {list} {p = p} {node = node} {child = child} h e low same =
     subst (λ (k : ℕ). Kid list node child p k) same (left-kid h e low)
 
 -- where it shows neither a character nor a star, there is a right child, whose part begins where the left one ended
-pub visit-right : {list : List ℕ} {node piece at : ℕ} {s : Spot} → Sits list node piece at s
+pub visit-right : {list : List ℕ} {node piece at : ℕ} {s : Site} → Sits list node piece at s
     → piece-at list node ≡ piece → (kind-at list node ≡ character-kind → ⊥) → (kind-at list node ≡ star-kind → ⊥)
     → (t mid : Tables) → (middle : ℕ) → Visited list (left-at list node) piece (at + 1) t mid middle
     → Kid list node (right-at list node) piece middle
@@ -215,8 +214,8 @@ visit-right {node = node} (sits {x = below x} h e) own kind other t mid middle d
     absurd (below-differs h node e own)
 
 -- both children have been visited
-two-visited : {list : List ℕ} {kind node piece at : ℕ} {s l r : Spot} → Joint kind s l r → Fine list s
-    → Sits list node piece at s → (t mid after : Tables) → Room after → (middle last : ℕ)
+two-visited : {list : List ℕ} {kind node piece at : ℕ} {s l r : Site} → Joint kind s l r → Fine list s
+    → Sits list node piece at s → (t mid after : Tables) → Tables-room after → (middle last : ℕ)
     → Sits list (left-at list node) piece (at + 1) l → Visited list (left-at list node) piece (at + 1) t mid middle
     → ((k : ℕ) → number r ≡ k → Sits list (right-at list node) piece k r)
     → Visited list (right-at list node) piece middle mid after last
@@ -229,15 +228,15 @@ two-visited {list} {node = node} {s = s} j h (sits {p = p} {i = i} g e) t mid af
     subst (λ (k : ℕ). Filled s t (joined after (row-size * p) k i middle last) (last + 1)) (sym kind)
     (fill-two j h t mid after room middle last a b)
 
-right-sits : {list : List ℕ} {x : Nested Leaf} {f p n i : ℕ} (child : ℕ) → Fine list (spot x f p n i)
-    → child ≡ f + size x - 1 → (k : ℕ) → i ≡ k → Sits list child p k (spot x f p n i)
+right-sits : {list : List ℕ} {x : Nested Leaf} {f p n i : ℕ} (child : ℕ) → Fine list (site x f p n i)
+    → child ≡ f + size x - 1 → (k : ℕ) → i ≡ k → Sits list child p k (site x f p n i)
 right-sits {list} {x} {f} {p} {n} {i} child h e k same =
-    subst (λ (m : ℕ). Sits list child p m (spot x f p n i)) same (kid-sits child h e)
+    subst (λ (m : ℕ). Sits list child p m (site x f p n i)) same (kid-sits child h e)
 
--- where it shows neither a character nor a star, the spot is a node with two children
-pub visit-two : {list : List ℕ} {node piece at : ℕ} {s : Spot} → Sits list node piece at s → piece-at list node ≡ piece
+-- where it shows neither a character nor a star, the site is a node with two children
+pub visit-two : {list : List ℕ} {node piece at : ℕ} {s : Site} → Sits list node piece at s → piece-at list node ≡ piece
     → (kind-at list node ≡ character-kind → ⊥) → (kind-at list node ≡ star-kind → ⊥)
-    → (t mid after : Tables) → Room after → (middle last : ℕ)
+    → (t mid after : Tables) → Tables-room after → (middle last : ℕ)
     → Visited list (left-at list node) piece (at + 1) t mid middle
     → Visited list (right-at list node) piece middle mid after last
     → Filled s t (joined after (row-size * piece) (kind-at list node) at middle last) (last + 1)
@@ -259,7 +258,7 @@ visit-two {node = node} (sits {x = below x} h e) own kind other t mid after room
     absurd (below-differs h node e own)
 
 -- a part that was filled ends within the row
-pub filled-ends : {list : List ℕ} {node piece at end : ℕ} {s : Spot} {t after : Tables} → Sits list node piece at s
+pub filled-ends : {list : List ℕ} {node piece at end : ℕ} {s : Site} {t after : Tables} → Sits list node piece at s
     → Filled s t after end → (at + 2 ≤ end) × (end ≤ most-states)
 filled-ends (sits {x = x} h e) filled = omega (arith, wide x, h .narrow, filled .ended)
 
@@ -268,19 +267,19 @@ pub record Wide (nexts labels : List ℕ) : Type 0 where
   pub of-nexts : length nexts ≡ row-size * most-pieces
   pub of-labels : length labels ≡ row-size * most-pieces
 
-pub wide-enough : {t : Tables} → Room t → Wide (t .nexts) (t .labels)
+pub wide-enough : {t : Tables} → Tables-room t → Wide (t .nexts) (t .labels)
 wide-enough room = record { of-nexts = room .of-nexts; of-labels = room .of-labels }
 
--- some spot sits there, and the tables have room
-pub record Ready (list : List ℕ) (node piece at : ℕ) (t : Tables) : Type 0 where
-  pub some : Spot
+-- some site sits there, and the tables have room
+pub record Visitable (list : List ℕ) (node piece at : ℕ) (t : Tables) : Type 0 where
+  pub some : Site
   pub sitting : Sits list node piece at some
-  pub room : Room t
+  pub room : Tables-room t
 
 -- tables of the same lengths have the same room
-pub room-kept : {a b c d : List ℕ} (nexts labels stands roots : List ℕ) → Room (tables a b c d)
+pub room-kept : {a b c d : List ℕ} (nexts labels stands roots : List ℕ) → Tables-room (tables a b c d)
     → length nexts ≡ length a → length labels ≡ length b → length stands ≡ length c → length roots ≡ length d
-    → Room (tables nexts labels stands roots)
+    → Tables-room (tables nexts labels stands roots)
 room-kept nexts labels stands roots room e f g h =
     record {
       of-nexts = e ∙ room .of-nexts;
@@ -291,26 +290,27 @@ room-kept nexts labels stands roots room e f g h =
     }
 
 -- told with other forms of the tables and the end
-pub filled-as : {s : Spot} {t after other : Tables} {end stop : ℕ} → Filled s t after end → other ≡ after → stop ≡ end
+pub filled-as : {s : Site} {t after other : Tables} {end stop : ℕ} → Filled s t after end → other ≡ after → stop ≡ end
     → Filled s t other stop
 filled-as {s} {t} {after} {other} {end} filled e f =
     subst (λ (k : ℕ). Filled s t other k) (sym f) (subst (λ (k : Tables). Filled s t k end) (sym e) filled)
 
 -- the record was found to be of the walk's piece
-pub record Met (list : List ℕ) (node piece own kind : ℕ) : Type 0 where
+pub record Of-piece (list : List ℕ) (node piece own kind : ℕ) : Type 0 where
   pub shown : own ≡ piece-at list node
   pub same : own ≡ piece
   pub of-kind : kind ≡ kind-at list node
 
 -- a stand-in's record was visited
-pub visited-stand : {list : List ℕ} {node piece at own end : ℕ} {t after : Tables} → Room t → own ≡ piece-at list node
+pub visited-stand : {list : List ℕ} {node piece at own end : ℕ} {t after : Tables} → Tables-room t → own
+    ≡ piece-at list node
     → (own ≡ piece → ⊥) → end ≡ at + 2 → after ≡ stand-entries t (row-size * piece + at) own at node
     → Visited list node piece at t after end
 visited-stand {list} {node} {piece} {at} {t = t} room shown other e f s here =
     filled-as (visit-stand here (λ same. other (shown ∙ same)) t room)
     (f ∙ ap (λ (k : ℕ). stand-entries t (row-size * piece + at) k at node) shown) e
 
-module _ {list : List ℕ} {node piece own kind : ℕ} (met : Met list node piece own kind) where
+module _ {list : List ℕ} {node piece own kind : ℕ} (met : Of-piece list node piece own kind) where
   -- with the fields as they were read
   met-own : piece-at list node ≡ piece
   met-own = sym (met .shown) ∙ met .same
@@ -323,7 +323,7 @@ module _ {list : List ℕ} {node piece own kind : ℕ} (met : Met list node piec
 
   -- a leaf's record was visited
   pub visited-leaf : {at end : ℕ} {nexts labels words leaves stands roots : List ℕ}
-      → Room (tables nexts labels stands roots) → kind ≡ character-kind → end ≡ at + 2
+      → Tables-room (tables nexts labels stands roots) → kind ≡ character-kind → end ≡ at + 2
       → words ≡ set nexts (row-size * piece + at) 0
       → leaves ≡ set (set labels (row-size * piece + at) (character-at list node + 1)) (row-size * piece + at + 1) 0
       → Visited list node piece at (tables nexts labels stands roots) (tables words leaves stands roots) end
@@ -332,17 +332,18 @@ module _ {list : List ℕ} {node piece own kind : ℕ} (met : Met list node piec
 
   -- the children's records
   module _ {left : ℕ} (left-is : left ≡ left-at list node) (inner : kind ≡ character-kind → ⊥) {at : ℕ} {t : Tables}
-      (ready : Ready list node piece at t) where
+      (ready : Visitable list node piece at t) where
     first-kid : Kid list node left piece (at + 1)
     first-kid = subst (λ (k : ℕ). Kid list node k piece (at + 1)) (sym left-is)
         (visit-left (ready .sitting) met-own (met-other character-kind inner))
 
     -- the left or only child can be visited
-    pub left-ready : (left < node) × Ready list left piece (at + 1) t
+    pub left-ready : (left < node) × Visitable list left piece (at + 1) t
     left-ready = let kid =
-        first-kid in (kid .earlier, record { some = kid .at-spot; sitting = kid .sitting; room = ready .room })
+        first-kid in (kid .earlier, record { some = kid .at-site; sitting = kid .sitting; room = ready .room })
 
-    module _ {mid : Tables} {middle : ℕ} (room : Room mid) (done : Visited list left piece (at + 1) t mid middle) where
+    module _ {mid : Tables} {middle : ℕ} (room : Tables-room mid)
+        (done : Visited list left piece (at + 1) t mid middle) where
       done-left : Visited list (left-at list node) piece (at + 1) t mid middle
       done-left = subst (λ (k : ℕ). Visited list k piece (at + 1) t mid middle) left-is done
 
@@ -369,16 +370,16 @@ module _ {list : List ℕ} {node piece own kind : ℕ} (met : Met list node piec
 
       -- the right child can be visited
       pub right-ready : {right : ℕ} → right ≡ right-at list node → (kind ≡ star-kind → ⊥)
-          → (right < node) × Ready list right piece middle mid
+          → (right < node) × Visitable list right piece middle mid
       right-ready right-is other = let kid =
           second-kid right-is other in (
             kid .earlier,
-            record { some = kid .at-spot; sitting = kid .sitting; room = room },
+            record { some = kid .at-site; sitting = kid .sitting; room = room },
           )
 
       -- the numbers at a node with two children are within the row
       pub two-bounds : {right last : ℕ} {after : Tables} → right ≡ right-at list node → (kind ≡ star-kind → ⊥)
-          → Room after
+          → Tables-room after
           → Visited list right piece middle mid after last
           → (piece < most-pieces) × (at < middle) × (middle ≤ last) × (last < most-states)
       two-bounds {right} {last} {after} right-is other full done-right =
@@ -421,7 +422,7 @@ module _ {list : List ℕ} {node piece own kind : ℕ} (met : Met list node piec
 
       -- the record of a node with two children was visited
       pub visited-two : {words leaves : List ℕ} {right last end : ℕ} {after : Tables} → right ≡ right-at list node
-          → (kind ≡ star-kind → ⊥) → Room after → Visited list right piece middle mid after last → end ≡ last + 1
+          → (kind ≡ star-kind → ⊥) → Tables-room after → Visited list right piece middle mid after last → end ≡ last + 1
           → words
           ≡ thrice (after .nexts) (row-size * piece + at) (row-size * piece + middle - 1) (row-size * piece + last - 1)
           (start-word kind at middle) (left-exit kind at middle last) (right-exit kind at middle last)

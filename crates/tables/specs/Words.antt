@@ -1,5 +1,4 @@
 -- How words hold marks: one word for each piece, one bit for each state of the piece's own tree.
--- Assumes nothing.
 use Prim.Native.Nat.{ℕ, _+_, _/_, _%_, _^_, _<_}
 use mathlib.Core.Path.{_≡_}
 use mathlib.Core.List.{List}

@@ -16,8 +16,8 @@ ghost use Rattle.tree.specs.Limits.{most-pieces, most-records, most-states};
 ghost use Rattle.tree.specs.Layout.{character-at};
 ghost use Rattle.tables.specs.Plan.{row-size};
 ghost use Rattle.tables.specs.Entries.{thrice};
-ghost use Rattle.tables.specs.Filling.{start-word, left-exit, right-exit, tables, Room, stand-entries};
-ghost use Rattle.tables.specs.Walking.{Within, Wide, Visited, Ready};
+ghost use Rattle.tables.specs.Filling.{start-word, left-exit, right-exit, tables, Tables-room, stand-entries};
+ghost use Rattle.tables.specs.Walking.{Within, Wide, Visited, Visitable};
 
 // The word with bit i alone.
 fn bit(i: usize) -> u64
@@ -127,7 +127,7 @@ fn stand(
     roots: &mut [u16],
 ) -> usize
     requires { ⌜ (child < most-pieces) × (node < most-records) × (piece < most-pieces) × (at + 2 ≤ most-states) ⌝ }
-    requires { ⌜ Room (tables (now nexts) (now labels) (now stands) (now roots)) ⌝ }
+    requires { ⌜ Tables-room (tables (now nexts) (now labels) (now stands) (now roots)) ⌝ }
     ensures { λ r. ⌜ r ≡ at + 2 ⌝ }
     ensures { λ _. ⌜ tables (now (nexts .exit)) (now (labels .exit)) (now (stands .exit)) (now (roots .exit))
         ≡ stand-entries (tables (now (nexts .entry)) (now (labels .entry)) (now (stands .entry)) (now (roots .entry)))
@@ -184,7 +184,7 @@ pub fn fill(
     stands: &mut [u8],
     roots: &mut [u16],
 ) -> usize
-    requires { ⌜ Ready (now list) node piece at (tables (now nexts) (now labels) (now stands) (now roots)) ⌝ }
+    requires { ⌜ Visitable (now list) node piece at (tables (now nexts) (now labels) (now stands) (now roots)) ⌝ }
     ensures { λ r. ⌜ Visited (now (list .entry)) node piece at
         (tables (now (nexts .entry)) (now (labels .entry)) (now (stands .entry)) (now (roots .entry)))
         (tables (now (nexts .exit)) (now (labels .exit)) (now (stands .exit)) (now (roots .exit))) r ⌝ }

@@ -11,7 +11,7 @@ ghost use Rattle.tree.specs.Records.{Good};
 ghost use Rattle.tables.specs.Tables.{Roomy};
 ghost use Rattle.tables.specs.Filling.{tables};
 ghost use Rattle.tables.specs.Below.{Top};
-ghost use Rattle.tables.specs.Making.{Made, Making, Inside, Total};
+ghost use Rattle.tables.specs.Making.{Pieces-made, Making, Piece-number, Total};
 ghost use Rattle.tables.specs.Given.{Decided-good, Laid};
 
 // Makes what the tables tell of the piece k: its row, its run and its last state, and of its child pieces where their
@@ -29,9 +29,10 @@ fn piece(
 )
     requires { ⌜ Making (now list) (now cuts) k (tables (now nexts) (now labels) (now stands) (now roots)) (now runs)
         (now tops) ⌝ }
-    requires { ⌜ Inside (now list) k ⌝ }
+    requires { ⌜ Piece-number (now list) k ⌝ }
     ensures { λ _. ⌜ ((x : Nested Leaf) → Top (now (list .entry)) x
-        → Made x (k + 1) (tables (now (nexts .exit)) (now (labels .exit)) (now (stands .exit)) (now (roots .exit)))
+        → Pieces-made x (k + 1)
+        (tables (now (nexts .exit)) (now (labels .exit)) (now (stands .exit)) (now (roots .exit)))
         (now (runs .exit)) (now (tops .exit))) ⌝ }
 {
     let node = roots[k] as usize;

@@ -1,19 +1,19 @@
 -- The proof of the cycle of calls {fill}. The measure is the record's number: the records of the children come before
 -- their parent's.
--- What was found at the record and filled by the calls is what a visit of the spot there makes. Assumes nothing.
+-- What was found at the record and filled by the calls is what a visit of the site there makes.
 use Prim.Native.Nat.{ℕ, _<_}
 use mathlib.Core.Path.{subst}
 use native.Mathlib.Omega.{arith}
 use borrow.Author.Needs.{needs}
 use borrow.Fn.Kinds.{In}
 use borrow.Fn.PlainCycle.{Measures, is, falls, and}
-use Rattle.tables.specs.Filling.{Room, tables}
+use Rattle.tables.specs.Filling.{Tables-room, tables}
 use Rattle.tables.specs.Walking.{
   bounds,
   stand-few,
   wide-enough,
   room-kept,
-  Met,
+  Of-piece,
   visited-stand,
   visited-leaf,
   left-ready,
@@ -67,7 +67,7 @@ fill-claims t = (
 
 -- the record is of the walk's piece, and its kind is known
 met : (t : ℕ) (c : fill-lts.After-kind-at (fill-claims t) (fill-at t) fill.Post)
-    → Met (c .before .before .before .before .before .before .before .before .args .list .now)
+    → Of-piece (c .before .before .before .before .before .before .before .before .args .list .now)
     (c .before .before .before .before .before .before .before .before .args .node)
     (c .before .before .before .before .before .before .before .before .args .piece) (c .before .before .piece-at .result)
     (c .kind-at .result)
@@ -148,7 +148,7 @@ fill-fill-requires t c κs =
 
 -- the tables that the first call leaves have the same room
 room-left : (t : ℕ) (c : fill-lts.After-fill (fill-claims t) (fill-at t) fill.Post)
-    → Room (tables (c .fill .last .1 .1 .1 .1 .0) (c .fill .last .1 .1 .1 .1 .1 .0) (c .fill .last .1 .1 .1 .1 .1 .1 .0)
+    → Tables-room (tables (c .fill .last .1 .1 .1 .1 .0) (c .fill .last .1 .1 .1 .1 .1 .0) (c .fill .last .1 .1 .1 .1 .1 .1 .0)
     (c .fill .last .1 .1 .1 .1 .1 .1 .1 .0))
 room-left t c =
     room-kept _ _ _ _
@@ -204,7 +204,7 @@ fill-fill-requires-2 t c κs =
 
 -- and so have those of the second call
 room-right : (t : ℕ) (c : fill-lts.After-fill2 (fill-claims t) (fill-at t) fill.Post)
-    → Room (tables (c .fill2 .last .1 .1 .1 .1 .0) (c .fill2 .last .1 .1 .1 .1 .1 .0)
+    → Tables-room (tables (c .fill2 .last .1 .1 .1 .1 .0) (c .fill2 .last .1 .1 .1 .1 .1 .0)
     (c .fill2 .last .1 .1 .1 .1 .1 .1 .0) (c .fill2 .last .1 .1 .1 .1 .1 .1 .1 .0))
 room-right t c =
     room-kept _ _ _ _

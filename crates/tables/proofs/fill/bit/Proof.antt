@@ -1,4 +1,4 @@
--- `tables::fill::bit` meets its contract: 1 shifted by less than 64 is a power of two. Assumes nothing.
+-- `tables::fill::bit` meets its contract: 1 shifted by less than 64 is a power of two.
 use mathlib.Core.Path.{_∙_}
 use borrow.Author.Needs.{needs}
 use native.Mathlib.Omega.{arith}

@@ -1,4 +1,4 @@
--- `tables::fill::join` meets its contract: it sets the entries one after another. Assumes nothing.
+-- `tables::fill::join` meets its contract: it sets the entries one after another.
 use mathlib.Core.Path.{refl}
 use native.Mathlib.Omega.{arith}
 use lib.ListN.{length-set}

@@ -1,4 +1,4 @@
--- `tables::fill::leaf` meets its contract: it sets the two entries. Assumes nothing.
+-- `tables::fill::leaf` meets its contract: it sets the two entries.
 use mathlib.Core.Path.{refl}
 use borrow.Author.Needs.{needs}
 use Rattle.tables.proofs.fill.leaf.Statement.{statement}

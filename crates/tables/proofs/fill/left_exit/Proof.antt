@@ -1,4 +1,4 @@
--- `tables::fill::left_exit` meets its contract: the two branches are those of the definition. Assumes nothing.
+-- `tables::fill::left_exit` meets its contract: the two branches are those of the definition.
 use mathlib.Core.Path.{_∙_, sym}
 use Rattle.tables.specs.Filling.{cond-equal, cond-different}
 use borrow.Author.Needs.{needs}

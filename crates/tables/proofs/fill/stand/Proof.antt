@@ -1,4 +1,4 @@
--- `tables::fill::stand` meets its contract: it sets the two entries, and what is told of the piece. Assumes nothing.
+-- `tables::fill::stand` meets its contract: it sets the two entries, and what is told of the piece.
 use mathlib.Core.Path.{refl}
 use Rattle.tables.specs.Filling.{tables-same}
 use borrow.Author.Needs.{needs}

@@ -1,4 +1,4 @@
--- `tables::fill::two_bits` meets its contract: two powers below 2 ^ 63 have a sum below 2 ^ 64. Assumes nothing.
+-- `tables::fill::two_bits` meets its contract: two powers below 2 ^ 63 have a sum below 2 ^ 64.
 use borrow.Author.Needs.{needs}
 use native.Mathlib.Omega.{arith}
 use lib.Pow.{pow-lt}

@@ -3,7 +3,7 @@
 use Prim.Native.Nat.{_+_}
 use native.Mathlib.Omega.{arith}
 use lib.ListN.{getD}
-use Rattle.tables.specs.Filling.{Room, tables}
+use Rattle.tables.specs.Filling.{Tables-room, tables}
 use Rattle.tables.specs.Walking.{room-kept}
 use Rattle.tables.specs.Making.{Storable, piece-few, piece-ready, piece-made, piece-storable}
 use borrow.Author.Needs.{needs}
@@ -20,7 +20,7 @@ entry c = c .before .before .before .before .before .before .before .before .bef
 
 -- the tables that the walk leaves have the same room
 room : (c : tie.After-fill)
-    → Room (tables (c .fill .last .1 .1 .1 .1 .0) (c .fill .last .1 .1 .1 .1 .1 .0) (c .fill .last .1 .1 .1 .1 .1 .1 .0)
+    → Tables-room (tables (c .fill .last .1 .1 .1 .1 .0) (c .fill .last .1 .1 .1 .1 .1 .0) (c .fill .last .1 .1 .1 .1 .1 .1 .0)
     (c .fill .last .1 .1 .1 .1 .1 .1 .1 .0))
 room c = room-kept _ _ _ _ (entry c .pre .0 .room) (c .fill .kept .1 .1 .1 .1 .0) (c .fill .kept .1 .1 .1 .1 .1 .0)
     (c .fill .kept .1 .1 .1 .1 .1 .1 .0) (c .fill .kept .1 .1 .1 .1 .1 .1 .1 .0)

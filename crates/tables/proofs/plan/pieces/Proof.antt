@@ -1,5 +1,5 @@
 -- `tables::plan::pieces` meets its contract. The invariant: the pieces up to k have been made. The measure is what is
--- left of them. Assumes nothing.
+-- left of them.
 use Prim.Native.Nat.{_≤_, _-_}
 use native.Mathlib.Omega.{arith}
 use Rattle.tables.specs.Filling.{tables}
