@@ -65,17 +65,39 @@ fill-claims t = (
   right-at-reads.Learnt,
 )
 
+-- the places that are gone back to: where the call began, where the kind was read, and the calls for the children
+abbrev entry : (t : ℕ) → fill-lts.After-piece-at (fill-claims t) (fill-at t) fill.Post
+    → fill-lts.Start (fill-claims t) (fill-at t) fill.Post
+entry t c = c .before .before .before .before .before .before
+
+abbrev kind-read : (t : ℕ) → fill-lts.After-fill (fill-claims t) (fill-at t) fill.Post
+    → fill-lts.After-kind-at (fill-claims t) (fill-at t) fill.Post
+kind-read t c = c .before .before .before .before .before .before .before
+
+abbrev entry-by-kind : (t : ℕ) → fill-lts.After-kind-at (fill-claims t) (fill-at t) fill.Post
+    → fill-lts.Start (fill-claims t) (fill-at t) fill.Post
+entry-by-kind t c = entry t (c .before .before)
+
+abbrev left-filled : (t : ℕ) → fill-lts.After-slice-known14 (fill-claims t) (fill-at t) fill.Post
+    → fill-lts.After-fill (fill-claims t) (fill-at t) fill.Post
+left-filled t c = c .before .before .before .before .before .before .before .before
+
+abbrev right-filled : (t : ℕ) → fill-lts.After-slice-known20 (fill-claims t) (fill-at t) fill.Post
+    → fill-lts.After-fill2 (fill-claims t) (fill-at t) fill.Post
+right-filled t c = c .before .before .before .before .before .before .before .before
+
+abbrev not-star : (t : ℕ) → fill-lts.After-fill2 (fill-claims t) (fill-at t) fill.Post
+    → fill-lts.Else3 (fill-claims t) (fill-at t) fill.Post
+not-star t c = c .before .before .before .before .before .before
+
 -- the record is of the walk's piece, and its kind is known
 met : (t : ℕ) (c : fill-lts.After-kind-at (fill-claims t) (fill-at t) fill.Post)
-    → Of-piece (c .before .before .before .before .before .before .before .before .args .list .now)
-    (c .before .before .before .before .before .before .before .before .args .node)
-    (c .before .before .before .before .before .before .before .before .args .piece) (c .before .before .piece-at .result)
-    (c .kind-at .result)
+    → Of-piece (entry-by-kind t c .args .list .now) (entry-by-kind t c .args .node) (entry-by-kind t c .args .piece)
+    (c .before .before .piece-at .result) (c .kind-at .result)
 met t c = record {
   shown = c .before .before .piece-at .ensures;
   same = c .before .if1 .left;
-  of-kind =
-      c .kind-at .ensures;
+  of-kind = c .kind-at .ensures;
 }
 
 fill-piece-at-requires : (t : ℕ) → fill-lts.Need-piece-at-requires (fill-claims t) (fill-at t) fill.Post
@@ -84,10 +106,11 @@ fill-piece-at-requires t c κs = let within = bounds (c .before .before .before 
 
 fill-stand-requires : (t : ℕ) → fill-lts.Need-stand-requires (fill-claims t) (fill-at t) fill.Post
 fill-stand-requires t c κs =
-    let start = c .before .before .before .before .before .before .before .before .before .before .before in
+    let read = c .before .before .before .before .before in
+    let start = entry t read in
     let within = bounds (start .pre .1 .sitting) in
     let few = stand-few (start .pre .1 .sitting) in
-    let shown = c .before .before .before .before .before .piece-at .ensures in
+    let shown = read .piece-at .ensures in
     (omega arith, start .pre .1 .room)
 
 fill-same-length : (t : ℕ) → fill-lts.Need-same-length (fill-claims t) (fill-at t) fill.Post
@@ -105,16 +128,17 @@ fill-same-length-4 t c = search needs
 fill-returns : (t : ℕ) → fill-lts.Need-returns (fill-claims t) (fill-at t) fill.Post
 fill-returns t c =
     let made = c .before .before .before .before .before .before .before .before in
-    visited-stand
-    (made .before .before .before .before .before .before .before .before .before .before .before .before .pre .1 .room) (made .before .before .before .before .before .before .piece-at .ensures) (made .before .before .before .before .before .if1 .taken) (made .stand .ensures .0) (made .stand .ensures .1)
+    let other = made .before .before .before .before .before in
+    visited-stand (entry t (other .before) .pre .1 .room) (other .before .piece-at .ensures) (other .if1 .taken)
+    (made .stand .ensures .0) (made .stand .ensures .1)
 
 fill-kind-at-requires : (t : ℕ) → fill-lts.Need-kind-at-requires (fill-claims t) (fill-at t) fill.Post
 fill-kind-at-requires t c κs = let within =
     bounds (c .before .before .before .before .before .before .before .pre .1 .sitting) in omega arith
 
 fill-leaf-requires : (t : ℕ) → fill-lts.Need-leaf-requires (fill-claims t) (fill-at t) fill.Post
-fill-leaf-requires t c κs = let start =
-    c .before .before .before .before .before .before .before .before .before .before .before in
+fill-leaf-requires t c κs =
+    let start = entry-by-kind t (c .before .before .before) in
     (bounds (start .pre .1 .sitting), wide-enough (start .pre .1 .room))
 
 fill-same-length-5 : (t : ℕ) → fill-lts.Need-same-length-5 (fill-claims t) (fill-at t) fill.Post
@@ -126,43 +150,40 @@ fill-same-length-6 t c = search needs
 fill-returns-2 : (t : ℕ) → fill-lts.Need-returns-2 (fill-claims t) (fill-at t) fill.Post
 fill-returns-2 t c =
     let made = c .before .before .before .before in
-    visited-leaf (met t (made .before .before .before .before))
-    (made .before .before .before .before .before .before .before .before .before .before .before .before .pre .1 .room) (made .before .before .before .if2 .taken) (made .leaf .ensures .0) (made .leaf .ensures .1 .0) (made .leaf .ensures .1 .1)
+    let a-leaf = made .before .before .before in
+    visited-leaf (met t (a-leaf .before)) (entry-by-kind t (a-leaf .before) .pre .1 .room) (a-leaf .if2 .taken)
+    (made .leaf .ensures .0) (made .leaf .ensures .1 .0) (made .leaf .ensures .1 .1)
 
 fill-left-at-requires : (t : ℕ) → fill-lts.Need-left-at-requires (fill-claims t) (fill-at t) fill.Post
-fill-left-at-requires t c κs = let within =
-    bounds (c .before .before .before .before .before .before .before .before .before .pre .1 .sitting) in omega arith
+fill-left-at-requires t c κs = let within = bounds (entry-by-kind t (c .before) .pre .1 .sitting) in omega arith
 
 fill-add-fill : (t : ℕ) → fill-lts.Need-add-fill (fill-claims t) (fill-at t) fill.Post
-fill-add-fill t c = let within =
-    bounds (c .before .before .before .before .before .before .before .before .before .before .pre .1 .sitting) in omega
-    arith
+fill-add-fill t c = let within = bounds (entry-by-kind t (c .before .before) .pre .1 .sitting) in omega arith
 
 fill-fill-requires : (t : ℕ) → fill-lts.Need-fill-requires (fill-claims t) (fill-at t) fill.Post
 fill-fill-requires t c κs =
-    let start = c .before .before .before .before .before .before .before .before .before .before .before .before .before .before in
-    let ready = left-ready (met t (c .before .before .before .before .before .before))
-    (c .before .before .before .before .left-at .ensures) (c .before .before .before .before .before .if2 .left)
-    (start .pre .1) in
-    (subst (λ (k : ℕ). c .before .before .before .before .left-at .result < k) (start .pre .0) (ready .0), ready .1)
+    let read = c .before .before .before .before in
+    let kind = read .before .before in
+    let start = entry-by-kind t kind in
+    let ready = left-ready (met t kind) (read .left-at .ensures) (read .before .if2 .left) (start .pre .1) in
+    (subst (λ (k : ℕ). read .left-at .result < k) (start .pre .0) (ready .0), ready .1)
 
 -- the tables that the first call leaves have the same room
 room-left : (t : ℕ) (c : fill-lts.After-fill (fill-claims t) (fill-at t) fill.Post)
     → Tables-room (tables (c .fill .last .1 .1 .1 .1 .0) (c .fill .last .1 .1 .1 .1 .1 .0) (c .fill .last .1 .1 .1 .1 .1 .1 .0)
     (c .fill .last .1 .1 .1 .1 .1 .1 .1 .0))
 room-left t c =
-    room-kept _ _ _ _
-    (c .before .before .before .before .before .before .before .before .before .before .before .before .before .before .before .pre .1 .room) (c .fill .kept .1 .1 .1 .1 .0) (c .fill .kept .1 .1 .1 .1 .1 .0) (c .fill .kept .1 .1 .1 .1 .1 .1 .0) (c .fill .kept .1 .1 .1 .1 .1 .1 .1 .0)
+    room-kept _ _ _ _ (entry-by-kind t (kind-read t c) .pre .1 .room) (c .fill .kept .1 .1 .1 .1 .0)
+    (c .fill .kept .1 .1 .1 .1 .1 .0) (c .fill .kept .1 .1 .1 .1 .1 .1 .0) (c .fill .kept .1 .1 .1 .1 .1 .1 .1 .0)
 
 fill-join-requires : (t : ℕ) → fill-lts.Need-join-requires (fill-claims t) (fill-at t) fill.Post
 fill-join-requires t c κs =
-    let made = c .before .before .before .before .before .before .before .before .before .before .before in
-    let start = made .before .before .before .before .before .before .before .before .before .before .before .before .before .before .before in
+    let made = left-filled t (c .before .before .before) in
     let room = room-left t made in (
-      star-bounds (met t (made .before .before .before .before .before .before .before))
-          (made .before .before .before .before .before .left-at .ensures)
-          (made .before .before .before .before .before .before .if2 .left) (start .pre .1) room (made .fill .ensures)
-          (c .before .before .if3 .taken),
+      star-bounds (met t (kind-read t made)) (made .before .before .before .before .before .left-at .ensures)
+          (made .before .before .before .before .before .before .if2 .left)
+          (entry-by-kind t (kind-read t made) .pre .1) room
+          (made .fill .ensures) (c .before .before .if3 .taken),
       wide-enough room,
     )
 
@@ -181,45 +202,47 @@ fill-same-length-10 t c = search needs
 fill-returns-3 : (t : ℕ) → fill-lts.Need-returns-3 (fill-claims t) (fill-at t) fill.Post
 fill-returns-3 t c =
     let done = c .before .before .before .before in
-    let made = done .before .before .before .before .before .before .before .before .before .before .before .before in
-    visited-star (met t (made .before .before .before .before .before .before .before))
-    (made .before .before .before .before .before .left-at .ensures)
+    let a-star = done .before .before .before in
+    let made = left-filled t (a-star .before) in
+    visited-star (met t (kind-read t made)) (made .before .before .before .before .before .left-at .ensures)
     (made .before .before .before .before .before .before .if2 .left)
-    (made .before .before .before .before .before .before .before .before .before .before .before .before .before .before .before .pre .1) (room-left t made) (made .fill .ensures) (done .before .before .before .if3 .taken) (done .join .ensures .0) (done .join .ensures .1 .0) (done .join .ensures .1 .1)
+    (entry-by-kind t (kind-read t made) .pre .1) (room-left t made)
+    (made .fill .ensures) (a-star .if3 .taken) (done .join .ensures .0) (done .join .ensures .1 .0)
+    (done .join .ensures .1 .1)
 
 fill-right-at-requires : (t : ℕ) → fill-lts.Need-right-at-requires (fill-claims t) (fill-at t) fill.Post
-fill-right-at-requires t c κs = let within =
-    bounds (c .before .before .before .before .before .before .before .before .before .before .before .before .before .before .before .before .before .before .before .before .before .before .before .before .pre .1 .sitting) in omega arith
+fill-right-at-requires t c κs =
+    let within = bounds (entry-by-kind t (kind-read t (left-filled t (c .before))) .pre .1 .sitting) in omega arith
 
 fill-fill-requires-2 : (t : ℕ) → fill-lts.Need-fill-requires-2 (fill-claims t) (fill-at t) fill.Post
 fill-fill-requires-2 t c κs =
-    let made = c .before .before .before .before .before .before .before .before .before .before .before .before .before .before in
-    let start = made .before .before .before .before .before .before .before .before .before .before .before .before .before .before .before in
-    let ready = right-ready (met t (made .before .before .before .before .before .before .before))
-    (made .before .before .before .before .before .left-at .ensures)
-    (made .before .before .before .before .before .before .if2 .left) (start .pre .1) (room-left t made)
-    (made .fill .ensures) (c .before .before .before .before .right-at .ensures)
-    (c .before .before .before .before .before .if3 .left) in
-    (subst (λ (k : ℕ). c .before .before .before .before .right-at .result < k) (start .pre .0) (ready .0), ready .1)
+    let read = c .before .before .before .before in
+    let made = left-filled t (read .before .before) in
+    let start = entry-by-kind t (kind-read t made) in
+    let ready = right-ready (met t (kind-read t made)) (made .before .before .before .before .before .left-at .ensures)
+    (made .before .before .before .before .before .before .if2 .left)
+    (entry-by-kind t (kind-read t made) .pre .1)
+    (room-left t made) (made .fill .ensures) (read .right-at .ensures) (read .before .if3 .left) in
+    (subst (λ (k : ℕ). read .right-at .result < k) (start .pre .0) (ready .0), ready .1)
 
 -- and so have those of the second call
 room-right : (t : ℕ) (c : fill-lts.After-fill2 (fill-claims t) (fill-at t) fill.Post)
     → Tables-room (tables (c .fill2 .last .1 .1 .1 .1 .0) (c .fill2 .last .1 .1 .1 .1 .1 .0)
     (c .fill2 .last .1 .1 .1 .1 .1 .1 .0) (c .fill2 .last .1 .1 .1 .1 .1 .1 .1 .0))
 room-right t c =
-    room-kept _ _ _ _
-    (room-left t
-    (c .before .before .before .before .before .before .before .before .before .before .before .before .before .before .before)) (c .fill2 .kept .1 .1 .1 .1 .0) (c .fill2 .kept .1 .1 .1 .1 .1 .0) (c .fill2 .kept .1 .1 .1 .1 .1 .1 .0) (c .fill2 .kept .1 .1 .1 .1 .1 .1 .1 .0)
+    room-kept _ _ _ _ (room-left t (left-filled t (not-star t c .before))) (c .fill2 .kept .1 .1 .1 .1 .0)
+    (c .fill2 .kept .1 .1 .1 .1 .1 .0) (c .fill2 .kept .1 .1 .1 .1 .1 .1 .0) (c .fill2 .kept .1 .1 .1 .1 .1 .1 .1 .0)
 
 fill-join-requires-2 : (t : ℕ) → fill-lts.Need-join-requires-2 (fill-claims t) (fill-at t) fill.Post
 fill-join-requires-2 t c κs =
-    let last = c .before .before .before .before .before .before .before .before .before .before in
-    let made = last .before .before .before .before .before .before .before .before .before .before .before .before .before .before .before in
+    let last = right-filled t (c .before .before) in
+    let made = left-filled t (not-star t last .before) in
     let room = room-right t last in (
-      two-bounds (met t (made .before .before .before .before .before .before .before))
-          (made .before .before .before .before .before .left-at .ensures)
+      two-bounds (met t (kind-read t made)) (made .before .before .before .before .before .left-at .ensures)
           (made .before .before .before .before .before .before .if2 .left)
-          (made .before .before .before .before .before .before .before .before .before .before .before .before .before .before .before .pre .1) (room-left t made) (made .fill .ensures) (last .before .before .before .before .before .right-at .ensures) (last .before .before .before .before .before .before .if3 .left) room (last .fill2 .ensures),
+          (entry-by-kind t (kind-read t made) .pre .1)
+          (room-left t made) (made .fill .ensures) (last .before .before .before .before .before .right-at .ensures)
+          (not-star t last .if3 .left) room (last .fill2 .ensures),
       wide-enough room,
     )
 
@@ -238,12 +261,14 @@ fill-same-length-14 t c = search needs
 fill-returns-4 : (t : ℕ) → fill-lts.Need-returns-4 (fill-claims t) (fill-at t) fill.Post
 fill-returns-4 t c =
     let done = c .before .before .before .before in
-    let last = done .before .before .before .before .before .before .before .before .before .before .before in
-    let made = last .before .before .before .before .before .before .before .before .before .before .before .before .before .before .before in
-    visited-two (met t (made .before .before .before .before .before .before .before))
-    (made .before .before .before .before .before .left-at .ensures)
+    let last = right-filled t (done .before .before .before) in
+    let made = left-filled t (not-star t last .before) in
+    visited-two (met t (kind-read t made)) (made .before .before .before .before .before .left-at .ensures)
     (made .before .before .before .before .before .before .if2 .left)
-    (made .before .before .before .before .before .before .before .before .before .before .before .before .before .before .before .pre .1) (room-left t made) (made .fill .ensures) (last .before .before .before .before .before .right-at .ensures) (last .before .before .before .before .before .before .if3 .left) (room-right t last) (last .fill2 .ensures) (done .join2 .ensures .0) (done .join2 .ensures .1 .0) (done .join2 .ensures .1 .1)
+    (entry-by-kind t (kind-read t made) .pre .1)
+    (room-left t made) (made .fill .ensures) (last .before .before .before .before .before .right-at .ensures)
+    (not-star t last .if3 .left) (room-right t last) (last .fill2 .ensures) (done .join2 .ensures .0)
+    (done .join2 .ensures .1 .0) (done .join2 .ensures .1 .1)
 
 pub +fill-spec : {M : Type 1} → statement M
 +fill-spec =

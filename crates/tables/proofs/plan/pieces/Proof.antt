@@ -15,70 +15,60 @@ abbrev μ-loop : tie.MeasureT-loop
 μ-loop list cuts total nexts₀ labels₀ runs₀ stands₀ tops₀ roots₀ k₀ nexts labels runs stands tops roots k =
     total - k
 
+-- where the call began, where a round began, and where its piece was made
+abbrev entry : tie.At-loop Inv-loop μ-loop → tie.Start Inv-loop μ-loop
+entry c = c .before .before .before .before .before .before .before .before .before
+
+abbrev round : tie.After-piece Inv-loop μ-loop → tie.In-loop Inv-loop μ-loop
+round c = c .before .before .before .before .before .before .before
+
+abbrev piece-made : tie.After-slice-known12 Inv-loop μ-loop → tie.After-piece Inv-loop μ-loop
+piece-made c = c .before .before .before .before .before .before .before .before .before .before .before .before
+
 loop-holds : tie.Need-loop-holds Inv-loop μ-loop
 loop-holds c = (omega arith, c .before .before .before .before .before .before .before .before .pre .0)
 
 piece-requires : tie.Need-piece-requires Inv-loop μ-loop
-piece-requires c κs = (
-  c .before .before .before .before .before .before .before .loop .inv .1,
-  total-inside
-      (c .before .before .before .before .before .before .before .before .before .before .before .before .before .before .before .before .pre .1) (c .before .before .before .before .before .before .loop-test .taken),
-)
+piece-requires c κs =
+    let going = c .before .before .before .before .before .before in
+    (going .before .loop .inv .1, total-inside (entry (going .before) .pre .1) (going .loop-test .taken))
 
 add-k : tie.Need-add-k Inv-loop μ-loop
-add-k c = omega (
-  arith,
-  total-few
-      (c .before .before .before .before .before .before .before .before .before .before .before .before .before .before .before .before .before .before .before .before .before .before .before .before .before .before .before .before .before .pre .0 .listed) (c .before .before .before .before .before .before .before .before .before .before .before .before .before .before .before .before .before .before .before .before .before .before .before .before .before .before .before .before .before .pre .1),
-  c .before .before .before .before .before .before .before .before .before .before .before .before .before .before .before .before .before .before .before .loop-test .taken,
-)
+add-k c =
+    let going = round (piece-made c) in
+    let start = entry (going .before) in
+    omega (arith, total-few (start .pre .0 .listed) (start .pre .1), going .loop-test .taken)
 
 loop-less : tie.Need-loop-less Inv-loop μ-loop
-loop-less c =
-    omega (
-      arith,
-      c .before .before .before .before .before .before .before .before .before .before .before .before .before .before .before .before .before .before .before .loop-test .taken,
-    )
+loop-less c = omega (arith, round (piece-made c) .loop-test .taken)
 
 loop-again : tie.Need-loop-again Inv-loop μ-loop
 loop-again c =
-    let kept = c .before .before .before .before .before .before .before .before .before .before .before .before .piece .kept .1 .1 .1 in (
-      omega (
-        arith,
-        c .before .before .before .before .before .before .before .before .before .before .before .before .before .before .before .before .before .before .before .loop-test .taken,
-      ),
-      making-more (c .before .before .before .before .before .before .before .before .before .before .before .before .before .before .before .before .before .before .before .before .loop .inv .1) _ _ _ _ _ _ (kept .0) (kept .1 .0) (kept .1 .1 .0) (kept .1 .1 .1 .0) (kept .1 .1 .1 .1 .0) (kept .1 .1 .1 .1 .1 .0) (c .before .before .before .before .before .before .before .before .before .before .before .before .piece .ensures),
+    let made = piece-made c in
+    let going = round made in
+    let kept = made .piece .kept .1 .1 .1 in (
+      omega (arith, going .loop-test .taken),
+      making-more (going .before .loop .inv .1) _ _ _ _ _ _ (kept .0) (kept .1 .0) (kept .1 .1 .0) (kept .1 .1 .1 .0)
+          (kept .1 .1 .1 .1 .0) (kept .1 .1 .1 .1 .1 .0) (made .piece .ensures),
     )
 
 same-length : tie.Need-same-length Inv-loop μ-loop
-same-length c = let made = c .before .loop .inv .1 in let given =
-    c .before .before .before .before .before .before .before .before .before .before .pre .0 in omega
-    (arith, made .room, given .room)
+same-length c = omega (arith, c .before .loop .inv .1 .room, entry (c .before) .pre .0 .room)
 
 same-length-2 : tie.Need-same-length-2 Inv-loop μ-loop
-same-length-2 c = let made = c .before .loop .inv .1 in let given =
-    c .before .before .before .before .before .before .before .before .before .before .pre .0 in omega
-    (arith, made .room, given .room)
+same-length-2 c = omega (arith, c .before .loop .inv .1 .room, entry (c .before) .pre .0 .room)
 
 same-length-3 : tie.Need-same-length-3 Inv-loop μ-loop
-same-length-3 c = let made = c .before .loop .inv .1 in let given =
-    c .before .before .before .before .before .before .before .before .before .before .pre .0 in omega
-    (arith, made .room, given .room)
+same-length-3 c = omega (arith, c .before .loop .inv .1 .room, entry (c .before) .pre .0 .room)
 
 same-length-4 : tie.Need-same-length-4 Inv-loop μ-loop
-same-length-4 c = let made = c .before .loop .inv .1 in let given =
-    c .before .before .before .before .before .before .before .before .before .before .pre .0 in omega
-    (arith, made .room, given .room)
+same-length-4 c = omega (arith, c .before .loop .inv .1 .room, entry (c .before) .pre .0 .room)
 
 same-length-5 : tie.Need-same-length-5 Inv-loop μ-loop
-same-length-5 c = let made = c .before .loop .inv .1 in let given =
-    c .before .before .before .before .before .before .before .before .before .before .pre .0 in omega
-    (arith, made .room, given .room)
+same-length-5 c = omega (arith, c .before .loop .inv .1 .room, entry (c .before) .pre .0 .room)
 
 same-length-6 : tie.Need-same-length-6 Inv-loop μ-loop
-same-length-6 c = let made = c .before .loop .inv .1 in let given =
-    c .before .before .before .before .before .before .before .before .before .before .pre .0 in omega
-    (arith, made .room, given .room)
+same-length-6 c = omega (arith, c .before .loop .inv .1 .room, entry (c .before) .pre .0 .room)
 
 returns : tie.Need-returns Inv-loop μ-loop
 returns c = making-at (c .before .loop .inv .1) (omega arith)
