@@ -7,6 +7,7 @@ use mathlib.Core.List.{List}
 use lib.ListN.{length}
 use Rattle.language.specs.Tree.{Tree}
 use Rattle.tree.specs.Leaf.{Leaf, Matches}
+use Rattle.tree.specs.Limits.{longest-text}
 use Rattle.tree.specs.Records.{Good}
 use Rattle.marks.specs.Promise.{Not-good}
 use Rattle.finder.specs.Found.{Found, Nothing-found}
@@ -17,14 +18,14 @@ use Rattle.finder.specs.declared.numbers.Numbers.{Numbers}
 pub record Of-good (list text : List ℕ) (P : Tree Leaf → Type 0) : Type 0 where
   pub t : Tree Leaf
   pub good : Good list t
-  pub short : length text ≤ 65536
+  pub short : length text ≤ longest-text
   pub holds : P t
 
 -- the list is good, and the text is longer than 65,536 bytes
 pub record Too-long (list text : List ℕ) : Type 0 where
   pub t : Tree Leaf
   pub good : Good list t
-  pub long : 65536 < length text
+  pub long : longest-text < length text
 
 -- the refusals of match and search, in their order
 pub data Refuses (list text : List ℕ) : ℕ → Type 0 where

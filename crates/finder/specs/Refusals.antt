@@ -1,6 +1,6 @@
 -- Match and search refuse exactly when the table says so: 10, then 11, else not at all. A text of 65,536 bytes is
 -- taken, one of 65,537 is not. And what they say where they refuse nothing.
-use Prim.Native.Nat.{ℕ, _≤_}
+use Prim.Native.Nat.{ℕ, _+_, _≤_}
 use native.Mathlib.Omega.{arith}
 use mathlib.Core.Path.{_≡_, refl, sym}
 use mathlib.Core.Bool.{Bool, true, false, false≢true}
@@ -9,6 +9,7 @@ use mathlib.Core.List.{List}
 use lib.ListN.{length}
 use Rattle.language.specs.Tree.{Tree}
 use Rattle.tree.specs.Leaf.{Leaf, Matches}
+use Rattle.tree.specs.Limits.{longest-text}
 use Rattle.tree.specs.Records.{Good}
 use Rattle.marks.specs.Promise.{Not-good}
 use Rattle.finder.specs.Found.{Found, Nothing-found}
@@ -33,7 +34,7 @@ use Rattle.finder.specs.Promise.{
 pub record Answerable (list text : List ℕ) : Type 0 where
   pub t : Tree Leaf
   pub good : Good list t
-  pub short : length text ≤ 65536
+  pub short : length text ≤ longest-text
 
 module _ (list text : List ℕ) where
   -- why a refusal's number, or 0, is given
@@ -103,11 +104,11 @@ module _ (list text : List ℕ) where
 
   module _ (t : Tree Leaf) (good : Good list t) {number : ℕ} (reason : Reason number) where
     -- by a good list, a text of 65,536 bytes is taken
-    pub longest-taken : length text ≡ 65536 → number ≡ 0
+    pub longest-taken : length text ≡ longest-text → number ≡ 0
     longest-taken e = taken-exactly reason .1 (record { t = t; good = good; short = omega arith })
 
     -- and one of 65,537 is refused
-    pub longer-refused : length text ≡ 65537 → number ≡ 11
+    pub longer-refused : length text ≡ longest-text + 1 → number ≡ 11
     longer-refused e = too-long-exactly reason .1 (record { t = t; good = good; long = omega arith })
 
   -- a refusal has a number

@@ -10,10 +10,8 @@ ghost use Rattle.finder.specs.Answer.{match-numbers, search-numbers};
 ghost use Rattle.finder.specs.Promise.{Match-answers, Search-answers};
 use tree::good::Decided;
 use tree::good::decide_with;
+use tree::limits::LONGEST_TEXT;
 use tree::limits::SLOT_COUNT;
-
-// The most bytes that a text may have.
-const LONGEST: usize = 65536;
 
 // What a match answers.
 pub enum Matched {
@@ -47,7 +45,7 @@ pub fn is_match(list: &[u8], text: &[u8]) -> Matched
     let Decided::Good { records: _, pieces } = decided else {
         return Matched::NotGood;
     };
-    if LONGEST < text.len() {
+    if LONGEST_TEXT < text.len() {
         return Matched::TooLong;
     }
     let part = good::find_good(list, &cuts, pieces, text, true);
@@ -66,7 +64,7 @@ pub fn search(list: &[u8], text: &[u8]) -> Searched
     let Decided::Good { records: _, pieces } = decided else {
         return Searched::NotGood;
     };
-    if LONGEST < text.len() {
+    if LONGEST_TEXT < text.len() {
         return Searched::TooLong;
     }
     let part = good::find_good(list, &cuts, pieces, text, false);

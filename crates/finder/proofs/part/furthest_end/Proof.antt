@@ -1,6 +1,5 @@
 -- `finder::part::furthest_end` meets its contract: at each end the words hold the marks after the part, and `best` is
--- the latest end so
--- far. The measure is what is left of the text. Assumes nothing.
+-- the latest end so far. The measure is what is left of the text.
 use Prim.Native.Nat.{ℕ, _≤_, _-_}
 use mathlib.Core.Path.{_≡_}
 use native.Mathlib.Omega.{arith}
@@ -30,6 +29,10 @@ Inv-loop reach labels runs stands tops count first empty text start words₀ bes
 abbrev μ-loop : tie.MeasureT-loop
 μ-loop reach labels runs stands tops count first empty text start words₀ best₀ end₀ words best end = length text - end
 
+-- where the call began, seen from the copy of the first marks
+abbrev entry : tie.After-copy Inv-loop μ-loop → tie.Start Inv-loop μ-loop
+entry c = c .before .before .before .before .before .before .before .before .before
+
 slice-aggregate-copy : tie.Need-slice-aggregate-copy Inv-loop μ-loop
 slice-aggregate-copy c = search needs
 
@@ -46,7 +49,7 @@ loop-holds c = (
   search needs,
   search needs,
   λ t prepared.
-      let begun = c .before .before .before .before .before .before .before .before .before .before .before in
+      let begun = entry (c .before .before) in
       rw (c .with-end .ensures) (standing-first t _ _ _ _ (omega arith)
       (answered-copy (begun .args .first .now) _ prepared
       (omega (arith, prepared .counted, prepared .few, begun .pre .1 .0 .1)) (c .before .before .copy .ensures)

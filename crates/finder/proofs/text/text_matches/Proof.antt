@@ -1,6 +1,5 @@
 -- `finder::text::text_matches` meets its contract: before byte i the words hold the marks after the first i bytes, and
--- `yes` says whether
--- these are in the language. The measure is what is left of the text. Assumes nothing.
+-- `yes` says whether these are in the language. The measure is what is left of the text.
 use Prim.Native.Nat.{ℕ, _≤_, _-_, _+_}
 use mathlib.Core.Path.{_≡_, sym, subst}
 use mathlib.Core.Bool.{true, false, false≢true}
@@ -37,6 +36,13 @@ Inv-loop reach labels runs stands tops count text words₀ yes₀ i₀ words yes
 abbrev μ-loop : tie.MeasureT-loop
 μ-loop reach labels runs stands tops count text words₀ yes₀ i₀ words yes' i = length text - i
 
+-- where the call began, seen from the loop, and the loop, seen from a byte that was taken
+abbrev entry : tie.At-loop Inv-loop μ-loop → tie.Start Inv-loop μ-loop
+entry c = c .before .before .before .before .before .before .before .before .before .before
+
+abbrev byte-taken : tie.After-words5 Inv-loop μ-loop → tie.At-loop Inv-loop μ-loop
+byte-taken c = c .before .before .before .before .before .before .before .before
+
 slice-aggregate-begin : tie.Need-slice-aggregate-begin Inv-loop μ-loop
 slice-aggregate-begin c = search needs
 
@@ -55,9 +61,10 @@ nothing-left-requires c κs = search needs
 
 returns : tie.Need-returns Inv-loop μ-loop
 returns c = λ t prepared.
-    let at = c .before .before .before .before .loop .inv in
-    never-matches t
-    (c .before .before .before .before .before .before .before .before .before .before .before .before .before .before .args .text .now) (c .before .before .before .before .loop .i) (nothing-left (at .3 t prepared .holding) (rw (prepared .counted) at (c .before .nothing-left .ensures .holds (c .if1 .taken))))
+    let looking = c .before .before .before .before in
+    never-matches t (entry looking .args .text .now) (looking .loop .i)
+    (nothing-left (looking .loop .inv .3 t prepared .holding)
+    (rw (prepared .counted) at (c .before .nothing-left .ensures .holds (c .if1 .taken))))
 
 slice-aggregate-advance : tie.Need-slice-aggregate-advance Inv-loop μ-loop
 slice-aggregate-advance c = search needs
@@ -82,18 +89,15 @@ loop-again c = (
   search needs,
   search needs,
   λ t prepared.
-      rw (← take-next
-      (c .before .before .before .before .before .before .before .before .before .before .before .before .before .before .before .before .before .before .args .text .now) (c .before .before .before .before .before .before .before .before .loop .i) (omega arith))
-      (let holding = c .before .before .before .before .before .before .before .before .loop .inv .3 t
-      prepared .holding in
-      answered-next holding (c .before .advance .ensures t prepared (holding-marks holding))),
+      let looking = byte-taken c in
+      let holding = looking .loop .inv .3 t prepared .holding in
+      rw (← take-next (entry looking .args .text .now) (looking .loop .i) (omega arith))
+      (answered-next holding (c .before .advance .ensures t prepared (holding-marks holding))),
 )
 
 returns-2 : tie.Need-returns-2 Inv-loop μ-loop
 returns-2 c = λ t prepared.
-    rw (← take-all (c .before .loop .i)
-    (c .before .before .before .before .before .before .before .before .before .before .before .args .text .now)
-    (omega arith))
+    rw (← take-all (c .before .loop .i) (entry (c .before) .args .text .now) (omega arith))
     (c .before .loop .inv .3 t prepared .answer)
 
 pub text-matches-spec : {M : Type 1} → statement M
