@@ -350,5 +350,5 @@ rows-hold (row ∷ rows) e = (row-holds row (also-first _ _ e), rows-hold rows (
 -- every row of the table holds
 pub edges-hold : Every Row-says edges
 unfolding rows-test row-test is-refusal is-tree same-answer left-test steps-test scan scanned any-split any-repeat
-    leaf-text matched latest-end answer-from walked moved also ends agrees tidy holds-after cut-up
+    leaf-text matched latest-end answer-from walked moved also ends agrees tidy holds-after cut-up piece-count
 edges-hold = rows-hold edges refl

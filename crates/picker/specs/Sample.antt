@@ -3,6 +3,7 @@
 use Prim.Native.Nat.{ℕ}
 use mathlib.Core.Path.{_≡_, refl}
 use mathlib.Core.List.{List, [], _∷_}
+use Rattle.tree.specs.Records.{piece-count}
 use Rattle.reader.specs.Text.{bytes}
 use Rattle.reader.specs.Scanner.{scan, scanned}
 use Rattle.finder.specs.Decide.{any-split, any-repeat, leaf-text, matched}
@@ -45,5 +46,5 @@ runs =
 
 -- every run prints so
 pub runs-print : Every Prints runs
-unfolding scan scanned any-split any-repeat leaf-text matched lines digits digits-within text-lines output
+unfolding scan scanned piece-count any-split any-repeat leaf-text matched lines digits digits-within text-lines output
 runs-print = (refl, (refl, (refl, (refl, (refl, (refl, (refl, (refl, tt))))))))

@@ -16,9 +16,9 @@ use Rattle.language.specs.Tree.{Tree, nodes}
 use Rattle.tree.specs.Limits.{most-pieces, longest-expression, most-labels}
 use Rattle.tree.specs.Layout.{record-size}
 use Rattle.tree.specs.Leaf.{Leaf}
-use Rattle.tree.specs.Cut.{Cut, Fits, pieces, wanted}
+use Rattle.tree.specs.Cut.{Cut, Fits, pieces}
 use Rattle.tree.specs.Records.{piece-count}
-use Rattle.tree.specs.Least.{wanted-fits, least}
+use Rattle.tree.specs.Least.{few-exactly}
 use Rattle.reader.specs.Grammar.{Written}
 use Rattle.reader.specs.Scanner.{Outcome, tree, refused, scanned}
 use Rattle.reader.specs.Agree.{scanned-exactly, scanned-refusal, written-size}
@@ -30,7 +30,7 @@ Small-enough t = (c : Cut t) × Fits t c × (pieces t c ≤ most-pieces)
 
 -- then the wanted cut has at most 128, since it has the fewest; and the other way round
 pub small-enough-exactly : (t : Tree Leaf) → (piece-count t ≤ most-pieces) ↔ Small-enough t
-small-enough-exactly t = (λ few. (wanted t, wanted-fits t, few), λ (c, fits, few). omega (arith, least t c fits))
+small-enough-exactly = few-exactly
 
 -- the expression has the tree t, which is small enough, and there is room for its records
 pub record Fit-to-read (bytes : List ℕ) (room : ℕ) : Type 0 where

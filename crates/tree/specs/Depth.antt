@@ -8,8 +8,6 @@ use mathlib.Core.Option.{Option, none, some}
 use mathlib.Core.List.{List, [], _∷_, _++_}
 use native.Mathlib.Omega.{arith}
 use native.Mathlib.Numerals.{add-one}
-use lib.Dec.{eqb}
-use borrow.Author.Tests.{eqb-true, eqb-false}
 use lib.ListN.{length, getD, take, drop, take-append-drop}
 use lib.Seq.{take-suc, take-length}
 use Rattle.language.specs.Tree.{Tree}
@@ -157,13 +155,10 @@ stuck-tree ls i depth h r stuck =
     never e = let z : _≡_ {A = ℕ} 0 1 = cc in omega arith
 
 -- read to the end
-pub read-tree : (ls : List ℕ) (depth : ℕ) → Reads ls (length ls) depth → One-tree ls (eqb depth 1)
-read-tree ls depth r =
-    record {
-      if-so = λ e. reads-tree ls depth r (eqb-true depth 1 e);
-      if-not =
-          λ e o. reads-other ls depth r (eqb-false depth 1 e) o;
-    }
+pub read-tree : (ls : List ℕ) (depth : ℕ) (b : Bool) → Reads ls (length ls) depth → (b ≡ true → depth ≡ 1)
+    → (b ≡ false → depth ≡ 1 → ⊥) → One-tree ls b
+read-tree ls depth b r one other =
+    record { if-so = λ e. reads-tree ls depth r (one e); if-not = λ e. reads-other ls depth r (other e) }
 
 -- a label adds one tree at most
 pub depth-grows : (what : Asked) (depth : ℕ) → depth-after what depth ≤ depth + 1

@@ -11,6 +11,7 @@ use Rattle.language.specs.Tree.{Tree, leaf, catenation, union, star, nodes}
 use Rattle.tree.specs.Leaf.{Leaf}
 use Rattle.tree.specs.Limits.{most-nodes}
 use Rattle.tree.specs.Cut.{kept, one, cut-left, cut-right, cut-only, open-size}
+use Rattle.tree.specs.Records.{piece-count}
 use Rattle.tree.specs.Seats.{cut-edges, of-left, of-right, left-apart, right-apart}
 
 -- the open size that a node has by those of its children
@@ -82,3 +83,8 @@ cut-edges-lt (catenation s t) = omega (
 cut-edges-lt (union s t) =
     omega (arith, cut-edges-lt s, cut-edges-lt t, one-le (left-apart (union s t)), one-le (right-apart (union s t)))
 cut-edges-lt (star s) = omega (arith, cut-edges-lt s, one-le (cut-only (open-size s)))
+
+-- so there are at most as many pieces as nodes
+pub pieces-at-most-nodes : (t : Tree Leaf) → piece-count t ≤ nodes t
+unfolding piece-count
+pieces-at-most-nodes t = omega (arith, cut-edges-lt t)

@@ -18,7 +18,7 @@ use Rattle.tree.specs.Cut.{open-size, one, cut-left, cut-right}
 use Rattle.tree.specs.Limits.{most-nodes, most-labels}
 use Rattle.tree.specs.Records.{labels, child-piece}
 use borrow.Author.Tests.{ne-eqb}
-use Rattle.tree.specs.Gathered.{cut-sum, cut-edges-lt}
+use Rattle.tree.specs.Gathered.{cut-sum, pieces-at-most-nodes}
 use Rattle.tree.specs.Written.{seat-small}
 use Rattle.tree.specs.Lengths.{length-labels}
 use Rattle.tree.specs.Measured.{node, in-tree, Measured, measured-less, Children, children, gathered, Postorder}
@@ -357,7 +357,7 @@ module _ (ls : List ℕ) (i slot left right : ℕ) (sizes opens cuts pieces news
         left-le = g .left-le;
         right-le = g .right-le;
         all-new = rw (g .cuts-is, own)
-            (omega (arith, seat-small t i inside .bounded, cut-edges-lt t, ap length e, length-labels t));
+            (omega (arith, seat-small t i inside .bounded, pieces-at-most-nodes t, ap length e, length-labels t));
       }
 
 -- every record has its piece

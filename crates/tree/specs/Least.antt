@@ -10,8 +10,10 @@ use mathlib.Core.Bool.{Bool, true, false}
 use native.Mathlib.Omega.{arith}
 use native.Mathlib.Decide.{decLt}
 use Rattle.language.specs.Tree.{Tree, leaf, catenation, union, star}
+use Rattle.tree.specs.Leaf.{Leaf}
 use Rattle.tree.specs.Limits.{most-nodes, most-pieces}
 use Rattle.tree.specs.Cut.{Cut, kept, one, part, cuts, pieces, Fits, open-size, wanted}
+use Rattle.tree.specs.Records.{piece-count}
 use Rattle.tree.specs.Choice.{
   Choice,
   neither,
@@ -99,7 +101,14 @@ lightest (star s) c h =
 pub least : {A : Type 0} (t : Tree A) (c : Cut t) → Fits t c → pieces t (wanted t) ≤ pieces t c
 least t c h = omega (arith, lightest t c h, open-positive t, part-at-most t c h)
 
--- the wanted cut has more than 128 pieces exactly when every cut with pieces of at most 15 nodes has
-pub too-many-exactly : {A : Type 0} (t : Tree A) → (most-pieces < pieces t (wanted t))
+-- a tree has at most 128 pieces exactly when some cut with pieces of at most 15 nodes has
+pub few-exactly : (t : Tree Leaf) → (piece-count t ≤ most-pieces)
+    ↔ ((c : Cut t) × Fits t c × (pieces t c ≤ most-pieces))
+unfolding piece-count
+few-exactly t = (λ few. (wanted t, wanted-fits t, few), λ (c, fits, few). omega (arith, least t c fits))
+
+-- and more than 128 exactly when every such cut has
+pub too-many-exactly : (t : Tree Leaf) → (most-pieces < piece-count t)
     ↔ ((c : Cut t) → Fits t c → most-pieces < pieces t c)
+unfolding piece-count
 too-many-exactly t = (λ many c h. omega (arith, least t c h), λ many. many (wanted t) (wanted-fits t))

@@ -41,4 +41,5 @@ length-records (star s) c first piece new = let p = length-records s (c .1) in s
 
 -- so has the list of a tree
 pub length-encode : (t : Tree Leaf) → length (encode t) ≡ record-size * nodes t
+unfolding encode
 length-encode t = length-records t (wanted t) 0 0 1

@@ -295,6 +295,7 @@ counted-unique ls a b o c d = c .count (o .tree) (o .same) ∙ sym (d .count (o 
 -- the root's cut edges give the piece count
 pub counted-all : (ls sizes opens cuts : List ℕ) → Measured ls sizes opens cuts (length ls)
     → Counted ls (1 + getD cuts (length ls) 0)
+unfolding piece-count
 counted-all ls sizes opens cuts m =
     record { count = λ t e. ap (λ (n : ℕ). 1 + n) (holds-root cut-edges ls t cuts e (m .counted t e)) }
 

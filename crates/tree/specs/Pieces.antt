@@ -32,7 +32,7 @@ pub record Stated (t : Tree Leaf) (x : Nested Leaf) : Type 0 where
 
 -- the wanted cut is as stated
 pub stated : (t : Tree Leaf) → Stated t (cut-up t)
-unfolding cut-up
+unfolding cut-up encode piece-count
 stated t =
     record {
       same-tree = whole-nest t (wanted t);

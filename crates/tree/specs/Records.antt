@@ -49,12 +49,13 @@ records (star s) c first piece new =
     records s (c .1) first (child-piece (c .0) piece new) (one (c .0) + new)
     ++ record-of star-kind 0 (first + nodes s - 1) no-child piece
 
--- the list of a tree: its records, with the pieces of the wanted cut; the root's piece is 0
-abbrev pub encode : Tree Leaf → List ℕ
+-- the list of a tree: its records, with the pieces of the wanted cut; the root's piece is 0. Shut, as the piece count
+-- is: the layers above use what is proved of them
+unfoldable pub encode : Tree Leaf → List ℕ
 encode t = records t (wanted t) 0 0 1
 
 -- how many pieces the wanted cut of t has
-abbrev pub piece-count : Tree Leaf → ℕ
+unfoldable pub piece-count : Tree Leaf → ℕ
 piece-count t = pieces t (wanted t)
 
 -- the list is good, and t is its tree: it is the list of t, and there are at most 128 pieces

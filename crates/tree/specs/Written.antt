@@ -148,6 +148,7 @@ writes (star s) first p n =
 
 -- the list of a tree, from its seats
 pub encode-written : (t : Tree Leaf) → encode t ≡ written 0 (seats t 0 1)
+unfolding encode
 encode-written t = writes t 0 0 1 .so
 
 -- the records of some seats
@@ -259,7 +260,7 @@ seats-small limit (star s) p n w =
 
 -- the numbers of a whole tree's seats end at its piece count
 pub seat-small : (t : Tree Leaf) (i : ℕ) → i < nodes t → Small (piece-count t) (seat-at (seats t 0 1) i)
-unfolding Each-small
+unfolding Each-small piece-count
 seat-small t i h =
     seats-small (piece-count t) t 0 1 (record { older = omega arith; bounded = le-refl (piece-count t) }) i
     (rw (length-seats t 0 1) h)

@@ -61,7 +61,7 @@ returns-2 c =
     let m = c .before .before .before .before .before in
     let s = start (ordered m) in
     let judged = not-by-pieces (s .args .list .now) (s .args .labels .now) (s .pre .0) (m .piece-count .result)
-    (m .piece-count .ensures .1) (c .if2 .taken) in
+    (m .piece-count .ensures .1) (omega arith) in
     (judged, counts-nothing (s .args .list .now) (m .piece-count .last .1 .1 .1 .0) judged)
 
 slice-aggregate-is-list : tie.Need-slice-aggregate-is-list
@@ -99,7 +99,7 @@ returns-3 c =
     let o = ordered m in
     let s = start o in (
       good-by-records (s .args .list .now) (s .args .labels .now) (s .pre .0) (m .piece-count .result)
-          (o .before .one-tree .ensures .if-so (not-false _ (o .if1 .left))) (m .piece-count .ensures .1) (e .if2 .left)
+          (o .before .one-tree .ensures .if-so (not-false _ (o .if1 .left))) (m .piece-count .ensures .1) (omega arith)
           (subst (λ (b : Bool). Compared (s .args .labels .now) (s .args .list .now) b) (c .if3 .taken)
           (c .before .is-list .ensures)),
       counts-below (s .args .list .now) (s .args .labels .now) (m .piece-count .last .1 .0)

@@ -1,4 +1,5 @@
 -- `tree::good::decide_with` meets its contract: a list of another length is not good, and for the rest there is room.
+use native.Mathlib.Omega.{arith}
 use Rattle.tree.specs.Decide.{not-by-length, not-by-size, counts-nothing}
 use borrow.Author.Needs.{needs}
 use Rattle.tree.proofs.good.decide_with.Statement.{statement}
@@ -7,7 +8,7 @@ use Rattle.tree.proofs.good.decide_with.Tie as tie
 returns : tie.Need-returns
 returns c =
     let s = c .before .before .before in
-    let judged = not-by-length (s .args .list .now) (c .if1 .taken) in
+    let judged = not-by-length (s .args .list .now) (λ whole. omega arith) in
     (judged, counts-nothing (s .args .list .now) (s .args .cuts .now) judged)
 
 returns-2 : tie.Need-returns-2
@@ -20,7 +21,7 @@ slice-aggregate-decide-in : tie.Need-slice-aggregate-decide-in
 slice-aggregate-decide-in c = search needs
 
 decide-in-requires : tie.Need-decide-in-requires
-decide-in-requires c κs = search needs
+decide-in-requires c κs = ((omega arith, omega arith), (search needs, search needs))
 
 same-length : tie.Need-same-length
 same-length c = search needs

@@ -6,6 +6,7 @@ use Prim.Native.Nat.{ℕ, _≤_, _<_, _-_}
 use mathlib.Core.Path.{_≡_, sym, _∙_}
 use native.Mathlib.Omega.{arith}
 use lib.ListN.{length, getD}
+use borrow.Author.Tests.{eqb-true, eqb-false, leb-true, leb-false}
 use Rattle.tree.specs.Postorder.{asked}
 use Rattle.tree.specs.Depth.{Reads, reads-none, reads-more, stuck-tree, read-tree, depth-grows}
 use Rattle.tree.proofs.order.one_tree.Statement.{statement}
@@ -66,7 +67,8 @@ returns-2 c =
     let l = c .before in
     let ls = l .before .before .args .labels .now in
     let all : l .loop .i ≡ length ls = omega arith in
-    read-tree ls (l .loop .depth) (rw all at (l .loop .inv .2))
+    read-tree ls (l .loop .depth) _ (rw all at (l .loop .inv .2)) (λ e. omega (arith, eqb-true, leb-true))
+    (λ e one. omega (arith, eqb-false, leb-false))
 
 pub one-tree-spec : {M : Type 1} → statement M
 one-tree-spec =
