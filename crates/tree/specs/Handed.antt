@@ -16,7 +16,8 @@ use Rattle.language.specs.Tree.{Tree, leaf, catenation, union, star, nodes}
 use Rattle.tree.specs.Leaf.{Leaf}
 use Rattle.tree.specs.Cut.{open-size, one, cut-left, cut-right}
 use Rattle.tree.specs.Limits.{most-nodes, most-labels}
-use Rattle.tree.specs.Records.{labels, child-piece}
+use Rattle.tree.specs.Numbering.{child-piece}
+use Rattle.tree.specs.Records.{labels}
 use borrow.Author.Tests.{ne-eqb}
 use Rattle.tree.specs.Gathered.{cut-sum, pieces-at-most-nodes}
 use Rattle.tree.specs.Written.{seat-small}

@@ -7,8 +7,9 @@ use native.Mathlib.Omega.{arith}
 use lib.ListN.{length, length-append}
 use Rattle.language.specs.Tree.{Tree, leaf, catenation, union, star, nodes}
 use Rattle.tree.specs.Leaf.{Leaf}
-use Rattle.tree.specs.Cut.{Cut, wanted}
+use Rattle.tree.specs.Cut.{wanted}
 use Rattle.tree.specs.Layout.{record-size}
+use Rattle.tree.specs.Numbering.{Numbers, numbered}
 use Rattle.tree.specs.Records.{records, encode, labels}
 
 -- a tree has a node: its root
@@ -30,16 +31,15 @@ length-labels (union s t) = length-two (labels s) (labels t) _ _ _ (length-label
 length-labels (star s) = let r = length-labels s in simp length-append (omega arith)
 
 -- one record for each node
-pub length-records : (t : Tree Leaf) (c : Cut t) (first piece new : ℕ) → length (records t c first piece new)
-    ≡ record-size * nodes t
-length-records (leaf a) c first piece new = refl
-length-records (catenation s t) c first piece new =
-    let p = length-records s (c .1) in let q = length-records t (c .3) in simp (length-append, p, q) (omega arith)
-length-records (union s t) c first piece new =
-    let p = length-records s (c .1) in let q = length-records t (c .3) in simp (length-append, p, q) (omega arith)
-length-records (star s) c first piece new = let p = length-records s (c .1) in simp (length-append, p) (omega arith)
+pub length-records : (t : Tree Leaf) (x : Numbers) (first : ℕ) → length (records t x first) ≡ record-size * nodes t
+length-records (leaf a) x first = refl
+length-records (catenation s t) x first =
+    let p = length-records s in let q = length-records t in simp (length-append, p, q) (omega arith)
+length-records (union s t) x first =
+    let p = length-records s in let q = length-records t in simp (length-append, p, q) (omega arith)
+length-records (star s) x first = let p = length-records s in simp (length-append, p) (omega arith)
 
 -- so has the list of a tree
 pub length-encode : (t : Tree Leaf) → length (encode t) ≡ record-size * nodes t
 unfolding encode
-length-encode t = length-records t (wanted t) 0 0 1
+length-encode t = length-records t (numbered t (wanted t) 0 1) 0

@@ -3,6 +3,7 @@ pub mod Leaf
 pub mod Limits
 pub mod Layout
 pub mod Cut
+pub mod Numbering
 pub mod Records
 pub mod Parts
 pub mod Says
@@ -14,7 +15,7 @@ pub mod Choice
 pub mod Least
 pub mod Bounds
 pub mod Nesting
-pub mod Numbering
+pub mod NumberRuns
 pub mod Walk
 pub mod Ways
 pub mod SamePiece

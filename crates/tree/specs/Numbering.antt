@@ -1,16 +1,14 @@
--- Pieces are numbered in the order in which a walk (node, left, right) first meets them, and a piece and those below it
--- own a run of numbers with no gap.
--- Assumes nothing.
-use Prim.Native.Nat.{ℕ, _+_, _≤_, _<_}
-use mathlib.Core.Path.{_≡_}
-use mathlib.Core.Logic.{_↔_, _⊎_, inl, inr}
+-- The piece number of each node: pieces are numbered in the order in which a walk (node, left, right) first meets them.
+use Prim.Native.Nat.{ℕ, _+_}
 use mathlib.Core.Bool.{Bool, true, false}
 use mathlib.Core.List.{List, [], _∷_, _++_}
-use native.Mathlib.Omega.{arith}
-use native.Mathlib.Decide.{decLt}
 use Rattle.language.specs.Tree.{Tree, leaf, catenation, union, star}
-use Rattle.tree.specs.Cut.{Cut, one, cuts, pieces}
-use Rattle.tree.specs.Records.{child-piece}
+use Rattle.tree.specs.Cut.{Cut, one, cuts}
+
+-- the piece of a child: a new one, where the edge is cut, or its parent's
+abbrev pub child-piece : Bool → ℕ → ℕ → ℕ
+child-piece true piece new = new
+child-piece false piece new = piece
 
 -- a tree of numbers, one for each node
 pub data Numbers : Type 0 where
@@ -18,25 +16,26 @@ pub data Numbers : Type 0 where
   above-one : ℕ → Numbers → Numbers
   above-two : ℕ → Numbers → Numbers → Numbers
 
--- the numbers in the order of a walk: node, left, right
-abbrev pub in-walk : Numbers → List ℕ
-in-walk (alone n) = n ∷ []
-in-walk (above-one n x) = n ∷ in-walk x
-in-walk (above-two n x y) = n ∷ (in-walk x ++ in-walk y)
+-- the root's number
+abbrev pub root-number : Numbers → ℕ
+root-number (alone n) = n
+root-number (above-one n x) = n
+root-number (above-two n x y) = n
 
--- the numbers in the order of the records: left, right, node
-abbrev pub in-postorder : Numbers → List ℕ
-in-postorder (alone n) = n ∷ []
-in-postorder (above-one n x) = in-postorder x ++ (n ∷ [])
-in-postorder (above-two n x y) = in-postorder x ++ in-postorder y ++ (n ∷ [])
+-- the numbers at and below the left or only child
+abbrev pub left-numbers : Numbers → Numbers
+left-numbers (alone n) = alone n
+left-numbers (above-one n x) = x
+left-numbers (above-two n x y) = x
 
--- a number is one of these
-abbrev pub Stands : ℕ → Numbers → Type 0
-Stands a (alone n) = a ≡ n
-Stands a (above-one n x) = (a ≡ n) ⊎ Stands a x
-Stands a (above-two n x y) = (a ≡ n) ⊎ (Stands a x ⊎ Stands a y)
+-- the numbers at and below the right child
+abbrev pub right-numbers : Numbers → Numbers
+right-numbers (alone n) = alone n
+right-numbers (above-one n x) = x
+right-numbers (above-two n x y) = y
 
--- the piece of each node: the root is in the piece `piece`, and the pieces below it are numbered from `new`
+-- the piece of each node of a tree that is cut: the root is in the piece `piece`, and those that a walk first meets below
+-- it are numbered from `new`
 abbrev pub numbered : {A : Type 0} (t : Tree A) → Cut t → (piece new : ℕ) → Numbers
 numbered (leaf a) c piece new = alone piece
 numbered (catenation s t) c piece new =
@@ -49,95 +48,14 @@ numbered (union s t) c piece new =
     (one (c .2) + (one (c .0) + cuts s (c .1) + new)))
 numbered (star s) c piece new = above-one piece (numbered s (c .1) (child-piece (c .0) piece new) (one (c .0) + new))
 
--- a is the number of the root's piece, or one of the k numbers from `new` on
-abbrev pub Root-or-run : (a piece new k : ℕ) → Type 0
-Root-or-run a piece new k = (a ≡ piece) ⊎ ((new ≤ a) × (a < new + k))
+-- the numbers in the order of a walk: node, left, right
+abbrev pub in-walk : Numbers → List ℕ
+in-walk (alone n) = n ∷ []
+in-walk (above-one n x) = n ∷ in-walk x
+in-walk (above-two n x y) = n ∷ (in-walk x ++ in-walk y)
 
--- the numbers of a child are its parent's, or lie in the run from `new` on: where the edge is cut, the child's own is
--- the first of them
-from-child : (b : Bool) (a piece new k : ℕ) → Root-or-run a (child-piece b piece new) (one b + new) k
-    → Root-or-run a piece new (one b + k)
-from-child true a piece new k (inl e) = inr (omega arith)
-from-child true a piece new k (inr h) = inr (omega arith)
-from-child false a piece new k (inl e) = inl e
-from-child false a piece new k (inr h) = inr (omega arith)
-
--- and every number of the run is one of the child's
-to-child : (b : Bool) (a piece new k : ℕ) → new ≤ a → a < new + (one b + k)
-    → Root-or-run a (child-piece b piece new) (one b + new) k
-to-child true a piece new k low high = elim (decLt new a) [ yes h ↦ inr (omega arith) | no h ↦ inl (omega arith) ]
-to-child false a piece new k low high = inr (omega arith)
-
--- two runs, one behind the other, are one
-first-run : (a piece new k m : ℕ) → Root-or-run a piece new k → Root-or-run a piece new (k + m)
-first-run a piece new k m (inl e) = inl e
-first-run a piece new k m (inr h) = inr (omega arith)
-
--- the second begins where the first ends
-second-run : (a piece new k m : ℕ) → Root-or-run a piece (k + new) m → Root-or-run a piece new (k + m)
-second-run a piece new k m (inl e) = inl e
-second-run a piece new k m (inr h) = inr (omega arith)
-
--- at a node with two children: the runs of the left and of the right one are the node's
-exactly-two : (a piece new : ℕ) (b c : Bool) (k m : ℕ) {X Y : Type 0}
-    → (X ↔ Root-or-run a (child-piece b piece new) (one b + new) k)
-    → (Y ↔ Root-or-run a (child-piece c piece (one b + k + new)) (one c + (one b + k + new)) m)
-    → ((a ≡ piece) ⊎ (X ⊎ Y)) ↔ Root-or-run a piece new (one b + k + (one c + m))
-exactly-two a piece new b c k m {X} {Y} left right = (there, back)
-  where
-    there : (a ≡ piece) ⊎ (X ⊎ Y) → Root-or-run a piece new (one b + k + (one c + m))
-    there (inl e) = inl e
-    there (inr (inl h)) = first-run a piece new (one b + k) (one c + m) (from-child b a piece new k (left .0 h))
-    there (inr (inr h)) =
-        second-run a piece new (one b + k) (one c + m) (from-child c a piece (one b + k + new) m (right .0 h))
-
-    back : Root-or-run a piece new (one b + k + (one c + m)) → (a ≡ piece) ⊎ (X ⊎ Y)
-    back (inl e) = inl e
-    back (inr h) =
-        elim (decLt a (one b + k + new)) [
-          | yes l ↦ inr (inl (left .1 (to-child b a piece new k (h .0) (omega arith))))
-          | no l ↦ inr (inr (right .1 (to-child c a piece (one b + k + new) m (omega arith) (omega arith))))
-        ]
-
--- at a star: the run of the operand is the star's
-exactly-one : (a piece new : ℕ) (b : Bool) (k : ℕ) {X : Type 0}
-    → (X ↔ Root-or-run a (child-piece b piece new) (one b + new) k)
-    → ((a ≡ piece) ⊎ X) ↔ Root-or-run a piece new (one b + k)
-exactly-one a piece new b k {X} only = (there, back)
-  where
-    there : (a ≡ piece) ⊎ X → Root-or-run a piece new (one b + k)
-    there (inl e) = inl e
-    there (inr h) = from-child b a piece new k (only .0 h)
-
-    back : Root-or-run a piece new (one b + k) → (a ≡ piece) ⊎ X
-    back (inl e) = inl e
-    back (inr h) = inr (only .1 (to-child b a piece new k (h .0) (h .1)))
-
--- a leaf has no run
-exactly-alone : (a piece new : ℕ) → (a ≡ piece) ↔ Root-or-run a piece new 0
-exactly-alone a piece new = (inl, back)
-  where
-    back : Root-or-run a piece new 0 → a ≡ piece
-    back (inl e) = e
-    back (inr h) = omega arith
-
--- in a subtree stand the number of its root's piece and the run of numbers from `new` on, one for each cut edge, with
--- no gap and no other.
--- Where the edge above the subtree is cut, the root's number is new - 1, so they are one run: a piece and those below
--- it own the numbers of the piece and the next ones
-pub numbers-exactly : {A : Type 0} (t : Tree A) (c : Cut t) (piece new a : ℕ) → Stands a (numbered t c piece new)
-    ↔ Root-or-run a piece new (cuts t c)
-numbers-exactly (leaf l) c piece new a = exactly-alone a piece new
-numbers-exactly (catenation s t) c piece new a =
-    exactly-two a piece new (c .0) (c .2) _ _ (numbers-exactly s (c .1) _ _ a) (numbers-exactly t (c .3) _ _ a)
-numbers-exactly (union s t) c piece new a = exactly-two a piece new (c .0) (c .2) _ _ (numbers-exactly s (c .1) _ _ a)
-    (numbers-exactly t (c .3) _ _ a)
-numbers-exactly (star s) c piece new a = exactly-one a piece new (c .0) _ (numbers-exactly s (c .1) _ _ a)
-
--- the numbers of the pieces are below how many there are
-pub numbers-below : {A : Type 0} (t : Tree A) (c : Cut t) (a : ℕ) → Stands a (numbered t c 0 1) → a < pieces t c
-numbers-below t c a h = by-place (numbers-exactly t c 0 1 a .0 h)
-  where
-    by-place : Root-or-run a 0 1 (cuts t c) → a < pieces t c
-    by-place (inl e) = omega arith
-    by-place (inr r) = r .1
+-- the numbers in the order of the records: left, right, node
+abbrev pub in-postorder : Numbers → List ℕ
+in-postorder (alone n) = n ∷ []
+in-postorder (above-one n x) = in-postorder x ++ (n ∷ [])
+in-postorder (above-two n x y) = in-postorder x ++ in-postorder y ++ (n ∷ [])

@@ -1,8 +1,6 @@
 -- Tree records: one for each node, in postorder.
--- Assumes nothing.
 use Prim.Native.Nat.{ℕ, _+_, _-_, _≤_}
 use mathlib.Core.Path.{_≡_}
-use mathlib.Core.Bool.{Bool, true, false}
 use mathlib.Core.List.{List, [], _∷_, _++_}
 use Rattle.language.specs.Tree.{Tree, leaf, catenation, union, star, nodes}
 use Rattle.tree.specs.Leaf.{Leaf}
@@ -16,7 +14,8 @@ use Rattle.tree.specs.Layout.{
   union-kind,
   star-kind,
 }
-use Rattle.tree.specs.Cut.{Cut, cuts, pieces, one, wanted}
+use Rattle.tree.specs.Cut.{pieces, wanted}
+use Rattle.tree.specs.Numbering.{Numbers, root-number, left-numbers, right-numbers, numbered}
 
 -- the kind of a leaf's record
 abbrev pub leaf-kind : Leaf → ℕ
@@ -26,33 +25,25 @@ leaf-kind (Leaf.character c) = character-kind
 abbrev pub leaf-character : Leaf → ℕ
 leaf-character (Leaf.character c) = c
 
--- the piece of a child: a new one, where the edge is cut, or its parent's
-abbrev pub child-piece : Bool → ℕ → ℕ → ℕ
-child-piece true piece new = new
-child-piece false piece new = piece
-
--- the records of t, cut by c. Its first record has the number `first`, its root is in the piece `piece`, and the pieces
--- that a walk (node, left, right) first meets below its root are numbered from `new`
-abbrev pub records : (t : Tree Leaf) → Cut t → (first piece new : ℕ) → List ℕ
-records (leaf a) c first piece new = record-of (leaf-kind a) (leaf-character a) no-child no-child piece
-records (catenation s t) c first piece new =
-    records s (c .1) first (child-piece (c .0) piece new) (one (c .0) + new)
-    ++ records t (c .3) (first + nodes s) (child-piece (c .2) piece (one (c .0) + cuts s (c .1) + new))
-    (one (c .2) + (one (c .0) + cuts s (c .1) + new))
-    ++ record-of catenation-kind 0 (first + nodes s - 1) (first + nodes s + nodes t - 1) piece
-records (union s t) c first piece new =
-    records s (c .1) first (child-piece (c .0) piece new) (one (c .0) + new)
-    ++ records t (c .3) (first + nodes s) (child-piece (c .2) piece (one (c .0) + cuts s (c .1) + new))
-    (one (c .2) + (one (c .0) + cuts s (c .1) + new))
-    ++ record-of union-kind 0 (first + nodes s - 1) (first + nodes s + nodes t - 1) piece
-records (star s) c first piece new =
-    records s (c .1) first (child-piece (c .0) piece new) (one (c .0) + new)
-    ++ record-of star-kind 0 (first + nodes s - 1) no-child piece
+-- the records of t, whose nodes are in the pieces that x tells. Its first record has the number `first`
+abbrev pub records : Tree Leaf → Numbers → (first : ℕ) → List ℕ
+records (leaf a) x first = record-of (leaf-kind a) (leaf-character a) no-child no-child (root-number x)
+records (catenation s t) x first =
+    records s (left-numbers x) first
+    ++ records t (right-numbers x) (first + nodes s)
+    ++ record-of catenation-kind 0 (first + nodes s - 1) (first + nodes s + nodes t - 1) (root-number x)
+records (union s t) x first =
+    records s (left-numbers x) first
+    ++ records t (right-numbers x) (first + nodes s)
+    ++ record-of union-kind 0 (first + nodes s - 1) (first + nodes s + nodes t - 1) (root-number x)
+records (star s) x first =
+    records s (left-numbers x) first
+    ++ record-of star-kind 0 (first + nodes s - 1) no-child (root-number x)
 
 -- the list of a tree: its records, with the pieces of the wanted cut; the root's piece is 0. Shut, as the piece count
 -- is: the layers above use what is proved of them
 unfoldable pub encode : Tree Leaf → List ℕ
-encode t = records t (wanted t) 0 0 1
+encode t = records t (numbered t (wanted t) 0 1) 0
 
 -- how many pieces the wanted cut of t has
 unfoldable pub piece-count : Tree Leaf → ℕ

@@ -7,8 +7,7 @@ use mathlib.Core.Bool.{Bool, true, false}
 use native.Mathlib.Omega.{arith}
 use Rattle.language.specs.Tree.{Tree, leaf, catenation, union, star}
 use Rattle.tree.specs.Cut.{Cut, one, cuts}
-use Rattle.tree.specs.Records.{child-piece}
-use Rattle.tree.specs.Numbering.{numbered}
+use Rattle.tree.specs.Numbering.{child-piece, numbered}
 use Rattle.tree.specs.Saying.{true-false}
 use Rattle.tree.specs.Ways.{Way, here, left, right, Node, number-of, Uncut, Joined}
 

@@ -18,7 +18,8 @@ use Rattle.language.specs.Tree.{Tree, leaf, catenation, union, star, nodes}
 use Rattle.tree.specs.Leaf.{Leaf}
 use Rattle.tree.specs.Cut.{cuts, one, wanted, cut-left, cut-right, open-size}
 use Rattle.tree.specs.Layout.{label-of, character-kind, catenation-kind, union-kind, star-kind}
-use Rattle.tree.specs.Records.{child-piece, labels, leaf-label}
+use Rattle.tree.specs.Numbering.{child-piece}
+use Rattle.tree.specs.Records.{labels, leaf-label}
 
 -- the edges that the wanted cut cuts
 abbrev pub cut-edges : Tree Leaf → ℕ

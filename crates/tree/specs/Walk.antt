@@ -10,8 +10,7 @@ use lib.Dec.{eqb}
 use borrow.Author.Tests.{eq-eqb, ne-eqb}
 use Rattle.language.specs.Tree.{Tree, leaf, catenation, union, star}
 use Rattle.tree.specs.Cut.{Cut, one, cuts, pieces}
-use Rattle.tree.specs.Records.{child-piece}
-use Rattle.tree.specs.Numbering.{Numbers, alone, above-one, above-two, in-walk, numbered}
+use Rattle.tree.specs.Numbering.{child-piece, Numbers, alone, above-one, above-two, in-walk, numbered}
 
 -- whether a is in a list
 abbrev pub member : ℕ → List ℕ → Bool

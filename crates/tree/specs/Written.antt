@@ -25,7 +25,8 @@ use Rattle.tree.specs.Layout.{
   union-kind,
   star-kind,
 }
-use Rattle.tree.specs.Records.{child-piece, records, encode, piece-count, leaf-kind, leaf-character}
+use Rattle.tree.specs.Numbering.{child-piece, numbered}
+use Rattle.tree.specs.Records.{records, encode, piece-count, leaf-kind, leaf-character}
 use Rattle.tree.specs.Seats.{
   Seat,
   seat,
@@ -124,7 +125,7 @@ leaf-record a p first =
     rw (character, ne-eqb (1 + 256 * a) 2 (omega arith), ne-eqb (1 + 256 * a) 3 (omega arith))
 
 -- the records of a tree are those of its seats
-writes : (t : Tree Leaf) (first p n : ℕ) → Writes (seats t p n) first (records t (wanted t) first p n)
+writes : (t : Tree Leaf) (first p n : ℕ) → Writes (seats t p n) first (records t (numbered t (wanted t) p n) first)
 writes (leaf (Leaf.character a)) first p n = record { so = leaf-record a p first }
 writes (catenation s t) first p n =
     let e = length-seats s in
@@ -140,7 +141,7 @@ writes (union s t) first p n =
     (record { so = pair-record union-kind p first (nodes s) (nodes t) (nodes-positive s) })
 writes (star s) first p n =
     let e = length-seats s in
-    subst (λ (b : Bool). Writes (seats (star s) p n) first (records s (wanted s) first (child-piece b p n) (one b + n)
+    subst (λ (b : Bool). Writes (seats (star s) p n) first (records s (numbered s (wanted s) (child-piece b p n) (one b + n)) first
     ++ record-of star-kind 0 (first + nodes s - 1) no-child p))
     (only-left (open-size s))
     (writes-append (first + nodes s) (simp e) (writes s first _ _)

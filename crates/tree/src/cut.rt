@@ -4,7 +4,7 @@ ghost use mathlib.Core.Path.{_≡_};
 ghost use Prim.Native.Nat.{_+_, _≤_, _<_};
 ghost use Rattle.tree.specs.Limits.{most-nodes};
 ghost use Rattle.tree.specs.Cut.{cut-left, cut-right, kept, one};
-ghost use Rattle.tree.specs.Records.{child-piece};
+ghost use Rattle.tree.specs.Numbering.{child-piece};
 ghost use Rattle.tree.specs.Gathered.{open-sum, cut-sum};
 
 // Whether the left or only child is cut off: it is the larger, or as large, where the two pass 15.
