@@ -96,16 +96,24 @@ left-slot-requires c κs =
     (omega arith)
     (less .sized (s .pre .0 .tree) (s .pre .0 .same)) (r .right-slot .ensures .0)
 
+-- the loop's head, from where both slots are known
+abbrev head : tie.After-left-slot Inv-loop μ-loop → tie.At-loop Inv-loop μ-loop
+head c = c .before .before .before .before .before .before .before
+
+-- where both slots are known, from where both cuts are
+abbrev slots : tie.After-cut-right Inv-loop μ-loop → tie.After-left-slot Inv-loop μ-loop
+slots c = c .before .before .before .before
+
 -- the children's open sizes and the right child's first new piece are small
 small : (c : tie.After-left-slot Inv-loop μ-loop)
-    → let l = c .before .before .before .before .before .before .before in
+    → let l = head c in
     let s = start l in
     let left = c .left-slot .result in
     let right = c .before .before .right-slot .result in
     Turn-small left right (l .loop .i) (s .args .opens .now) (s .args .cuts .now) (l .loop .news)
 small c =
     let r = c .before .before in
-    let l = r .before .before .before .before .before in
+    let l = head c in
     let s = start l in
     turn-small (s .args .labels .now) (l .loop .i - 1) (l .loop .i) (c .left-slot .result) (r .right-slot .result)
     (s .args .sizes .now) (s .args .opens .now) (s .args .cuts .now)
@@ -140,20 +148,14 @@ shared-slice-read-past-left : tie.Need-shared-slice-read-past-left Inv-loop μ-l
 shared-slice-read-past-left c = omega arith
 
 add-past-left : tie.Need-add-past-left Inv-loop μ-loop
-add-past-left c = omega (
-  arith,
-  small (c .before .before .before .before .before .before) .all-new,
-  ap one (c .before .before .before .cut-left .ensures),
-  ap one (c .before .before .cut-right .ensures),
-)
+add-past-left c =
+    let m = c .before .before in
+    omega (arith, small (slots m) .all-new, ap one (m .before .cut-left .ensures), ap one (m .cut-right .ensures))
 
 add-past-left-2 : tie.Need-add-past-left-2 Inv-loop μ-loop
-add-past-left-2 c = omega (
-  arith,
-  small (c .before .before .before .before .before .before) .all-new,
-  ap one (c .before .before .before .cut-left .ensures),
-  ap one (c .before .before .cut-right .ensures),
-)
+add-past-left-2 c =
+    let m = c .before .before in
+    omega (arith, small (slots m) .all-new, ap one (m .before .cut-left .ensures), ap one (m .cut-right .ensures))
 
 piece-below-requires : tie.Need-piece-below-requires Inv-loop μ-loop
 piece-below-requires c κs = tt
@@ -177,12 +179,9 @@ one-if-requires-2 : tie.Need-one-if-requires-2 Inv-loop μ-loop
 one-if-requires-2 c κs = tt
 
 add-news : tie.Need-add-news Inv-loop μ-loop
-add-news c = omega (
-  arith,
-  small (c .before .before .before .before .before .before .before .before .before) .all-new,
-  ap one (c .before .before .before .before .before .before .cut-left .ensures),
-  ap one (c .before .before .before .before .before .cut-right .ensures),
-)
+add-news c =
+    let m = c .before .before .before .before .before in
+    omega (arith, small (slots m) .all-new, ap one (m .before .cut-left .ensures), ap one (m .cut-right .ensures))
 
 mul-news-2 : tie.Need-mul-news-2 Inv-loop μ-loop
 mul-news-2 c = omega arith
@@ -195,12 +194,8 @@ one-if-requires-3 c κs = tt
 
 add-news-2 : tie.Need-add-news-2 Inv-loop μ-loop
 add-news-2 c =
-    omega (
-      arith,
-      small (c .before .before .before .before .before .before .before .before .before .before) .all-new,
-      ap one (c .before .before .before .before .before .before .before .cut-left .ensures),
-      ap one (c .before .before .before .before .before .before .cut-right .ensures),
-    )
+    let m = c .before .before .before .before .before .before in
+    omega (arith, small (slots m) .all-new, ap one (m .before .cut-left .ensures), ap one (m .cut-right .ensures))
 
 mul-news-3 : tie.Need-mul-news-3 Inv-loop μ-loop
 mul-news-3 c = omega arith
@@ -213,10 +208,10 @@ loop-less c = omega arith
 
 loop-again : tie.Need-loop-again Inv-loop μ-loop
 loop-again c =
-    let f = c .before .before .before .before .before .before .before .before .before .before in
     let m = c .before .before .before .before .before .before in
+    let f = slots m in
     let r = f .before .before in
-    let l = r .before .before .before .before .before in
+    let l = head f in
     let s = start l in (
       omega arith,
       simp length-set (l .loop .inv .1),

@@ -85,10 +85,13 @@ left-slot-requires c κs =
     (r .before .before .loop-test .taken) (l .loop .inv .2 .sized (s .pre .0 .tree) (s .pre .0 .same))
     (r .right-slot .ensures .0)
 
+-- the loop's head, from where both slots are known
+abbrev head : tie.After-left-slot Inv-loop μ-loop → tie.At-loop Inv-loop μ-loop
+head c = c .before .before .before .before .before
+
 -- what is gathered once both slots are known, for every tree with these labels
-found : (c : tie.After-left-slot Inv-loop μ-loop) (t : Tree Leaf)
-    → (start (c .before .before .before .before .before) .args .labels .now) ≡ labels t
-    → let l = c .before .before .before .before .before in
+found : (c : tie.After-left-slot Inv-loop μ-loop) (t : Tree Leaf) → (start (head c) .args .labels .now) ≡ labels t
+    → let l = head c in
     let left = c .left-slot .result in
     let right = c .before .before .right-slot .result in
     Gathered t (l .loop .i) (getD (l .loop .sizes) left 0 + getD (l .loop .sizes) right 0 + 1)
@@ -96,7 +99,7 @@ found : (c : tie.After-left-slot Inv-loop μ-loop) (t : Tree Leaf)
     (getD (l .loop .cuts) left 0) (getD (l .loop .cuts) right 0)
 found c t e =
     let r = c .before .before in
-    let l = r .before .before .before in
+    let l = head c in
     let s = start l in
     gathered t (l .loop .i) (c .left-slot .result) (r .right-slot .result) (l .loop .sizes) (l .loop .opens) (l .loop .cuts)
     (children (s .args .labels .now) t (l .loop .i) (c .left-slot .result) (r .right-slot .result) (l .loop .sizes)
@@ -111,19 +114,15 @@ slice-read-size c = omega arith
 
 add-size : tie.Need-add-size Inv-loop μ-loop
 add-size c =
-    omega (
-      arith,
-      found (c .before) (start (c .before .before .before .before .before .before) .pre .0 .tree)
-          (start (c .before .before .before .before .before .before) .pre .0 .same),
-    )
+    let f = c .before in
+    let o = start (head f) .pre .0 in
+    omega (arith, found f (o .tree) (o .same))
 
 add-size-2 : tie.Need-add-size-2 Inv-loop μ-loop
 add-size-2 c =
-    omega (
-      arith,
-      found (c .before) (start (c .before .before .before .before .before .before) .pre .0 .tree)
-          (start (c .before .before .before .before .before .before) .pre .0 .same),
-    )
+    let f = c .before in
+    let o = start (head f) .pre .0 in
+    omega (arith, found f (o .tree) (o .same))
 
 mul-left-open : tie.Need-mul-left-open Inv-loop μ-loop
 mul-left-open c = omega arith
@@ -138,10 +137,10 @@ slice-read-right-open : tie.Need-slice-read-right-open Inv-loop μ-loop
 slice-read-right-open c = omega arith
 
 open-size-requires : tie.Need-open-size-requires Inv-loop μ-loop
-open-size-requires c κs = let g =
-    found (c .before .before .before)
-    (start (c .before .before .before .before .before .before .before .before) .pre .0 .tree)
-    (start (c .before .before .before .before .before .before .before .before) .pre .0 .same) in
+open-size-requires c κs =
+    let f = c .before .before .before in
+    let o = start (head f) .pre .0 in
+    let g = found f (o .tree) (o .same) in
     (g .left-le, g .right-le)
 
 mul-cut-count : tie.Need-mul-cut-count Inv-loop μ-loop
@@ -157,10 +156,10 @@ slice-read-cut-count-2 : tie.Need-slice-read-cut-count-2 Inv-loop μ-loop
 slice-read-cut-count-2 c = omega arith
 
 cut-count-requires : tie.Need-cut-count-requires Inv-loop μ-loop
-cut-count-requires c κs = let g =
-    found (c .before .before .before .before .before .before)
-    (start (c .before .before .before .before .before .before .before .before .before .before .before) .pre .0 .tree)
-    (start (c .before .before .before .before .before .before .before .before .before .before .before) .pre .0 .same) in
+cut-count-requires c κs =
+    let f = c .before .before .before .before .before .before in
+    let o = start (head f) .pre .0 in
+    let g = found f (o .tree) (o .same) in
     ((g .left-le, g .right-le), omega (arith, g .cuts-le))
 
 add-i : tie.Need-add-i Inv-loop μ-loop
@@ -190,7 +189,7 @@ loop-less c = omega arith
 loop-again : tie.Need-loop-again Inv-loop μ-loop
 loop-again c =
     let f = c .before .before .before .before .before .before .before in
-    let l = f .before .before .before .before .before in
+    let l = head f in
     let s = start l in (
       omega arith,
       room-stays (l .loop .sizes) (l .loop .opens) (l .loop .cuts) (l .loop .i + 1) _ _ _ (l .loop .inv .1),
