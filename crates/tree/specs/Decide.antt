@@ -24,7 +24,7 @@ use Rattle.tree.specs.Readback.{Labels-of, labels-of-good, good-unique}
 use Rattle.tree.specs.Pieces.{cut-up, good-small}
 use Rattle.tree.specs.Seats.{Seat, seats, seat-at, left-apart, right-apart, left-piece, left-new, cut-edges, length-seats}
 use Rattle.tree.specs.Written.{child-number, seat-record, written, encode-written}
-use Rattle.tree.specs.Measured.{Postorder, Measured, Counted, in-tree, label-is, Slots}
+use Rattle.tree.specs.Measured.{Postorder, Measured, Counts-pieces, in-tree, label-is, Slots}
 use Rattle.tree.specs.Recording.{record-of-list, fields-are}
 use Rattle.tree.specs.Saying.{true-false}
 use Rattle.tree.specs.Judged.{Judged, Counts-below}
@@ -186,7 +186,7 @@ module _ (bytes ls : List ℕ) (shown : Labels-of bytes ls) where
       record { fits = λ t g. h (record { tree = t; same = labels-of-good bytes ls t (g .of-tree) shown }) }
 
   -- not good: the tree has more than 128 pieces
-  pub not-by-pieces : (pieces : ℕ) → Counted ls pieces → most-pieces < pieces → Judged bytes not-good
+  pub not-by-pieces : (pieces : ℕ) → Counts-pieces ls pieces → most-pieces < pieces → Judged bytes not-good
   not-by-pieces pieces c h =
       record { fits = λ t g. omega (arith, c .count t (labels-of-good bytes ls t (g .of-tree) shown), g .few) }
 
@@ -196,7 +196,7 @@ module _ (bytes ls : List ℕ) (shown : Labels-of bytes ls) where
       record { fits = λ t g. c .if-not refl t (labels-of-good bytes ls t (g .of-tree) shown) (g .of-tree) }
 
   -- good: every record is the tree's
-  pub good-by-records : (pieces : ℕ) → Postorder ls → Counted ls pieces → pieces ≤ most-pieces
+  pub good-by-records : (pieces : ℕ) → Postorder ls → Counts-pieces ls pieces → pieces ≤ most-pieces
       → Compared ls bytes true → Judged bytes (good (length ls) pieces)
   good-by-records pieces o c few same =
       let t : Tree Leaf = o .tree in

@@ -16,10 +16,13 @@ pub mod Least
 pub mod Bounds
 pub mod Nesting
 pub mod NumberRuns
+pub mod Firsts
 pub mod Walk
 pub mod Ways
 pub mod SamePiece
 pub mod Stored
+pub mod StoredLaws
+pub mod CutUp
 pub mod Pieces
 pub mod Seats
 pub mod Gathered

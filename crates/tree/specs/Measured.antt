@@ -52,7 +52,7 @@ abbrev pub node : Tree Leaf → ℕ → Tree Leaf
 node t i = seat-at (seats t 0 1) i .tree
 
 -- three lists with a slot for each record there can be, and slot 0
-pub record Room (sizes opens cuts : List ℕ) : Type 0 where
+pub record Room-to-measure (sizes opens cuts : List ℕ) : Type 0 where
   pub for-sizes : length sizes ≡ slot-count
   pub for-opens : length opens ≡ slot-count
   pub for-cuts : length cuts ≡ slot-count
@@ -242,7 +242,7 @@ gathered t i left right sizes opens cuts c =
 
 -- one record more is measured
 pub measured-more : (ls : List ℕ) (i size open-here cuts-here : ℕ) (sizes opens cuts : List ℕ) → i < length ls
-    → length ls ≤ most-labels → Room sizes opens cuts → Measured ls sizes opens cuts i
+    → length ls ≤ most-labels → Room-to-measure sizes opens cuts → Measured ls sizes opens cuts i
     → ((t : Tree Leaf) → ls ≡ labels t → (size ≡ nodes (node t i)) × (open-here ≡ open-size (node t i))
     × (cuts-here ≡ cut-edges (node t i)))
     → Measured ls (set sizes (i + 1) size) (set opens (i + 1) open-here) (set cuts (i + 1) cuts-here) (i + 1)
@@ -257,7 +257,7 @@ measured-more ls i size open-here cuts-here sizes opens cuts h k room m found =
     }
 
 -- before the first record nothing is measured
-pub measured-none : (ls sizes opens cuts : List ℕ) → Room sizes opens cuts
+pub measured-none : (ls sizes opens cuts : List ℕ) → Room-to-measure sizes opens cuts
     → Measured ls (set sizes 0 0) (set opens 0 0) (set cuts 0 0) 0
 measured-none ls sizes opens cuts room =
     record {
@@ -268,8 +268,8 @@ measured-none ls sizes opens cuts room =
     }
 
 -- stores leave the room
-pub room-stays : (sizes opens cuts : List ℕ) (i a b c : ℕ) → Room sizes opens cuts
-    → Room (set sizes i a) (set opens i b) (set cuts i c)
+pub room-stays : (sizes opens cuts : List ℕ) (i a b c : ℕ) → Room-to-measure sizes opens cuts
+    → Room-to-measure (set sizes i a) (set opens i b) (set cuts i c)
 room-stays sizes opens cuts i a b c room =
     record {
       for-sizes = length-set sizes i a ∙ room .for-sizes;
@@ -285,16 +285,16 @@ holds-root f ls t slots e w =
     w .slot (length ls) (le-refl (length ls)) ∙ rw n (held-whole (λ (x : Seat). f (x .tree)) t 0 1)
 
 -- r is the piece count of the tree with these labels
-pub record Counted (ls : List ℕ) (r : ℕ) : Type 0 where
+pub record Counts-pieces (ls : List ℕ) (r : ℕ) : Type 0 where
   pub count : (t : Tree Leaf) → ls ≡ labels t → r ≡ piece-count t
 
 -- two counts that fit are the same
-pub counted-unique : (ls : List ℕ) (a b : ℕ) → Postorder ls → Counted ls a → Counted ls b → a ≡ b
+pub counted-unique : (ls : List ℕ) (a b : ℕ) → Postorder ls → Counts-pieces ls a → Counts-pieces ls b → a ≡ b
 counted-unique ls a b o c d = c .count (o .tree) (o .same) ∙ sym (d .count (o .tree) (o .same))
 
 -- the root's cut edges give the piece count
 pub counted-all : (ls sizes opens cuts : List ℕ) → Measured ls sizes opens cuts (length ls)
-    → Counted ls (1 + getD cuts (length ls) 0)
+    → Counts-pieces ls (1 + getD cuts (length ls) 0)
 unfolding piece-count
 counted-all ls sizes opens cuts m =
     record { count = λ t e. ap (λ (n : ℕ). 1 + n) (holds-root cut-edges ls t cuts e (m .counted t e)) }

@@ -36,16 +36,16 @@ pub recorded-unique : (ls before a b : List ℕ) → Postorder ls → Recorded l
 recorded-unique ls before a b o p q = p .bytes (o .tree) (o .same) ∙ sym (q .bytes (o .tree) (o .same))
 
 -- the first i of them
-pub record Stored (ls before after : List ℕ) (i : ℕ) : Type 0 where
+pub record Written-so-far (ls before after : List ℕ) (i : ℕ) : Type 0 where
   pub bytes : (t : Tree Leaf) → ls ≡ labels t → after ≡ take (record-size * i) (encode t) ++ drop (record-size * i) before
 
 -- none yet
-pub stored-none : (ls before : List ℕ) → Stored ls before before 0
-stored-none ls before = record { bytes = λ t e. refl }
+pub written-none : (ls before : List ℕ) → Written-so-far ls before before 0
+written-none ls before = record { bytes = λ t e. refl }
 
 -- all of them
-pub stored-all : (ls before after : List ℕ) → Stored ls before after (length ls) → Recorded ls before after
-stored-all ls before after s = record { bytes = λ t e. by-tree t (ap length e ∙ length-labels t) (s .bytes t e) }
+pub written-all : (ls before after : List ℕ) → Written-so-far ls before after (length ls) → Recorded ls before after
+written-all ls before after s = record { bytes = λ t e. by-tree t (ap length e ∙ length-labels t) (s .bytes t e) }
   where
     by-tree : (t : Tree Leaf) → length ls ≡ nodes t → after ≡ take (record-size * length ls) (encode t)
         ++ drop (record-size * length ls) before → after ≡ encode t ++ drop (record-size * nodes t) before
@@ -101,7 +101,7 @@ fields-are t i left right label left-number right-number piece sizes k is-label 
     (is-left ∙ ap child-number (k .left-is)) (is-right ∙ ap child-number (k .right-is))
 
 -- record i is put in
-pub stored-more : (ls before after next : List ℕ) (i left right label left-number right-number piece : ℕ)
+pub written-more : (ls before after next : List ℕ) (i left right label left-number right-number piece : ℕ)
     (sizes : List ℕ) → i < length ls
     → ((t : Tree Leaf) → ls ≡ labels t → Slots t i left right sizes × (piece ≡ seat-at (seats t 0 1) i .piece))
     → label ≡ getD ls i 0 → label < 65536
@@ -109,8 +109,8 @@ pub stored-more : (ls before after next : List ℕ) (i left right label left-num
     → record-size * i + record-size ≤ length after
     → next ≡ sets after (record-size * i)
     (labelled-record label left-number right-number piece)
-    → Stored ls before after i → Stored ls before next (i + 1)
-stored-more ls before after next i left right label left-number right-number piece sizes h facts is-label small is-left
+    → Written-so-far ls before after i → Written-so-far ls before next (i + 1)
+written-more ls before after next i left right label left-number right-number piece sizes h facts is-label small is-left
     is-right room put s =
     record { bytes = λ t e. by-tree t e (in-tree ls t i e h) }
   where

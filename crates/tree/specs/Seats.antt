@@ -117,15 +117,15 @@ length-seats (union s t) p n = let e = length-seats s in let f =
 length-seats (star s) p n = let e = length-seats s in simp (length-append, e) (omega arith)
 
 -- x is the seat of record i: all that stands under x ends there
-pub record Stands (xs : List Seat) (i : ℕ) (x : Seat) : Type 0 where
+pub record Seat-of (xs : List Seat) (i : ℕ) (x : Seat) : Type 0 where
   pub before : List Seat
   pub after : List Seat
   pub whole : xs ≡ before ++ under x ++ after
   pub ends : length before + nodes (x .tree) ≡ i + 1
 
 -- it stands so with more seats behind
-stands-before : {xs : List Seat} {i : ℕ} {x : Seat} (ys : List Seat) → Stands xs i x → Stands (xs ++ ys) i x
-stands-before ys s =
+seat-of-before : {xs : List Seat} {i : ℕ} {x : Seat} (ys : List Seat) → Seat-of xs i x → Seat-of (xs ++ ys) i x
+seat-of-before ys s =
     record {
       before = s .before;
       after = s .after ++ ys;
@@ -135,9 +135,9 @@ stands-before ys s =
     }
 
 -- and with more seats in front, which move its number
-stands-behind : (xs : List Seat) {ys : List Seat} {j : ℕ} {x : Seat} (i : ℕ) → i ≡ length xs + j → Stands ys j x
-    → Stands (xs ++ ys) i x
-stands-behind xs i e s =
+seat-of-behind : (xs : List Seat) {ys : List Seat} {j : ℕ} {x : Seat} (i : ℕ) → i ≡ length xs + j → Seat-of ys j x
+    → Seat-of (xs ++ ys) i x
+seat-of-behind xs i e s =
     record {
       before = xs ++ s .before;
       after = s .after;
@@ -147,28 +147,28 @@ stands-behind xs i e s =
 
 -- every record's seat stands so
 pub Seated : List Seat → Type 0
-Seated xs = (i : ℕ) → i < length xs → Stands xs i (seat-at xs i)
+Seated xs = (i : ℕ) → i < length xs → Seat-of xs i (seat-at xs i)
 
 -- two lists in which every seat stands so, one after the other
 seated-append : (xs ys : List Seat) → Seated xs → Seated ys → Seated (xs ++ ys)
 unfolding Seated
 seated-append xs ys p q i h = by-place (decLt i (length xs))
   where
-    by-place : Dec (i < length xs) → Stands (xs ++ ys) i (seat-at (xs ++ ys) i)
-    by-place (yes l) = rw (List·getD-append xs ys no-seat i l) (stands-before ys (p i l))
+    by-place : Dec (i < length xs) → Seat-of (xs ++ ys) i (seat-at (xs ++ ys) i)
+    by-place (yes l) = rw (List·getD-append xs ys no-seat i l) (seat-of-before ys (p i l))
     by-place (no l) =
         let j : length xs + (i - length xs) ≡ i = omega arith in
         let e : seat-at (xs ++ ys) i ≡ seat-at ys (i - length xs) =
         rw j at (getD-append-add xs ys (i - length xs) no-seat) in
-        rw e (stands-behind xs i (sym j) (q (i - length xs) (omega (arith, length-append xs ys))))
+        rw e (seat-of-behind xs i (sym j) (q (i - length xs) (omega (arith, length-append xs ys))))
 
 -- one more seat, whose children are those before it
 seated-last : (xs : List Seat) (x : Seat) → Seated xs → xs ++ (x ∷ []) ≡ under x → Seated (xs ++ (x ∷ []))
 unfolding Seated
 seated-last xs x p e i h = by-place (decLt i (length xs))
   where
-    by-place : Dec (i < length xs) → Stands (xs ++ (x ∷ [])) i (seat-at (xs ++ (x ∷ [])) i)
-    by-place (yes l) = rw (List·getD-append xs (x ∷ []) no-seat i l) (stands-before (x ∷ []) (p i l))
+    by-place : Dec (i < length xs) → Seat-of (xs ++ (x ∷ [])) i (seat-at (xs ++ (x ∷ [])) i)
+    by-place (yes l) = rw (List·getD-append xs (x ∷ []) no-seat i l) (seat-of-before (x ∷ []) (p i l))
     by-place (no l) =
         let n : length (xs ++ (x ∷ [])) ≡ length xs + 1 = length-append xs (x ∷ []) in
         rw (getD-at xs x [] no-seat i (omega arith))
@@ -318,7 +318,7 @@ star-around xs before after i l x whole ends f =
     ap (λ (l : List Seat). held f l i) only-first ∙ held-root f before ((x ∷ []) ++ after) l i (omega arith)
 
 -- the children stand where their slots say
-around-root : (xs : List Seat) (i : ℕ) (u : Tree Leaf) (p n : ℕ) → Stands xs i (seat u p n) → Around xs i (seat u p n)
+around-root : (xs : List Seat) (i : ℕ) (u : Tree Leaf) (p n : ℕ) → Seat-of xs i (seat u p n) → Around xs i (seat u p n)
 around-root xs i (leaf (Leaf.character a)) p n s =
     let character : (1 + 256 * a) % 256 ≡ 1 = omega arith in
     let no-catenation : eqb (1 + 256 * a) 2 ≡ false = ne-eqb (1 + 256 * a) 2 (omega arith) in

@@ -18,7 +18,7 @@ ghost use Prim.Native.Nat.{_*_, _/_, _%_, _≤_};
 ghost use lib.ListN.{length};
 ghost use Rattle.tree.specs.Limits.{most-labels, most-records, slot-count};
 ghost use Rattle.tree.specs.Layout.{record-size};
-ghost use Rattle.tree.specs.Measured.{Postorder, Sized, Room, Measured};
+ghost use Rattle.tree.specs.Measured.{Postorder, Sized, Room-to-measure, Measured};
 ghost use Rattle.tree.specs.Handed.{Pieced};
 ghost use Rattle.tree.specs.Readback.{Labels-of};
 ghost use Rattle.tree.specs.Judged.{Judged, Counts-below};
@@ -71,7 +71,7 @@ fn compare(list: &[u8], labels: &[u16], sizes: &[u16], pieces: &[u16]) -> bool
 fn is_list(list: &[u8], labels: &[u16], sizes: &[u16], opens: &[u16], cuts: &[u16]) -> bool
     requires { ⌜ Postorder (now labels) ⌝ }
     requires { ⌜ (length (now labels) ≤ most-labels) × (length (now list) ≡ record-size * length (now labels)) ⌝ }
-    requires { ⌜ Room (now sizes) (now opens) (now cuts) ⌝ }
+    requires { ⌜ Room-to-measure (now sizes) (now opens) (now cuts) ⌝ }
     requires { ⌜ Measured (now labels) (now sizes) (now opens) (now cuts) (length (now labels)) ⌝ }
     ensures { λ b. ⌜ Compared (now (labels .entry)) (now (list .entry)) b ⌝ }
 {

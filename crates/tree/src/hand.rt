@@ -10,7 +10,7 @@ ghost use mathlib.Core.Path.{_≡_};
 ghost use Prim.Native.Nat.{_≤_};
 ghost use lib.ListN.{length};
 ghost use Rattle.tree.specs.Limits.{most-labels, slot-count};
-ghost use Rattle.tree.specs.Measured.{Postorder, Room, Measured};
+ghost use Rattle.tree.specs.Measured.{Postorder, Room-to-measure, Measured};
 ghost use Rattle.tree.specs.Handed.{Pieced};
 
 // A parent comes after its children, so going backwards its slots are filled when it hands on to theirs.
@@ -24,7 +24,7 @@ pub fn hand_down(
 )
     requires { ⌜ Postorder (now labels) ⌝ }
     requires { ⌜ length (now labels) ≤ most-labels ⌝ }
-    requires { ⌜ Room (now sizes) (now opens) (now cuts) ⌝ }
+    requires { ⌜ Room-to-measure (now sizes) (now opens) (now cuts) ⌝ }
     requires { ⌜ Measured (now labels) (now sizes) (now opens) (now cuts) (length (now labels)) ⌝ }
     requires { ⌜ (length (now pieces) ≡ slot-count) × (length (now news) ≡ slot-count) ⌝ }
     ensures { λ _. ⌜ Pieced (now (labels .entry)) (now (pieces .exit)) ⌝ }

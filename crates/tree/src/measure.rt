@@ -6,13 +6,13 @@ use crate::slots::right_slot;
 ghost use Prim.Native.Nat.{_≤_};
 ghost use lib.ListN.{length};
 ghost use Rattle.tree.specs.Limits.{most-labels};
-ghost use Rattle.tree.specs.Measured.{Postorder, Room, Measured};
+ghost use Rattle.tree.specs.Measured.{Postorder, Room-to-measure, Measured};
 
 // A child comes before its parent, so its slots are filled when the parent is met.
 pub fn measure(labels: &[u16], sizes: &mut [u16], opens: &mut [u16], cuts: &mut [u16])
     requires { ⌜ Postorder (now labels) ⌝ }
     requires { ⌜ length (now labels) ≤ most-labels ⌝ }
-    requires { ⌜ Room (now sizes) (now opens) (now cuts) ⌝ }
+    requires { ⌜ Room-to-measure (now sizes) (now opens) (now cuts) ⌝ }
     ensures { λ _. ⌜ Measured (now (labels .entry)) (now (sizes .exit)) (now (opens .exit)) (now (cuts .exit))
         (length (now (labels .entry))) ⌝ }
 {

@@ -12,7 +12,7 @@ use Rattle.language.specs.Tree.{Tree}
 use Rattle.tree.specs.Leaf.{Leaf}
 use Rattle.tree.specs.Records.{labels}
 use Rattle.tree.specs.Measured.{
-  Room,
+  Room-to-measure,
   Measured,
   Gathered,
   gathered,
@@ -32,7 +32,7 @@ use Rattle.tree.proofs.slots.left_slot.Reads as left-slot-reads
 use Rattle.tree.proofs.slots.right_slot.Reads as right-slot-reads
 
 abbrev Inv-loop : tie.InvT-loop
-Inv-loop labels sizes₀ opens₀ cuts₀ i₀ sizes opens cuts i = (i ≤ length labels) × Room sizes opens cuts
+Inv-loop labels sizes₀ opens₀ cuts₀ i₀ sizes opens cuts i = (i ≤ length labels) × Room-to-measure sizes opens cuts
     × Measured labels sizes opens cuts i
 
 abbrev μ-loop : tie.MeasureT-loop

@@ -8,7 +8,7 @@ use mathlib.Core.Path.{_≡_, refl, _∙_}
 use native.Mathlib.Omega.{arith}
 use lib.ListN.{length, getD}
 use Rattle.tree.specs.Measured.{right-size-le, holds-less, slots, in-tree}
-use Rattle.tree.specs.Recording.{Stored, stored-none, stored-more, stored-all}
+use Rattle.tree.specs.Recording.{Written-so-far, written-none, written-more, written-all}
 use Rattle.tree.proofs.write.write_all.Statement.{statement}
 use Rattle.tree.proofs.write.write_all.Tie as tie
 use Rattle.tree.proofs.write.write_all.Reads as reads
@@ -19,7 +19,7 @@ use Rattle.tree.proofs.slots.child_number.Reads as child-number-reads
 use Rattle.tree.proofs.slots.right_slot.Reads as right-slot-reads
 
 abbrev Inv-loop : tie.InvT-loop
-Inv-loop labels sizes pieces out₀ i₀ out i = (i ≤ length labels) × (length out ≡ length out₀) × Stored labels out₀ out i
+Inv-loop labels sizes pieces out₀ i₀ out i = (i ≤ length labels) × (length out ≡ length out₀) × Written-so-far labels out₀ out i
 
 abbrev μ-loop : tie.MeasureT-loop
 μ-loop labels sizes pieces out₀ i₀ out i = length labels - i
@@ -31,7 +31,7 @@ start c = c .before .before .before .before .before
 loop-holds : tie.Need-loop-holds Inv-loop μ-loop
 loop-holds c =
     let s = c .before .before .before .before in
-    (omega arith, refl, stored-none (s .args .labels .now) (s .args .out .now))
+    (omega arith, refl, written-none (s .args .labels .now) (s .args .out .now))
 
 mul-label : tie.Need-mul-label Inv-loop μ-loop
 mul-label c = omega arith
@@ -93,7 +93,7 @@ loop-again c =
     let ls = s .args .labels .now in (
       omega arith,
       w .write-record .kept .0 ∙ l .loop .inv .1,
-      stored-more ls (s .args .out .now) (l .loop .out) (w .write-record .last .0) (l .loop .i) (f .left-slot .result)
+      written-more ls (s .args .out .now) (l .loop .out) (w .write-record .last .0) (l .loop .i) (f .left-slot .result)
           (r .right-slot .result) (getD ls (l .loop .i) 0)
           (n .before .child-number .result) (n .child-number2 .result) (getD (s .args .pieces .now) (l .loop .i + 1) 0)
           (s .args .sizes .now) (r .before .before .loop-test .taken)
@@ -117,7 +117,7 @@ returns c =
     let l = c .before in
     let s = start l in
     let all : l .loop .i ≡ length (s .args .labels .now) = omega arith in
-    stored-all (s .args .labels .now) (s .args .out .now) (l .loop .out) (rw all at (l .loop .inv .2))
+    written-all (s .args .labels .now) (s .args .out .now) (l .loop .out) (rw all at (l .loop .inv .2))
 
 pub write-all-spec : {M : Type 1} → statement M
 write-all-spec =
