@@ -1,5 +1,4 @@
 -- What the rule of the wanted cut comes to at each node, told without tests, and the bounds of open sizes that follow.
--- Assumes nothing.
 use Prim.Native.Nat.{ℕ, _+_, _≤_, _<_}
 use mathlib.Core.Bool.{Bool, true, false}
 use native.Mathlib.Omega.{arith}
@@ -22,13 +21,24 @@ pub data Choice (l r : ℕ) : Bool → Bool → Type 0 where
 pub choice : (l r : ℕ) → l ≤ most-nodes → r ≤ most-nodes → Choice l r (cut-left l r) (cut-right l r)
 choice l r p q = by-sum (decLe (1 + l + r) most-nodes) (decLt l r) (decLt most-nodes (1 + r))
   where
-    by-sum : Dec (1 + l + r ≤ most-nodes) → Dec (l < r) → Dec (most-nodes < 1 + r) → Choice l r (cut-left l r) (cut-right l r)
+    by-sum : Dec (1 + l + r ≤ most-nodes) → Dec (l < r) → Dec (most-nodes < 1 + r)
+        → Choice l r (cut-left l r) (cut-right l r)
     by-sum (yes small) b c = rw (le-ltb most-nodes (1 + l + r)) (neither small)
     by-sum (no large) (yes larger) c =
-        rw (lt-ltb most-nodes (1 + l + r) (omega arith), lt-leb r l, le-ltb most-nodes (1 + l) (omega arith), lt-ltb l r)
+        rw (
+          lt-ltb most-nodes (1 + l + r) (omega arith),
+          lt-leb r l,
+          le-ltb most-nodes (1 + l) (omega arith),
+          lt-ltb l r,
+        )
         (right-off (omega arith) larger (omega arith))
     by-sum (no large) (no smaller) (yes still) =
-        rw (lt-ltb most-nodes (1 + l + r) (omega arith), le-leb r l (omega arith), le-ltb l r (omega arith), lt-ltb most-nodes (1 + r))
+        rw (
+          lt-ltb most-nodes (1 + l + r) (omega arith),
+          le-leb r l (omega arith),
+          le-ltb l r (omega arith),
+          lt-ltb most-nodes (1 + r),
+        )
         (both-off (omega arith) still)
     by-sum (no large) (no smaller) (no enough) =
         rw (

@@ -1,5 +1,4 @@
 -- Cuts of a tree into connected pieces, and the cut that is wanted.
--- Assumes nothing.
 use Prim.Native.Nat.{ℕ, _+_, _≤_}
 use mathlib.Core.Bool.{Bool, true, false, _&&_, _||_}
 use lib.Dec.{leb, ltb}

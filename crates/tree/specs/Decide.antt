@@ -1,5 +1,4 @@
 -- Why a list is good or not, by what the steps of deciding found.
--- Assumes nothing.
 use Prim.Native.Nat.{ℕ, suc, _+_, _*_, _/_, _%_, _≤_, _<_}
 use mathlib.Core.Path.{_≡_, refl, ap, sym, _∙_}
 use mathlib.Core.Bool.{Bool, true, false}
@@ -22,7 +21,17 @@ use Rattle.tree.specs.Records.{encode, labels, piece-count, Good}
 use Rattle.tree.specs.Lengths.{length-encode, length-labels}
 use Rattle.tree.specs.Readback.{Labels-of, labels-of-good, good-unique}
 use Rattle.tree.specs.Pieces.{cut-up, good-small}
-use Rattle.tree.specs.Seats.{Seat, seats, seat-at, left-apart, right-apart, left-piece, left-new, cut-edges, length-seats}
+use Rattle.tree.specs.Seats.{
+  Seat,
+  seats,
+  seat-at,
+  left-apart,
+  right-apart,
+  left-piece,
+  left-new,
+  cut-edges,
+  length-seats,
+}
 use Rattle.tree.specs.Written.{child-number, seat-record, written, encode-written}
 use Rattle.tree.specs.Measured.{Postorder, Measured, Counts-pieces, in-tree, label-is, Slots}
 use Rattle.tree.specs.Recording.{record-of-list, fields-are}
@@ -98,7 +107,8 @@ agrees-none ls list = record { each = λ t e r h. absurd (not-suc-le-zero h) }
 own-record : (t : Tree Leaf) (i : ℕ) → i < nodes t → record-at (encode t) i ≡ seat-record i (seat-at (seats t 0 1) i)
 own-record t i h =
     ap (take record-size) (record-of-list t i h)
-    ∙ take-at (seat-record i (seat-at (seats t 0 1) i)) (drop (record-size * i + record-size) (encode t)) record-size refl
+    ∙ take-at (seat-record i (seat-at (seats t 0 1) i)) (drop (record-size * i + record-size) (encode t))
+    record-size refl
 
 -- the record that the slots and the pieces give at number i, and what its comparison says
 module _ (ls list : List ℕ) (i left right label left-number right-number piece : ℕ) (sizes : List ℕ)
@@ -227,10 +237,12 @@ below-seats : (t : Tree Leaf) (p n : ℕ)
 below-seats (leaf a) p n = refl
 below-seats (catenation s t) p n =
     simp map-append (below-two (left-apart (catenation s t)) (right-apart (catenation s t))
-    (nest s (wanted s)) (nest t (wanted t)) (below-seats s _ _) (below-seats t _ _) (pieces-below-nest s (wanted s)) (pieces-below-nest t (wanted t)))
+    (nest s (wanted s)) (nest t (wanted t)) (below-seats s _ _) (below-seats t _ _)
+    (pieces-below-nest s (wanted s)) (pieces-below-nest t (wanted t)))
 below-seats (union s t) p n =
     simp map-append (below-two (left-apart (union s t)) (right-apart (union s t))
-    (nest s (wanted s)) (nest t (wanted t)) (below-seats s _ _) (below-seats t _ _) (pieces-below-nest s (wanted s)) (pieces-below-nest t (wanted t)))
+    (nest s (wanted s)) (nest t (wanted t)) (below-seats s _ _) (below-seats t _ _)
+    (pieces-below-nest s (wanted s)) (pieces-below-nest t (wanted t)))
 below-seats (star s) p n =
     let b : Bool = cut-only (open-size s) in
     simp map-append (ap (λ (l : List ℕ). l ++ (pieces-below (edge b (nest s (wanted s))) ∷ []))

@@ -1,6 +1,5 @@
 -- Whether labels are those of one tree, by counting: how deep the stack is of the machine that reads a tree from its
 -- labels.
--- Assumes nothing.
 use Prim.Native.Nat.{ℕ, _+_, _-_, _≤_, _<_}
 use mathlib.Core.Path.{_≡_, refl, ap, sym, _∙_}
 use mathlib.Core.Bool.{Bool, true, false}

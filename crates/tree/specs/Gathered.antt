@@ -1,6 +1,5 @@
 -- What a node's numbers are, gathered from its children's: one rule for all four kinds, with 0 for a child that is not
 -- there.
--- Assumes nothing.
 use Prim.Native.Nat.{ℕ, _+_, _≤_, _<_}
 use mathlib.Core.Path.{_≡_, refl, ap, sym}
 use mathlib.Core.Bool.{Bool, true, false, _&&_}

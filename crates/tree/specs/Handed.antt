@@ -1,6 +1,5 @@
 -- How piece numbers come down from the root: which slots are filled when the records from some number on have handed
 -- theirs to their children.
--- Assumes nothing.
 use Prim.Native.Nat.{ℕ, _+_, _*_, _-_, _%_, _≤_, _<_}
 use mathlib.Core.Path.{_≡_, refl, ap, sym, subst, _∙_}
 use mathlib.Core.Logic.{_⊎_, inl, inr, ⊎-elim}

@@ -2,7 +2,6 @@
 -- Of two cuts of a tree the better one cuts fewer edges, or as many and leaves fewer nodes in the root's piece. One
 -- number
 -- tells both, the weight: 15 for each cut edge and 1 for each node of the root's piece, which has 1 to 15 nodes.
--- Assumes nothing.
 use Prim.Native.Nat.{ℕ, _+_, _*_, _≤_, _<_}
 use mathlib.Core.Path.{_≡_, refl}
 use mathlib.Core.Logic.{_↔_}
@@ -62,13 +61,15 @@ adds false s d w h e = omega arith
 
 -- where a child of open size l, at least the other's r, is cut off: its weight or the other's is less than that of any
 -- child that stays, by 15
-larger-off : (k m K P M Q l r : ℕ) → most-nodes < 1 + l + r → r ≤ l → 1 + P + Q ≤ most-nodes → most-nodes * k + l ≤ most-nodes * K + P
+larger-off : (k m K P M Q l r : ℕ) → most-nodes < 1 + l + r → r ≤ l → 1 + P + Q ≤ most-nodes
+    → most-nodes * k + l ≤ most-nodes * K + P
     → most-nodes * m + r ≤ most-nodes * M + Q → most-nodes * (1 + k + m) + r ≤ most-nodes * (K + M) + (P + Q)
 larger-off k m K P M Q l r large larger fits x y = elim (decLt P l) [ yes h ↦ omega arith | no h ↦ omega arith ]
 
 -- at a node with two children the choice is lightest: K and P, M and Q are the cut edges and the nodes that the
 -- children add under another cut
-lightest-of-two : {l r : ℕ} {b c : Bool} (k m K P M Q : ℕ) → Choice l r b c → 1 + P + Q ≤ most-nodes → most-nodes * k + l ≤ most-nodes * K + P
+lightest-of-two : {l r : ℕ} {b c : Bool} (k m K P M Q : ℕ) → Choice l r b c → 1 + P + Q ≤ most-nodes
+    → most-nodes * k + l ≤ most-nodes * K + P
     → most-nodes * m + r ≤ most-nodes * M + Q
     → most-nodes * (one b + k + (one c + m)) + (1 + kept b l + kept c r) ≤ most-nodes * (K + M) + (1 + P + Q)
 lightest-of-two k m K P M Q (neither small) fits x y = omega arith
@@ -79,7 +80,8 @@ lightest-of-two {l} {r} k m K P M Q (right-off large larger small) fits x y =
 lightest-of-two k m K P M Q (both-off large still) fits x y = omega arith
 
 -- at a star the choice is lightest
-lightest-of-one : {n : ℕ} {b : Bool} (k K P : ℕ) → Only-choice n b → 1 + P ≤ most-nodes → most-nodes * k + n ≤ most-nodes * K + P
+lightest-of-one : {n : ℕ} {b : Bool} (k K P : ℕ) → Only-choice n b → 1 + P ≤ most-nodes
+    → most-nodes * k + n ≤ most-nodes * K + P
     → most-nodes * (one b + k) + (1 + kept b n) ≤ most-nodes * K + (1 + P)
 lightest-of-one k K P (stays small) fits x = omega arith
 lightest-of-one k K P (goes-off large) fits x = omega arith

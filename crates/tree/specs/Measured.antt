@@ -1,6 +1,5 @@
 -- What the slots hold when the records up to some number are measured: of each subtree its nodes, its open size and its
 -- cut edges.
--- Assumes nothing.
 use Prim.Native.Nat.{ℕ, _+_, _-_, _%_, _≤_, _<_}
 use mathlib.Core.Path.{_≡_, refl, ap, sym, _∙_}
 use mathlib.Core.Bool.{Bool, true, false, cond, _||_}

@@ -1,5 +1,4 @@
 -- Laws of the pieces of a tree that is cut: how many there are, and that each is small.
--- Assumes nothing.
 use Prim.Native.Nat.{ℕ, _+_, _*_, _≤_}
 use mathlib.Core.Path.{_≡_, refl}
 use mathlib.Core.Bool.{Bool, true, false}
@@ -141,5 +140,6 @@ nodes-of-pieces (nested-star x) h = omega (arith, nodes-of-pieces x h)
 nodes-of-pieces (below x) h = omega (arith, nodes-of-pieces x (h .1), h .0 .few-nodes)
 
 -- where every piece is small there are at most 15 nodes for each
-pub nodes-at-most : {A : Type 0} (x : Nested A) → Every-piece Small x → nodes (whole x) ≤ most-nodes * (1 + pieces-below x)
+pub nodes-at-most : {A : Type 0} (x : Nested A) → Every-piece Small x
+    → nodes (whole x) ≤ most-nodes * (1 + pieces-below x)
 nodes-at-most x h = omega (arith, nodes-of-pieces x (h .1), h .0 .few-nodes)

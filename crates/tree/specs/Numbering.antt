@@ -34,8 +34,8 @@ right-numbers (alone n) = alone n
 right-numbers (above-one n x) = x
 right-numbers (above-two n x y) = y
 
--- the piece of each node of a tree that is cut: the root is in the piece `piece`, and those that a walk first meets below
--- it are numbered from `new`
+-- the piece of each node of a tree that is cut: the root is in the piece `piece`, and those that a walk first meets
+-- below it are numbered from `new`
 abbrev pub numbered : {A : Type 0} (t : Tree A) → Cut t → (piece new : ℕ) → Numbers
 numbered (leaf a) c piece new = alone piece
 numbered (catenation s t) c piece new =

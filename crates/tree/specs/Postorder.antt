@@ -1,6 +1,5 @@
 -- A tree is read back from its labels by a machine with a stack of trees: which lists of labels are those of one tree,
 -- and of which.
--- Assumes nothing.
 use Prim.Native.Nat.{ℕ, _+_, _*_, _/_, _%_}
 use mathlib.Core.Path.{_≡_, refl, sym, ap}
 use mathlib.Core.Logic.{_↔_}

@@ -1,5 +1,4 @@
 -- A tree is read back from its list: two trees with the same list are the same, by the labels that the records show.
--- Assumes nothing.
 use Prim.Native.Nat.{ℕ, _+_, _*_, _<_}
 use mathlib.Core.Path.{_≡_, refl, sym, ap, _∙_}
 use mathlib.Core.List.{List, _++_}

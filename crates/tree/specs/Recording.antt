@@ -1,5 +1,4 @@
 -- Records written one after the other into a lent buffer: what it holds after each, and at the end.
--- Assumes nothing.
 use Prim.Native.Nat.{ℕ, _+_, _*_, _≤_, _<_}
 use mathlib.Core.Path.{_≡_, refl, ap, sym, _∙_}
 use mathlib.Core.List.{List, _++_}
@@ -37,7 +36,8 @@ recorded-unique ls before a b o p q = p .bytes (o .tree) (o .same) ∙ sym (q .b
 
 -- the first i of them
 pub record Written-so-far (ls before after : List ℕ) (i : ℕ) : Type 0 where
-  pub bytes : (t : Tree Leaf) → ls ≡ labels t → after ≡ take (record-size * i) (encode t) ++ drop (record-size * i) before
+  pub bytes : (t : Tree Leaf) → ls ≡ labels t
+      → after ≡ take (record-size * i) (encode t) ++ drop (record-size * i) before
 
 -- none yet
 pub written-none : (ls before : List ℕ) → Written-so-far ls before before 0
@@ -55,7 +55,8 @@ written-all ls before after s = record { bytes = λ t e. by-tree t (ap length e 
 
 -- record i of a tree's list
 pub record-of-list : (t : Tree Leaf) (i : ℕ) → i < nodes t
-    → drop (record-size * i) (encode t) ≡ seat-record i (seat-at (seats t 0 1) i) ++ drop (record-size * i + record-size) (encode t)
+    → drop (record-size * i) (encode t)
+    ≡ seat-record i (seat-at (seats t 0 1) i) ++ drop (record-size * i + record-size) (encode t)
 record-of-list t i h =
     let s : List Seat = seats t 0 1 in
     let e : encode t ≡ written 0 s = encode-written t in
@@ -66,7 +67,8 @@ record-of-list t i h =
 -- a list that agrees with another up to k, with one record more put in
 one-more : (list before part : List ℕ) (k : ℕ) → length part ≡ record-size → k ≤ length list
     → drop k list ≡ part ++ drop (k + record-size) list
-    → take k (take k list ++ drop k before) ++ part ++ drop (k + record-size) (take k list ++ drop k before) ≡ take (k + record-size) list
+    → take k (take k list ++ drop k before) ++ part ++ drop (k + record-size) (take k list ++ drop k before)
+    ≡ take (k + record-size) list
     ++ drop (k + record-size) before
 one-more list before part k whole inside next =
     let front : length (take k list) ≡ k = length-take-le k list inside in

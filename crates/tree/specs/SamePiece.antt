@@ -1,5 +1,4 @@
 -- Two nodes have the same piece number exactly when no cut edge lies between them.
--- Assumes nothing.
 use Prim.Native.Nat.{ℕ, _+_, _≤_, _<_}
 use mathlib.Core.Path.{_≡_, refl, sym, _∙_}
 use mathlib.Core.Logic.{_↔_}

@@ -2,7 +2,6 @@
 -- A tree's seats stand in the order of its records. A slot is a record's number plus 1, and slot 0 stands for a child
 -- that is not there:
 -- so a star is a pair without a right child, a character a pair without any, and one rule serves all four kinds.
--- Assumes nothing.
 use Prim.Native.Nat.{ℕ, zero, suc, _+_, _*_, _-_, _%_, _≤_, _<_}
 use mathlib.Core.Path.{_≡_, refl, ap, sym, _∙_}
 use mathlib.Core.Bool.{Bool, false, cond, _||_}

@@ -15,8 +15,8 @@ use Rattle.tree.specs.Numbering.{Numbers, alone, above-one, above-two}
 use Rattle.tree.specs.Records.{records}
 use Rattle.tree.specs.Parts.{pieces-below}
 
--- the piece of each node of x's tree: x's top piece is `piece`, and the pieces below it are numbered from `new`, a piece
--- before those below it
+-- the piece of each node of x's tree: x's top piece is `piece`, and the pieces below it are numbered from `new`, a
+-- piece before those below it
 abbrev pub piece-numbers : {A : Type 0} → Nested A → (piece new : ℕ) → Numbers
 piece-numbers (nested-leaf a) piece new = alone piece
 piece-numbers (nested-catenation x y) piece new =

@@ -137,8 +137,8 @@ pub walk-meets-in-order : {A : Type 0} (t : Tree A) (c : Cut t) (first : ℕ)
     → firsts [] (in-walk (numbered t c first (1 + first))) ≡ upwards first (pieces t c)
 walk-meets-in-order t c first =
     let all : Climbing first 0 (in-walk (numbered t c first (1 + first)) ++ []) (pieces t c) =
-    climbing t c first 0 first (1 + first) 1 (pieces t c) [] (pieces t c) (now (omega arith) (omega arith) (omega arith))
-    refl done in
+    climbing t c first 0 first (1 + first) 1 (pieces t c) [] (pieces t c)
+    (now (omega arith) (omega arith) (omega arith)) refl done in
     let from-first : first + 0 ≡ first = omega arith in
     let all-of-them : pieces t c - 0 ≡ pieces t c = omega arith in
     rw (from-first, all-of-them) at (firsts-climbing [] (none-met first) (rw append-nil at all))

@@ -1,5 +1,4 @@
 -- The records of a tree, one after the other, from its seats; and that their numbers are small.
--- Assumes nothing.
 use Prim.Native.Nat.{ℕ, zero, suc, _+_, _*_, _-_, _%_, _/_, _≤_, _<_}
 use mathlib.Core.Path.{_≡_, refl, ap, sym, subst, _∙_}
 use mathlib.Core.Bool.{Bool, true, false, cond}
@@ -141,7 +140,8 @@ writes (union s t) first p n =
     (record { so = pair-record union-kind p first (nodes s) (nodes t) (nodes-positive s) })
 writes (star s) first p n =
     let e = length-seats s in
-    subst (λ (b : Bool). Writes (seats (star s) p n) first (records s (numbered s (wanted s) (child-piece b p n) (one b + n)) first
+    subst (λ (b : Bool). Writes (seats (star s) p n) first
+    (records s (numbered s (wanted s) (child-piece b p n) (one b + n)) first
     ++ record-of star-kind 0 (first + nodes s - 1) no-child p))
     (only-left (open-size s))
     (writes-append (first + nodes s) (simp e) (writes s first _ _)
@@ -164,11 +164,13 @@ drop-written i j [] h = absurd (not-suc-le-zero h)
 drop-written i zero (x ∷ xs) h = rw (add-zero i)
 drop-written i (suc j) (x ∷ xs) h =
     let rest : List ℕ = written (suc i) xs in
-    let past : (k : ℕ) → drop (record-size + k) (seat-record i x ++ rest) ≡ drop k rest = drop-append-add (seat-record i x) rest in
+    let past : (k : ℕ) → drop (record-size + k) (seat-record i x ++ rest) ≡ drop k rest =
+    drop-append-add (seat-record i x) rest in
     let here : record-size * suc j ≡ record-size + record-size * j = omega arith in
     let next : record-size * suc j + record-size ≡ record-size + (record-size * j + record-size) = omega arith in
     let number : suc i + j ≡ i + suc j = omega arith in
-    ap (λ (k : ℕ). drop k (seat-record i x ++ rest)) here ∙ past (record-size * j) ∙ drop-written (suc i) j xs (le-of-suc-le-suc h)
+    ap (λ (k : ℕ). drop k (seat-record i x ++ rest)) here ∙ past (record-size * j)
+    ∙ drop-written (suc i) j xs (le-of-suc-le-suc h)
     ∙ ap (λ (k : ℕ). seat-record k (seat-at xs j) ++ drop (record-size * j + record-size) rest) number
     ∙ ap (λ (l : List ℕ). seat-record (i + suc j) (seat-at xs j) ++ l)
     (sym (ap (λ (k : ℕ). drop k (seat-record i x ++ rest)) next ∙ past (record-size * j + record-size)))

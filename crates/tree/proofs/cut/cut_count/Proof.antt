@@ -1,6 +1,5 @@
 -- `tree::cut::cut_count` meets its contract: the sum is that of `cut-sum`, and small, since an edge counts for at most
 -- 1.
--- Assumes nothing.
 use native.Mathlib.Omega.{arith}
 use Rattle.tree.specs.Gathered.{one-le}
 use borrow.Author.Needs.{needs}

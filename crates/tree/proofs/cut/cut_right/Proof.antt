@@ -1,5 +1,4 @@
 -- `tree::cut::cut_right` meets its contract: each return is the test of `cut-right`, computed by the branches taken.
--- Assumes nothing.
 use Prim.Native.Nat.{_+_}
 use native.Mathlib.Omega.{arith}
 use borrow.Author.Tests.{lt-ltb, le-ltb}

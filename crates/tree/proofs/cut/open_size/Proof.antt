@@ -1,6 +1,5 @@
 -- `tree::cut::open_size` meets its contract: the sum is that of `open-sum`, and small, since a child adds at most its
 -- own open size.
--- Assumes nothing.
 use native.Mathlib.Omega.{arith}
 use Rattle.tree.specs.Gathered.{kept-le}
 use borrow.Author.Needs.{needs}

@@ -2,7 +2,6 @@
 -- to their children.
 -- A turn hands on those of record `i - 1`, which its own slot holds; that a tree has these labels bounds them all. The
 -- measure is `i`.
--- Assumes nothing.
 use Prim.Native.Nat.{_≤_, _-_}
 use mathlib.Core.Path.{_≡_, ap}
 use native.Mathlib.Omega.{arith}

@@ -3,7 +3,6 @@
 -- slots, which the invariant speaks of, and the laws of the specs gather the record's own numbers from theirs; that a
 -- tree has these
 -- labels bounds them all. The measure is what is left of the labels.
--- Assumes nothing.
 use Prim.Native.Nat.{ℕ, _+_, _≤_, _-_}
 use mathlib.Core.Path.{_≡_, _∙_}
 use native.Mathlib.Omega.{arith}

@@ -1,5 +1,4 @@
 -- `tree::order::depth_with` meets its contract: each return is what the label asks for, computed by the branches taken.
--- Assumes nothing.
 use mathlib.Core.Path.{_∙_}
 use borrow.Author.Tests.{eq-eqb, ne-eqb}
 use borrow.Author.Needs.{needs}

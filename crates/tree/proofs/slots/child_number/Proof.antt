@@ -1,5 +1,4 @@
 -- `tree::slots::child_number` meets its contract: each return is the test of `child-number`, computed by the branch taken.
--- Assumes nothing.
 use borrow.Author.Tests.{eq-eqb, ne-eqb}
 use borrow.Author.Needs.{needs}
 use Rattle.tree.proofs.slots.child_number.Statement.{statement}

@@ -1,5 +1,4 @@
 -- `tree::slots::left_slot` meets its contract: each return is the test of `left-slot`, computed by the branch taken.
--- Assumes nothing.
 use native.Mathlib.Omega.{arith}
 use borrow.Author.Tests.{eq-eqb, ne-eqb}
 use borrow.Author.Needs.{needs}

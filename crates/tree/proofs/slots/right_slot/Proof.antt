@@ -1,5 +1,4 @@
 -- `tree::slots::right_slot` meets its contract: each return is the test of `right-slot`, computed by the branches taken.
--- Assumes nothing.
 use native.Mathlib.Omega.{arith}
 use borrow.Author.Tests.{eq-eqb, ne-eqb}
 use Rattle.tree.proofs.slots.right_slot.Statement.{statement}

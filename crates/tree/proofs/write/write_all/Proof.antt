@@ -2,7 +2,6 @@
 -- past them. A turn puts
 -- in record `i`, whose four numbers the label, the children's slots and the piece give. The measure is what is left of
 -- the labels.
--- Assumes nothing.
 use Prim.Native.Nat.{_+_, _≤_, _-_}
 use mathlib.Core.Path.{_≡_, refl, _∙_}
 use native.Mathlib.Omega.{arith}
