@@ -33,7 +33,8 @@ use Rattle.tree.specs.Seats.{
   length-seats,
 }
 use Rattle.tree.specs.Written.{child-number, seat-record, written, encode-written}
-use Rattle.tree.specs.Measured.{Postorder, Measured, Counts-pieces, in-tree, label-is, Slots}
+use Rattle.tree.specs.Measured.{Postorder, Measured, Counts-pieces}
+use Rattle.tree.specs.MeasuredLaws.{in-tree, label-is, Slots}
 use Rattle.tree.specs.Recording.{record-of-list, fields-are}
 use Rattle.tree.specs.Saying.{true-false}
 use Rattle.tree.specs.Judged.{Judged, Counts-below}

@@ -28,7 +28,9 @@ pub mod Seats
 pub mod Gathered
 pub mod Written
 pub mod Measured
+pub mod MeasuredLaws
 pub mod Handed
+pub mod HandedLaws
 pub mod Recording
 pub mod Readback
 pub mod NumbersShown

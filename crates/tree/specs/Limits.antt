@@ -1,5 +1,5 @@
 -- The limits, by their names.
-use Prim.Native.Nat.{ℕ, _+_, _*_}
+use Prim.Native.Nat.{ℕ}
 
 -- how many nodes a piece has at most
 abbrev pub most-nodes : ℕ

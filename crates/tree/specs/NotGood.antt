@@ -1,5 +1,5 @@
 -- Lists that are not good whatever they hold: one of no bytes, and one whose length is no multiple of a record's.
-use Prim.Native.Nat.{ℕ, _*_, _%_}
+use Prim.Native.Nat.{ℕ, _%_}
 use mathlib.Core.Path.{_≡_}
 use mathlib.Core.List.{List, []}
 use native.Mathlib.Omega.{arith}

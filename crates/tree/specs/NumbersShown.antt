@@ -1,9 +1,9 @@
 -- A good list shows in its records the piece of each node.
 use Prim.Native.Nat.{ℕ, _+_, _*_, _<_}
 use mathlib.Core.Path.{_≡_, refl, sym, ap, _∙_}
-use mathlib.Core.List.{List, _++_, map, map-append}
+use mathlib.Core.List.{List, map, map-append}
 use native.Mathlib.Omega.{arith}
-use lib.ListN.{length, getD, drop}
+use lib.ListN.{getD}
 use Rattle.language.specs.Tree.{Tree, leaf, catenation, union, star, nodes}
 use Rattle.tree.specs.Leaf.{Leaf}
 use Rattle.tree.specs.Layout.{record-size, piece-at}

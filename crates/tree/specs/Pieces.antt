@@ -1,6 +1,6 @@
 -- The tree of a good list, cut as wanted, is as stated.
 use Prim.Native.Nat.{ℕ, _+_, _*_, _≤_}
-use mathlib.Core.Path.{_≡_, sym, ap, _∙_}
+use mathlib.Core.Path.{sym, ap, _∙_}
 use mathlib.Core.List.{List}
 use native.Mathlib.Omega.{arith}
 use Rattle.language.specs.Tree.{Tree, nodes}

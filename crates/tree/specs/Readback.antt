@@ -14,7 +14,8 @@ use Rattle.tree.specs.Lengths.{length-encode, length-labels}
 use Rattle.tree.specs.Postorder.{labels-injective}
 use Rattle.tree.specs.Seats.{seats, seat-at, root-label}
 use Rattle.tree.specs.Written.{root-kind, root-character, seat-record}
-use Rattle.tree.specs.Measured.{node, label-is}
+use Rattle.tree.specs.Measured.{node}
+use Rattle.tree.specs.MeasuredLaws.{label-is}
 use Rattle.tree.specs.Recording.{record-of-list}
 
 -- these are the labels that the records of a list show

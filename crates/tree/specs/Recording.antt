@@ -24,7 +24,8 @@ use Rattle.tree.specs.Seats.{
   length-seats,
 }
 use Rattle.tree.specs.Written.{seat-record, child-number, written, encode-written, drop-written, label-bytes}
-use Rattle.tree.specs.Measured.{Postorder, node, in-tree, label-is, Slots}
+use Rattle.tree.specs.Measured.{Postorder, node}
+use Rattle.tree.specs.MeasuredLaws.{in-tree, label-is, Slots}
 
 -- the records of the tree with these labels, and what stood there before past them
 pub record Recorded (ls before after : List ℕ) : Type 0 where

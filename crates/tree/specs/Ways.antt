@@ -1,7 +1,7 @@
 -- Nodes of a tree by the way down to them, and when no cut edge lies between two of them.
 use Prim.Native.Nat.{ℕ}
 use mathlib.Core.Path.{_≡_}
-use mathlib.Core.Bool.{Bool, false}
+use mathlib.Core.Bool.{false}
 use Rattle.language.specs.Tree.{Tree, leaf, catenation, union, star}
 use Rattle.tree.specs.Cut.{Cut}
 use Rattle.tree.specs.Numbering.{Numbers, alone, above-one, above-two}

@@ -1,7 +1,7 @@
 -- `tree::good::take_labels` meets its contract. The loop's invariant: the first `i` labels are those that the first `i`
 -- records show. The measure is what is left of the labels.
 use Prim.Native.Nat.{_≤_, _-_}
-use mathlib.Core.Path.{_≡_, refl, ap, _∙_}
+use mathlib.Core.Path.{_≡_, refl, _∙_}
 use native.Mathlib.Omega.{arith}
 use lib.ListN.{length, length-set}
 use Rattle.tree.specs.Layout.{label-of}

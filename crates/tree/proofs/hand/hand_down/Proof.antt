@@ -7,8 +7,9 @@ use mathlib.Core.Path.{_≡_, ap}
 use native.Mathlib.Omega.{arith}
 use lib.ListN.{length, length-set}
 use Rattle.tree.specs.Cut.{one}
-use Rattle.tree.specs.Measured.{right-size-le, measured-less}
-use Rattle.tree.specs.Handed.{Handed, handed-none, handed-all, Turn-small, turn-small, turn-stored}
+use Rattle.tree.specs.MeasuredLaws.{right-size-le, measured-less}
+use Rattle.tree.specs.Handed.{Handed}
+use Rattle.tree.specs.HandedLaws.{handed-none, handed-all, Turn-small, turn-small, turn-stored}
 use Rattle.tree.proofs.hand.hand_down.Statement.{statement}
 use Rattle.tree.proofs.hand.hand_down.Tie as tie
 use Rattle.tree.proofs.hand.hand_down.Reads as reads

@@ -1,5 +1,4 @@
 -- `tree::layout::write_number` meets its contract: two stores, side by side, of the low and the high byte.
-use mathlib.Core.Path.{_≡_, ap, _∙_}
 use native.Mathlib.Numerals.{add-one}
 use native.Mathlib.Omega.{arith}
 use lib.ListN.{length-set}

@@ -3,24 +3,15 @@
 -- slots, which the invariant speaks of, and the laws of the specs gather the record's own numbers from theirs; that a
 -- tree has these
 -- labels bounds them all. The measure is what is left of the labels.
-use Prim.Native.Nat.{ℕ, _+_, _≤_, _-_}
+use Prim.Native.Nat.{_+_, _≤_, _-_}
 use mathlib.Core.Path.{_≡_, _∙_}
 use native.Mathlib.Omega.{arith}
 use lib.ListN.{length, getD}
 use Rattle.language.specs.Tree.{Tree}
 use Rattle.tree.specs.Leaf.{Leaf}
 use Rattle.tree.specs.Records.{labels}
-use Rattle.tree.specs.Measured.{
-  Room-to-measure,
-  Measured,
-  Gathered,
-  gathered,
-  children,
-  right-size-le,
-  room-stays,
-  measured-none,
-  measured-more,
-}
+use Rattle.tree.specs.Measured.{Room-to-measure, Measured}
+use Rattle.tree.specs.MeasuredLaws.{Gathered, gathered, children, right-size-le, room-stays, measured-none, measured-more}
 use Rattle.tree.proofs.measure.measure.Statement.{statement}
 use Rattle.tree.proofs.measure.measure.Tie as tie
 use Rattle.tree.proofs.measure.measure.Reads as reads

@@ -1,7 +1,7 @@
 -- `tree::number::piece_count` meets its contract: the root's slot holds the cut edges of the whole tree, fewer than
 -- there are labels.
 use native.Mathlib.Omega.{arith}
-use Rattle.tree.specs.Measured.{counted-all, root-cuts-lt}
+use Rattle.tree.specs.MeasuredLaws.{counted-all, root-cuts-lt}
 use borrow.Author.Needs.{needs}
 use Rattle.tree.proofs.number.piece_count.Statement.{statement}
 use Rattle.tree.proofs.number.piece_count.Tie as tie

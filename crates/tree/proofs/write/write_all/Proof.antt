@@ -6,7 +6,7 @@ use Prim.Native.Nat.{_+_, _≤_, _-_}
 use mathlib.Core.Path.{_≡_, refl, _∙_}
 use native.Mathlib.Omega.{arith}
 use lib.ListN.{length, getD}
-use Rattle.tree.specs.Measured.{right-size-le, holds-less, slots, in-tree}
+use Rattle.tree.specs.MeasuredLaws.{right-size-le, holds-less, slots, in-tree}
 use Rattle.tree.specs.Recording.{Written-so-far, written-none, written-more, written-all}
 use Rattle.tree.proofs.write.write_all.Statement.{statement}
 use Rattle.tree.proofs.write.write_all.Tie as tie
