@@ -15,8 +15,7 @@ abbrev pub size-of : Seat → ℕ
 size-of x = nodes (x .tree)
 
 -- slot m waits when the records from number i on have handed on their numbers: it is slot i, the last that is left, or
--- it waits
--- before all that stands under slot i
+-- it waits before all that stands under slot i
 pub data Waits (xs : List Seat) : ℕ → ℕ → Type 0 where
   here : {i m : ℕ} → 1 ≤ m → m ≡ i → Waits xs i m
   before : {i m : ℕ} → 1 ≤ i → Waits xs (i - held size-of xs i) m → Waits xs i m

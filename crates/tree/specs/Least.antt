@@ -1,6 +1,5 @@
--- The wanted cut has pieces of at most 15 nodes, and no cut that does has fewer pieces: over all sets of cut edges.
--- Of two cuts of a tree the better one cuts fewer edges, or as many and leaves fewer nodes in the root's piece. One
--- number
+-- The wanted cut has pieces of at most 15 nodes, and no cut that does has fewer pieces: over all sets of cut edges. Of
+-- two cuts of a tree the better one cuts fewer edges, or as many and leaves fewer nodes in the root's piece. One number
 -- tells both, the weight: 15 for each cut edge and 1 for each node of the root's piece, which has 1 to 15 nodes.
 use Prim.Native.Nat.{ℕ, _+_, _*_, _≤_, _<_}
 use mathlib.Core.Path.{_≡_, refl}

@@ -51,9 +51,8 @@ pub holds-none : (f : Tree Leaf → ℕ) (t : Tree Leaf) (slots : List ℕ) → 
 holds-none f t slots e = record { slot = λ j h. let z : j ≡ 0 = omega arith in rw z e }
 
 -- one record more
-pub holds-more : (f : Tree Leaf → ℕ) (t : Tree Leaf) (i : ℕ) (slots : List ℕ) (v : ℕ) → Slots-hold f t i slots → i < nodes t
-    → i + 1 < length slots → v ≡ f (node t i)
-    → Slots-hold f t (i + 1) (set slots (i + 1) v)
+pub holds-more : (f : Tree Leaf → ℕ) (t : Tree Leaf) (i : ℕ) (slots : List ℕ) (v : ℕ) → Slots-hold f t i slots
+    → i < nodes t → i + 1 < length slots → v ≡ f (node t i) → Slots-hold f t (i + 1) (set slots (i + 1) v)
 holds-more f t i slots v w h k e = record { slot = λ j l. by-place j l (decLe j i) }
   where
     by-place : (j : ℕ) → j ≤ i + 1 → Dec (j ≤ i) → getD (set slots (i + 1) v) j 0

@@ -130,9 +130,8 @@ climbing (union s t) c = counts-two (c .0) (c .2) (numbered s (c .1)) (numbered 
 climbing (star s) c = counts-one (c .0) (numbered s (c .1)) _ (climbing s (c .1))
 
 -- a walk first meets the pieces in the order of their numbers. Where a subtree's root is in the piece `first` and the
--- edge above it is cut,
--- the walk through it meets the numbers first, first + 1, .. of its pieces in this order, with no gap; for the whole
--- tree `first` is 0
+-- edge above it is cut, the walk through it meets the numbers first, first + 1, .. of its pieces in this order, with no
+-- gap; for the whole tree `first` is 0
 pub walk-meets-in-order : {A : Type 0} (t : Tree A) (c : Cut t) (first : ℕ)
     → firsts [] (in-walk (numbered t c first (1 + first))) ≡ upwards first (pieces t c)
 walk-meets-in-order t c first =

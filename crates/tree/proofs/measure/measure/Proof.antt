@@ -1,8 +1,6 @@
 -- `tree::measure::measure` meets its contract. The loop's invariant: the records below `i` are measured. A turn reads
--- the children's
--- slots, which the invariant speaks of, and the laws of the specs gather the record's own numbers from theirs; that a
--- tree has these
--- labels bounds them all. The measure is what is left of the labels.
+-- the children's slots, which the invariant speaks of, and the laws of the specs gather the record's own numbers from
+-- theirs; that a tree has these labels bounds them all. The measure is what is left of the labels.
 use Prim.Native.Nat.{_+_, _≤_, _-_}
 use mathlib.Core.Path.{_≡_, _∙_}
 use native.Mathlib.Omega.{arith}

@@ -1,6 +1,5 @@
 -- `tree::order::one_tree` meets its contract. The loop's invariant: the machine that reads a tree from its labels has
--- read the first `i`, and
--- its stack is `depth` deep. The measure is what is left of the labels.
+-- read the first `i`, and its stack is `depth` deep. The measure is what is left of the labels.
 use Prim.Native.Nat.{ℕ, _≤_, _<_, _-_}
 use mathlib.Core.Path.{_≡_, sym, _∙_}
 use native.Mathlib.Omega.{arith}

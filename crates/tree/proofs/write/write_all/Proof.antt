@@ -1,7 +1,6 @@
 -- `tree::write::write_all` meets its contract. The loop's invariant: the first `i` records are written, and nothing
--- past them. A turn puts
--- in record `i`, whose four numbers the label, the children's slots and the piece give. The measure is what is left of
--- the labels.
+-- past them. A turn puts in record `i`, whose four numbers the label, the children's slots and the piece give. The
+-- measure is what is left of the labels.
 use Prim.Native.Nat.{_+_, _≤_, _-_}
 use mathlib.Core.Path.{_≡_, refl, _∙_}
 use native.Mathlib.Omega.{arith}
