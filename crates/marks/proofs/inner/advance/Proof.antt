@@ -3,6 +3,7 @@
 -- simulation. Assumes nothing.
 use native.Mathlib.Omega.{arith}
 use Rattle.marks.specs.Inner.{moved-closable, top-low, advanced}
+use Rattle.marks.specs.Texts.{all-words}
 use borrow.Author.Needs.{needs}
 use Rattle.marks.proofs.inner.advance.Statement.{statement}
 use Rattle.marks.proofs.inner.advance.Tie as tie
@@ -43,7 +44,7 @@ cast-top : tie.Need-cast-top
 cast-top c = omega (arith, c .shared-slice-known6 .given 0)
 
 slice-read-has-bit : tie.Need-slice-read-has-bit
-slice-read-has-bit c = search needs
+slice-read-has-bit c = search (needs, all-words (entry (moved (closed c .before)) .pre .ready .of-tree .0))
 
 has-bit-requires : tie.Need-has-bit-requires
 has-bit-requires c κs = top-low (entry (moved (closed c .before)) .pre .ready .of-tree .1)

@@ -4,6 +4,7 @@
 use native.Mathlib.Omega.{arith}
 use Rattle.tree.specs.Pieces.{cut-up}
 use Rattle.marks.specs.Inner.{begins, begins-marked, start-closable, top-low, begun}
+use Rattle.marks.specs.Texts.{all-words}
 use borrow.Author.Needs.{needs}
 use Rattle.marks.proofs.inner.begin.Statement.{statement}
 use Rattle.marks.proofs.inner.begin.Tie as tie
@@ -45,7 +46,7 @@ cast-top : tie.Need-cast-top
 cast-top c = omega (arith, c .shared-slice-known6 .given 0)
 
 slice-read-has-bit : tie.Need-slice-read-has-bit
-slice-read-has-bit c = search needs
+slice-read-has-bit c = search (needs, all-words (entry (closed (copied c)) .pre .0 .of-tree .0))
 
 has-bit-requires : tie.Need-has-bit-requires
 has-bit-requires c κs = top-low (entry (closed (copied c)) .pre .0 .of-tree .1)
