@@ -9,6 +9,8 @@ use borrow.Author.Tests.{ltb-false}
 use Rattle.language.specs.Tree.{Tree, nodes}
 use Rattle.language.specs.Automaton.{States}
 use Rattle.tree.specs.Leaf.{Leaf}
+use Rattle.tree.specs.Layout.{record-size}
+use Rattle.tree.specs.Limits.{longest-expression, most-records, most-pieces, longest-text}
 use Rattle.tree.specs.Records.{piece-count}
 use Rattle.tree.specs.Pieces.{nodes-per-piece}
 use Rattle.reader.specs.Scanner.{Outcome, tree, refused, scanned}
@@ -44,6 +46,7 @@ use Rattle.finder.specs.Promise.{
 use Rattle.finder.specs.Decide.{matches}
 use Rattle.picker.specs.declared.Picked.{Picked}
 use Rattle.picker.specs.declared.Picked.the-variants.{Written, NoRoom}
+use Rattle.picker.specs.Limits.{most-output}
 use Rattle.picker.specs.Room.{output-length}
 use Rattle.picker.specs.Promise.{Picks}
 use Rattle.foamlattice.specs.Packed.{packed, Ranges, Unpacks}
@@ -72,12 +75,12 @@ unpacks r number flag x y h e = record {
 -- the numbers that reading can answer
 pub record Read-ranges (n : Numbers) : Type 0 where
   pub refusal-small : n .refusal ≤ 9
-  pub place-small : n .place ≤ 1024
-  pub records-small : n .records ≤ 1920
-  pub pieces-small : n .pieces ≤ 128
+  pub place-small : n .place ≤ longest-expression
+  pub records-small : n .records ≤ most-records
+  pub pieces-small : n .pieces ≤ most-pieces
 
 -- by the two tests of an expression that is read: the records have at most 15 nodes for each of at most 128 pieces
-picked-ranges : (t : Tree Leaf) (many short : Bool) → ltb 128 (piece-count t) ≡ many
+picked-ranges : (t : Tree Leaf) (many short : Bool) → ltb most-pieces (piece-count t) ≡ many
     → Read-ranges (cond many (refusing 8 0) (cond short (refusing 9 0) (reading t)))
 picked-ranges t true short e = record {
   refusal-small = omega arith;
@@ -94,7 +97,7 @@ picked-ranges t false true e = record {
   pieces-small = omega arith;
 }
 picked-ranges t false false e =
-    let few : piece-count t ≤ 128 = ltb-false 128 (piece-count t) e in
+    let few : piece-count t ≤ most-pieces = ltb-false most-pieces (piece-count t) e in
     record {
       refusal-small = omega arith;
       place-small = omega arith;
@@ -113,7 +116,7 @@ outcome-ranges bytes room (refused number place) e =
       records-small = omega arith;
       pieces-small = omega arith;
     }
-outcome-ranges bytes room (tree t) e = picked-ranges t (ltb 128 (piece-count t)) (ltb room (8 * nodes t)) refl
+outcome-ranges bytes room (tree t) e = picked-ranges t (ltb most-pieces (piece-count t)) (ltb room (record-size * nodes t)) refl
 
 -- what is answered for any bytes and any buffer
 pub answered-ranges : (bytes : List ℕ) (room : ℕ) → Read-ranges (answered bytes room)
@@ -126,8 +129,8 @@ read-ranges bytes room n e = rw e (answered-ranges bytes room)
 -- the numbers that match and search can give back: a part found lies in a text of at most 65,536 bytes
 pub record Found-ranges (n : Found-numbers) : Type 0 where
   pub refusal-small : n .refusal ≤ 11
-  pub x-small : n .place + n .start ≤ 65536
-  pub y-small : n .end ≤ 65536
+  pub x-small : n .place + n .start ≤ longest-text
+  pub y-small : n .end ≤ longest-text
 
 refused-ranges : {list text : List ℕ} {number : ℕ} → Refuses list text number → number ≤ 11
 refused-ranges (not-good why) = omega arith
@@ -184,7 +187,7 @@ step-ranges (stepped s) = made-marks (s .made)
 
 -- an output has at most 1,048,575 bytes
 pub pick-length-small : (input before after : List ℕ) (answer : Picked) → Picks input before after answer
-    → pick-length answer ≤ 1048575
+    → pick-length answer ≤ most-output
 pick-length-small input before after (Written size) right = omega (arith, right .sized, output-length matches input)
 pick-length-small input before after NoRoom right = omega arith
 
@@ -205,7 +208,8 @@ pick-small (Written size) = small 0 1 (omega arith) (omega arith)
 pick-small NoRoom = small 0 0 (omega arith) (omega arith)
 
 -- a small number and flag are in range beside x and y of at most 1,048,575
-case-unpacks : (r number flag x y : ℕ) → Small-case number flag → x ≤ 1048575 → y ≤ 1048575 → r ≡ packed number flag x y
+case-unpacks : (r number flag x y : ℕ) → Small-case number flag → x ≤ most-output → y ≤ most-output
+    → r ≡ packed number flag x y
     → Unpacks r number flag x y
 case-unpacks r number flag x y h k l e =
     unpacks r number flag x y

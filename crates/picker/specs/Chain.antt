@@ -10,6 +10,7 @@ use lib.ListN.{length, take}
 use Rattle.language.specs.Tree.{Tree}
 use Rattle.tree.specs.Leaf.{Leaf, Matches}
 use Rattle.tree.specs.Readback.{good-unique}
+use Rattle.tree.specs.Limits.{longest-text}
 use Rattle.reader.specs.Grammar.{Written}
 use Rattle.reader.specs.Agree.{scanned-exactly, grammar-unique}
 use Rattle.reader.specs.Answer.{numbers, answered, records-after}
@@ -63,7 +64,7 @@ module _ {bytes before after : List ℕ} {records pieces : ℕ} (accepted : Acce
 
     -- the records that were written are a good list, so what is answered of the list is answered of the tree
     of-read : (text : List ℕ) (P : Tree Leaf → Type 0) → Of-good (take (8 * records) after) text P
-        ↔ ((length text ≤ 65536) × P (held .read))
+        ↔ ((length text ≤ longest-text) × P (held .read))
     of-read text P = (
       λ o. (
         o .short,
@@ -77,7 +78,7 @@ module _ {bytes before after : List ℕ} {records pieces : ℕ} (accepted : Acce
       -- match answers yes or no exactly when the text has at most 65,536 bytes and is in the expression's language or
       -- not
       pub read-then-match : (matched : Bool) → Match-answers (take (8 * records) after) text (answering matched)
-          ↔ ((length text ≤ 65536) × ((matched ≡ true) ↔ In-expression bytes text))
+          ↔ ((length text ≤ longest-text) × ((matched ≡ true) ↔ In-expression bytes text))
       read-then-match matched =
           Iff·trans (match-exactly _ text matched)
           (Iff·trans (of-read text (λ t. (matched ≡ true) ↔ Matches t text))
@@ -88,7 +89,7 @@ module _ {bytes before after : List ℕ} {records pieces : ℕ} (accepted : Acce
 
       -- search finds the part that starts earliest and then ends furthest, of those in the language of the expression
       pub read-then-search : (s e : ℕ) → Search-answers (take (8 * records) after) text (finding s e)
-          ↔ ((length text ≤ 65536) × Found (In-expression bytes) text s e)
+          ↔ ((length text ≤ longest-text) × Found (In-expression bytes) text s e)
       read-then-search s e =
           Iff·trans (search-found-exactly _ text s e)
           (Iff·trans (of-read text (λ t. Found (Matches t) text s e))
@@ -96,7 +97,7 @@ module _ {bytes before after : List ℕ} {records pieces : ℕ} (accepted : Acce
 
       -- and nothing exactly when no part is
       pub read-then-nothing : Search-answers (take (8 * records) after) text (answering false)
-          ↔ ((length text ≤ 65536) × Nothing-found (In-expression bytes) text)
+          ↔ ((length text ≤ longest-text) × Nothing-found (In-expression bytes) text)
       read-then-nothing =
           Iff·trans (search-nothing-exactly _ text)
           (Iff·trans (of-read text (λ t. Nothing-found (Matches t) text))

@@ -11,6 +11,7 @@ use borrow.Author.Tests.{eqb-true, le-ltb, ltb-false}
 use native.Mathlib.Omega.{arith}
 use Rattle.language.specs.Tree.{Tree, nodes}
 use Rattle.tree.specs.Leaf.{Leaf, Matches}
+use Rattle.tree.specs.Limits.{longest-text, most-pieces}
 use Rattle.tree.specs.Records.{Good, piece-count}
 use Rattle.tree.specs.Pieces.{cut-up}
 use Rattle.reader.specs.Text.{bytes}
@@ -159,7 +160,7 @@ is-refusal number place (refused n p) = also (eqb n number) (eqb p place)
 
 -- whether an outcome is a tree of few pieces that passes a test
 unfoldable is-tree : (Tree Leaf → Bool) → Outcome → Bool
-is-tree test (tree t) = also (Bool·beq (ltb 128 (piece-count t)) false) (test t)
+is-tree test (tree t) = also (Bool·beq (ltb most-pieces (piece-count t)) false) (test t)
 is-tree test (refused n p) = false
 
 -- whether two answers of search are the same
@@ -189,11 +190,11 @@ row-test (reads expression records pieces) = is-tree (λ t. also (eqb (nodes t) 
 row-test (marks expression start steps) =
     is-tree (λ t. also (left-test t [] start) (steps-test t [] steps)) (scanned expression)
 row-test (answers expression text answer) =
-    is-tree (λ t. also (Bool·beq (ltb 65536 (length text)) false) (Bool·beq (matches t text) answer))
+    is-tree (λ t. also (Bool·beq (ltb longest-text (length text)) false) (Bool·beq (matches t text) answer))
     (scanned expression)
 row-test (finds expression text answer) =
     is-tree
-    (λ t. also (Bool·beq (ltb 65536 (length text)) false) (same-answer (searched (matches t) text) answer))
+    (λ t. also (Bool·beq (ltb longest-text (length text)) false) (same-answer (searched (matches t) text) answer))
     (scanned expression)
 
 -- a test that is as false fails
@@ -211,7 +212,7 @@ refusal-holds number place room (refused n p) e =
 
 module _ (expression : List ℕ) (Says : List ℕ → Type 0) where
   -- an expression with a tree of few pieces is read, and its records are a good list of the tree
-  tree-read : (t : Tree Leaf) → scanned expression ≡ tree t → ltb 128 (piece-count t) ≡ false
+  tree-read : (t : Tree Leaf) → scanned expression ≡ tree t → ltb most-pieces (piece-count t) ≡ false
       → ((list : List ℕ) → Good list t → Says list) → Read expression (nodes t) (piece-count t) Says
   tree-read t scans few says =
       let given : (buffer : List ℕ) → 8 * nodes t ≤ length buffer → answered expression (length buffer)
@@ -303,13 +304,13 @@ module _ {list : List ℕ} {t : Tree Leaf} (good : Good list t) where
       }
 
   -- what holds of the tree holds of the good list
-  of-good : {text : List ℕ} {P : Tree Leaf → Type 0} → Bool·beq (ltb 65536 (length text)) false ≡ true → P t
+  of-good : {text : List ℕ} {P : Tree Leaf → Type 0} → Bool·beq (ltb longest-text (length text)) false ≡ true → P t
       → Of-good list text P
   of-good {text} short holds =
-      record { t = t; good = good; short = ltb-false 65536 (length text) (fails _ short); holds = holds }
+      record { t = t; good = good; short = ltb-false longest-text (length text) (fails _ short); holds = holds }
 
   -- a right answer is what search gives back
-  finds-hold : (text : List ℕ) (answer : Answer) → Bool·beq (ltb 65536 (length text)) false ≡ true
+  finds-hold : (text : List ℕ) (answer : Answer) → Bool·beq (ltb longest-text (length text)) false ≡ true
       → Answers (Matches t) text answer → Finding list text answer
   finds-hold text (at s e) short found = search-found (of-good short found)
   finds-hold text nothing short none = search-nothing (of-good short none)

@@ -1,5 +1,6 @@
 -- The whole output of `pick`, from the bytes that it reads.
 -- First the definitions that the contract rests on.
+pub mod Limits
 pub mod Lines
 pub mod Digits
 pub mod Print

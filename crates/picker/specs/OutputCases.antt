@@ -8,16 +8,17 @@ use borrow.Author.Tests.{lt-ltb, le-ltb}
 use Rattle.language.specs.Tree.{Tree}
 use Rattle.tree.specs.Leaf.{Leaf}
 use Rattle.picker.specs.Lines.{lines, expression, texts}
+use Rattle.picker.specs.Limits.{longest-input}
 use Rattle.picker.specs.Print.{answered, too-long-line, reported, output}
 
 -- an input over 65,536 bytes has that one line
-pub output-long : (matching : Tree Leaf → List ℕ → Bool) (input : List ℕ) → 65536 < length input
+pub output-long : (matching : Tree Leaf → List ℕ → Bool) (input : List ℕ) → longest-input < length input
     → output matching input ≡ too-long-line
 unfolding output
-output-long matching input h = rw (lt-ltb 65536 (length input) h)
+output-long matching input h = rw (lt-ltb longest-input (length input) h)
 
 -- another one is reported by its lines
-pub output-short : (matching : Tree Leaf → List ℕ → Bool) (input : List ℕ) → length input ≤ 65536
+pub output-short : (matching : Tree Leaf → List ℕ → Bool) (input : List ℕ) → length input ≤ longest-input
     → output matching input ≡ reported matching (answered (expression (lines input))) (texts (lines input))
 unfolding output
-output-short matching input h = rw (le-ltb 65536 (length input) h)
+output-short matching input h = rw (le-ltb longest-input (length input) h)

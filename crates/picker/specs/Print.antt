@@ -6,16 +6,18 @@ use lib.ListN.{length}
 use lib.Dec.{ltb}
 use Rattle.language.specs.Tree.{Tree}
 use Rattle.tree.specs.Leaf.{Leaf}
+use Rattle.tree.specs.Limits.{most-pieces}
 use Rattle.tree.specs.Records.{piece-count}
 use Rattle.reader.specs.Text.{bytes}
 use Rattle.reader.specs.Scanner.{Outcome, tree, refused, scanned}
 use Rattle.finder.specs.Decide.{matches}
+use Rattle.picker.specs.Limits.{longest-input}
 use Rattle.picker.specs.Lines.{lines, expression, texts}
 use Rattle.picker.specs.Digits.{digits}
 
 -- a tree is refused with 8 where its cut has more than 128 pieces
 abbrev pub few-pieces : Outcome → Outcome
-few-pieces (tree t) = cond (ltb 128 (piece-count t)) (refused 8 0) (tree t)
+few-pieces (tree t) = cond (ltb most-pieces (piece-count t)) (refused 8 0) (tree t)
 few-pieces (refused number place) = refused number place
 
 -- what reading an expression comes to, where there is room for its records
@@ -63,7 +65,7 @@ module _ (matching : Tree Leaf → List ℕ → Bool) where
   -- what is printed for an input: with more than 65,536 bytes one line that says so
   unfoldable pub output : List ℕ → List ℕ
   output input =
-      cond (ltb 65536 (length input)) too-long-line
+      cond (ltb longest-input (length input)) too-long-line
       (reported (answered (expression (lines input))) (texts (lines input)))
 
 -- the output of `pick`

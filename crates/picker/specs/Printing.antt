@@ -27,10 +27,6 @@ module _ (buffer : List ℕ) (at : ℕ) (xs : List ℕ) (room : at + length xs �
   head-length : length (take at buffer ++ xs) ≡ at + length xs
   head-length = simp length-append (rw (length-take-le at buffer (omega arith)))
 
-  pub printed-length : length (printed buffer at xs) ≡ length buffer
-  unfolding printed
-  printed-length = rw (length-append, head-length, length-drop) (omega arith)
-
   -- the buffer up to the next place
   pub printed-take : take (at + length xs) (printed buffer at xs) ≡ take at buffer ++ xs
   unfolding printed

@@ -10,6 +10,8 @@ use lib.Dec.{ltb}
 use borrow.Author.Tests.{ltb-true, ltb-false, le-ltb}
 use Rattle.language.specs.Tree.{Tree, nodes}
 use Rattle.tree.specs.Leaf.{Leaf}
+use Rattle.tree.specs.Layout.{record-size}
+use Rattle.tree.specs.Limits.{most-pieces, most-records}
 use Rattle.tree.specs.Records.{piece-count}
 use Rattle.tree.specs.Lengths.{nodes-positive}
 use Rattle.tree.specs.Pieces.{nodes-per-piece}
@@ -21,6 +23,7 @@ use Rattle.finder.specs.Found.{part}
 use Rattle.finder.specs.Decide.{matches}
 use Rattle.picker.specs.Lines.{lines, expression, texts, texts-count}
 use Rattle.picker.specs.Ends.{Ends, after, first-line}
+use Rattle.picker.specs.Limits.{longest-input, most-output}
 use Rattle.picker.specs.Print.{few-pieces, answered, refusal-line, text-lines, reported}
 use Rattle.picker.specs.Printing.{Prints}
 use Rattle.picker.specs.Loop.{Space}
@@ -32,12 +35,12 @@ pub record Refusal-read (bytes : List ℕ) (number place : ℕ) : Type 0 where
   pub small-place : place < 10000
 
 -- a tree with at most 128 pieces has at most 1,920 nodes, so 15,360 bytes hold its records
-records-fit : (t : Tree Leaf) → ltb 128 (piece-count t) ≡ false → 8 * nodes t ≤ 15360
-records-fit t few = omega (arith, nodes-per-piece t, ltb-false 128 (piece-count t) few)
+records-fit : (t : Tree Leaf) → ltb most-pieces (piece-count t) ≡ false → record-size * nodes t ≤ record-size * most-records
+records-fit t few = omega (arith, nodes-per-piece t, ltb-false most-pieces (piece-count t) few)
 
 -- for a tree: 8 where it has too many pieces, and never 9
-told-tree : (bytes : List ℕ) (room number place : ℕ) → 15360 ≤ room → (t : Tree Leaf) (many short : Bool)
-    → ltb 128 (piece-count t) ≡ many → ltb room (8 * nodes t) ≡ short → few-pieces (scanned bytes)
+told-tree : (bytes : List ℕ) (room number place : ℕ) → record-size * most-records ≤ room → (t : Tree Leaf) (many short : Bool)
+    → ltb most-pieces (piece-count t) ≡ many → ltb room (record-size * nodes t) ≡ short → few-pieces (scanned bytes)
     ≡ cond many (refused 8 0) (tree t)
     → refusing number place ≡ cond many (refusing 8 0) (cond short (refusing 9 0) (reading t))
     → Refusal-read bytes number place
@@ -46,11 +49,11 @@ told-tree bytes room number place large t true short m h outcome e =
     let front : place ≡ 0 = ap (λ (n : Numbers). n .place) e in
     record { outcome = rw (eight, front) outcome; small-number = omega arith; small-place = omega arith }
 told-tree bytes room number place large t false true m h outcome e =
-    absurd (omega (arith, records-fit t m, ltb-true room (8 * nodes t) h))
+    absurd (omega (arith, records-fit t m, ltb-true room (record-size * nodes t) h))
 told-tree bytes room number place large t false false m h outcome e =
     absurd (omega (arith, nodes-positive t, ap (λ (n : Numbers). n .records) e))
 
-told-outcome : (bytes : List ℕ) (room number place : ℕ) → 15360 ≤ room → (outcome : Outcome) → scanned bytes ≡ outcome
+told-outcome : (bytes : List ℕ) (room number place : ℕ) → record-size * most-records ≤ room → (outcome : Outcome) → scanned bytes ≡ outcome
     → refusing number place ≡ answer-for outcome room → Refusal-read bytes number place
 told-outcome bytes room number place large (refused number′ place′) scans e =
     let bounds = scanned-refusal bytes number′ place′ scans in
@@ -63,17 +66,17 @@ told-outcome bytes room number place large (refused number′ place′) scans e 
           omega (arith, bounds);
     }
 told-outcome bytes room number place large (tree t) scans e =
-    told-tree bytes room number place large t (ltb 128 (piece-count t)) (ltb room (8 * nodes t)) refl refl (rw scans) e
+    told-tree bytes room number place large t (ltb most-pieces (piece-count t)) (ltb room (record-size * nodes t)) refl refl (rw scans) e
 
 -- where reading answers a refusal, that is the expression's outcome
-pub told : (bytes : List ℕ) (room number place : ℕ) → 15360 ≤ room → refusing number place ≡ answers bytes room
+pub told : (bytes : List ℕ) (room number place : ℕ) → record-size * most-records ≤ room → refusing number place ≡ answers bytes room
     → Refusal-read bytes number place
 told bytes room number place large e = told-outcome bytes room number place large (scanned bytes) refl e
 
 -- where it answers that the records were written, the outcome is their tree
 pub read-outcome : {bytes before after : List ℕ} {records pieces : ℕ} (k : Kept bytes before after records pieces)
     → answered bytes ≡ tree (k .read)
-read-outcome k = rw (k .scans, le-ltb 128 (piece-count (k .read)) (k .good .few))
+read-outcome k = rw (k .scans, le-ltb most-pieces (piece-count (k .read)) (k .good .few))
 
 module _ (input : List ℕ) (end : ℕ) (ends : Ends input 0 end) where
   -- the line of a refusal is what is reported
@@ -91,8 +94,8 @@ module _ (input : List ℕ) (end : ℕ) (ends : Ends input 0 end) where
       p
 
   -- an expression that is read has a byte, and an end where a text follows: so there are at most 65,534 texts
-  pub texts-space : {before after-reading out : List ℕ} {records pieces : ℕ} → length input ≤ 65536
-      → 1048575 ≤ length out → Kept (part 0 end input) before after-reading records pieces
+  pub texts-space : {before after-reading out : List ℕ} {records pieces : ℕ} → length input ≤ longest-input
+      → most-output ≤ length out → Kept (part 0 end input) before after-reading records pieces
       → Space input (after input end) 0 0 0 out
   texts-space short room k =
       let first = first-line input end ends in

@@ -10,11 +10,13 @@ use lib.ListN.{length, length-append}
 use lib.Dec.{ltb}
 use Rattle.language.specs.Tree.{Tree}
 use Rattle.tree.specs.Leaf.{Leaf}
+use Rattle.tree.specs.Limits.{most-pieces}
 use Rattle.tree.specs.Records.{piece-count}
 use Rattle.reader.specs.Scanner.{Outcome, tree, refused, scanned}
 use Rattle.reader.specs.Agree.{scanned-exactly, scanned-refusal, written-size}
 use Rattle.picker.specs.Lines.{lines, expression, texts, texts-count}
 use Rattle.picker.specs.DigitLaws.{digits-length}
+use Rattle.picker.specs.Limits.{longest-input, most-output}
 use Rattle.picker.specs.Print.{
   few-pieces,
   text-line,
@@ -73,22 +75,22 @@ module _ (matching : Tree Leaf → List ℕ → Bool) where
 
   -- an expression that is read has a byte, so there are at most 65,534 texts
   reported-length : (expr : List ℕ) (outcome : Outcome) → scanned expr ≡ outcome → (later : List (List ℕ))
-      → length later ≤ 65536 - (length expr + 1) → length (reported matching (few-pieces outcome) later) ≤ 1048575
+      → length later ≤ longest-input - (length expr + 1) → length (reported matching (few-pieces outcome) later) ≤ most-output
   reported-length expr (refused number place) e later h =
       let bounds = scanned-refusal expr number place e in
       omega (arith, refusal-line-length number place (omega (arith, bounds)) (omega (arith, bounds)))
-  reported-length expr (tree t) e later h = either (ltb 128 (piece-count t))
+  reported-length expr (tree t) e later h = either (ltb most-pieces (piece-count t))
     where
-      either : (test : Bool) → length (reported matching (cond test (refused 8 0) (tree t)) later) ≤ 1048575
+      either : (test : Bool) → length (reported matching (cond test (refused 8 0) (tree t)) later) ≤ most-output
       either true = omega (arith, refusal-line-length 8 0 (omega arith) (omega arith))
       either false =
           let long = written-size (scanned-exactly expr t .0 e .1) in
           omega (arith, text-lines-length t later 0 0 (omega arith) (omega (arith, long)), long)
 
   -- the whole output has at most 1,048,575 bytes
-  pub output-length : (input : List ℕ) → length (output matching input) ≤ 1048575
+  pub output-length : (input : List ℕ) → length (output matching input) ≤ most-output
   output-length input =
-      elim (decLt 65536 (length input)) [
+      elim (decLt longest-input (length input)) [
         | yes h ↦ rw (output-long matching input h) (omega arith)
         | no h ↦
             rw (output-short matching input (omega arith))

@@ -5,6 +5,7 @@ use mathlib.Core.List.{List, _++_}
 use native.Mathlib.Omega.{arith}
 use lib.ListN.{length, drop}
 use Rattle.finder.specs.Decide.{matches}
+use Rattle.picker.specs.Limits.{most-output}
 use Rattle.picker.specs.Print.{picked}
 use Rattle.picker.specs.Room.{output-length}
 use Rattle.picker.specs.Printing.{Prints, printed}
@@ -13,7 +14,7 @@ use Rattle.picker.specs.declared.Picked.{Picked}
 use Rattle.picker.specs.declared.Picked.the-variants.{Written}
 
 -- an output printed at the front is all that is promised
-pub wrote : {input before after : List ℕ} {size : ℕ} → 1048575 ≤ length before
+pub wrote : {input before after : List ℕ} {size : ℕ} → most-output ≤ length before
     → Prints before 0 (picked input) after size → Wrote input before after size
 unfolding printed
 wrote {input} {before} {after} {size} room p =

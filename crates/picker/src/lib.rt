@@ -11,13 +11,19 @@ use reader::Answer;
 use reader::read;
 use report::refusal_line;
 use texts::list_texts;
+use tree::layout::RECORD_SIZE;
+use tree::limits::MOST_RECORDS;
 ghost use Prim.Native.Nat.{_≤_};
 ghost use lib.ListN.{length};
 ghost use Rattle.finder.specs.Decide.{matches};
+ghost use Rattle.picker.specs.Limits.{longest-input, most-output};
 ghost use Rattle.picker.specs.Lines.{lines, expression, texts};
 ghost use Rattle.picker.specs.Print.{answered, reported, picked};
 ghost use Rattle.picker.specs.Printing.{Prints};
 ghost use Rattle.picker.specs.Promise.{Picks};
+
+// The most bytes that an input may have.
+const LONGEST_INPUT: usize = 65536;
 
 // The most bytes that the output can have.
 pub const MOST_OUTPUT: usize = 1048575;
@@ -32,20 +38,20 @@ pub enum Picked {
 
 // Prints what is reported for an input: the expression is read once, and its tables are made once for all texts.
 fn report_lines(input: &[u8], out: &mut [u8]) -> usize
-    requires short { ⌜ length (now input) ≤ 65536 ⌝ }
-    requires room { ⌜ 1048575 ≤ length (now out) ⌝ }
+    requires short { ⌜ length (now input) ≤ longest-input ⌝ }
+    requires room { ⌜ most-output ≤ length (now out) ⌝ }
     ensures { λ r. ⌜ Prints (now (out .entry)) 0
         (reported matches (answered (expression (lines (now (input .entry))))) (texts (lines (now (input .entry)))))
         (now (out .exit)) r ⌝ }
 {
     let end = line_end(input, 0);
-    let mut list = [0u8; 15360];
+    let mut list = [0u8; RECORD_SIZE * MOST_RECORDS];
     let answer = read(&input[..end], &mut list);
     match answer {
         Answer::Refused { number, place } => refusal_line(out, 0, number, place),
         Answer::Read { records, pieces: _ } => {
             let start = next_line(input, end);
-            list_texts(&list[..8 * records], input, start, out)
+            list_texts(&list[..RECORD_SIZE * records], input, start, out)
         }
     }
 }
@@ -57,7 +63,7 @@ pub fn pick(input: &[u8], output: &mut [u8]) -> Picked
     if output.len() < MOST_OUTPUT {
         return Picked::NoRoom;
     }
-    if input.len() > 65536 {
+    if input.len() > LONGEST_INPUT {
         let length = put(output, 0, b"input too long\n");
         return Picked::Written { length };
     }

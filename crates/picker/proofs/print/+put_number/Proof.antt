@@ -69,9 +69,8 @@ large-same-length t c = search needs
 
 large-returns : (t : ℕ) → put-number-lts.Need-returns-2 (claims t) (put-number-at t) put-number.Post
 large-returns t c =
-    prints-large _ _ _ (c .before .before .before .before .before .before .before .before .before .before .pre .1)
-    (omega arith)
-    (c .before .before .before .before .before .before .put-number .ensures)
+    let tenth = c .before .before .before .before .before .before in
+    prints-large _ _ _ (tenth .before .before .before .before .pre .1) (omega arith) (tenth .put-number .ensures)
     (c .before .before .put-digit2 .ensures)
 
 pub +put-number-spec : {M : Type 1} → statement M
