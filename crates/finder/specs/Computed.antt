@@ -1,5 +1,4 @@
 -- The marks after a text can be computed: sets of states as tests, closed by two walks over the tree.
--- Assumes nothing.
 use Prim.Native.Nat.{ℕ}
 use mathlib.Core.Path.{_≡_, refl, ap}
 use mathlib.Core.Bool.{Bool, true, false, _&&_, _||_, false≢true}

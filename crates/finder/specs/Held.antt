@@ -1,5 +1,4 @@
 -- Which words hold the marks after a text, by a test that computes.
--- Assumes nothing.
 use Prim.Native.Nat.{ℕ, _+_, _/_, _%_, _^_}
 use mathlib.Core.Path.{_≡_, refl}
 use mathlib.Core.Bool.{Bool, true, false, Bool·beq, false≢true}

@@ -1,5 +1,4 @@
 -- How a search comes to its answer: for one start the latest end so far, and no part that begins before that start.
--- Assumes nothing.
 use Prim.Native.Nat.{ℕ, _+_, _≤_, _<_}
 use mathlib.Core.Path.{_≡_, refl}
 use mathlib.Core.Bool.{Bool, true, false, false≢true}

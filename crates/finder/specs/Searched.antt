@@ -1,6 +1,5 @@
 -- Every text has a right answer, and it can be computed: the starts from the first on, for each the ends from the start
 -- on.
--- Assumes nothing.
 use Prim.Native.Nat.{ℕ, zero, suc, _+_, _-_, _≤_}
 use mathlib.Core.Path.{_≡_}
 use mathlib.Core.Bool.{Bool, true}

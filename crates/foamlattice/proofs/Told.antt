@@ -1,5 +1,4 @@
 -- The number that an answer is packed into, by its case: each case's tag finds it in a list.
--- Assumes nothing.
 use Prim.Native.Nat.{ℕ}
 use mathlib.Core.Path.{_≡_, refl, ap, _∙_}
 use mathlib.Core.List.{List, [], _∷_}

@@ -1,6 +1,5 @@
 -- What each call of the outside interface answers: the number that an answer is packed into, and that the answer is
 -- right.
--- Assumes nothing.
 use Prim.Native.Nat.{ℕ, _+_}
 use mathlib.Core.Path.{_≡_}
 use mathlib.Core.Bool.{cond}

@@ -1,6 +1,5 @@
 -- Two results that both fit a call's promise are equal: the answers behind them are. What `foam_read` promises is two
 -- equations.
--- Assumes nothing.
 use Prim.Native.Nat.{ℕ}
 use mathlib.Core.Path.{_≡_, ap, sym, _∙_}
 use mathlib.Core.List.{List}

@@ -1,6 +1,5 @@
 -- The two bits of each shared state agree exactly when, at every cut edge, the stand-in's two bits are those of the
 -- child's start and accepting state.
--- Assumes nothing.
 use Prim.Native.Nat.{ℕ, _+_}
 use mathlib.Core.Path.{_≡_, refl, ap, subst}
 use mathlib.Core.Logic.{_↔_, Iff·trans as iff-trans}

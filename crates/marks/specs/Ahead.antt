@@ -1,6 +1,5 @@
 -- The row of a state as it is first made: the word of its transitions, its own bit, and the rows of the states ahead
 -- that they lead to.
--- Assumes nothing.
 use Prim.Native.Nat.{ℕ, _+_, _-_, _/_, _%_, _^_, _<_}
 use mathlib.Core.Path.{_≡_, refl, sym, ap, _∙_, subst}
 use mathlib.Core.Logic.{_⊎_, inl, inr, _↔_, ⊎-elim}

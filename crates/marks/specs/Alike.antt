@@ -1,6 +1,5 @@
 -- Words are known from the marks they hold: every bit below a piece's number of states is the bit of some state, and no
 -- other is set.
--- Assumes nothing.
 use Prim.Native.Nat.{ℕ, zero, suc, _+_, _-_, _≤_, _<_}
 use native.Mathlib.Decide.{decLt}
 use native.Mathlib.Omega.{arith}

@@ -1,7 +1,6 @@
 -- The laws of bits that marks in words rest on: of no bits, of one bit, of two words joined, and that a word is its
 -- bits.
 -- Nothing else of words is used.
--- Assumes nothing.
 use Prim.Native.Nat.{ℕ, zero, suc, _+_, _*_, _/_, _%_, _^_, _≤_, _<_, min, max}
 use mathlib.Core.Path.{_≡_, refl, sym, ap, _∙_, subst}
 use mathlib.Core.Logic.{_⊎_, inl, inr, _↔_, ⊎-elim}

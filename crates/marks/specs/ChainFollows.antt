@@ -1,5 +1,5 @@
--- A chain of calls on a good list, with words enough, is never refused, and after the bytes of w its flag says whether w
--- is in the language. A chain's calls before the last are a chain themselves, so this is said of each of them.
+-- A chain of calls on a good list, with words enough, is never refused, and after the bytes of w its flag says whether
+-- w is in the language. A chain's calls before the last are a chain themselves, so this is said of each of them.
 use Prim.Native.Nat.{ℕ, _≤_}
 use native.Mathlib.Omega.{arith}
 use mathlib.Core.Path.{_≡_, _∙_, subst}

@@ -1,6 +1,5 @@
 -- Refusal 13's test by the tables: each word has no bit past its last state, and each child piece's bits are those of
 -- its stand-in.
--- Assumes nothing.
 use Prim.Native.Nat.{ℕ, _+_, _^_, _≤_, _<_}
 use mathlib.Core.Path.{_≡_, refl, sym, ap, _∙_, subst, subst₂, subst₃}
 use mathlib.Core.Bool.{Bool}

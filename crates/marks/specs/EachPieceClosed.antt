@@ -2,7 +2,6 @@
 -- marked.
 -- Between a piece and its child pieces nothing is said: a start may still have to be passed down, an accepting state
 -- up.
--- Assumes nothing.
 use Prim.Native.Nat.{ℕ, _+_, _<_}
 use native.Mathlib.Omega.{arith}
 use mathlib.Core.Path.{_≡_, sym, _∙_, subst}

@@ -1,5 +1,4 @@
 -- A child piece once it was gone through: swept, or passed over because it was at rest.
--- Assumes nothing.
 use Prim.Native.Nat.{ℕ, zero, suc, _+_, _-_, _^_, _<_}
 use native.Mathlib.Omega.{arith}
 use mathlib.Core.Bool.{Bool, true}

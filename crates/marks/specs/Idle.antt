@@ -1,5 +1,4 @@
 -- The rest of a sweep where nothing can happen any more: the own word has no mark, and no mark is ahead.
--- Assumes nothing.
 use Prim.Native.Nat.{ℕ, zero, suc, _+_, _^_, _≤_, _<_}
 use native.Mathlib.Omega.{arith}
 use native.Mathlib.Decide.{decLt}

@@ -1,5 +1,4 @@
 -- The layer inside: the marks of a start and of a step over the tables of a list, which are made once.
--- Assumes nothing.
 use Prim.Native.Nat.{ℕ, zero, suc, _+_, _-_, _≤_, _<_}
 use native.Mathlib.Omega.{arith}
 use mathlib.Core.Path.{_≡_, refl, sym, ap, _∙_, subst}

@@ -1,5 +1,4 @@
 -- Words joined: the word that has the bits of those words of a table whose numbers are bits of a given word.
--- Assumes nothing.
 use Prim.Native.Nat.{ℕ, _+_, _-_}
 use mathlib.Core.Path.{_≡_, refl, sym, subst, subst₂}
 use mathlib.Core.Logic.{inl, inr, _↔_, ⊎-elim}

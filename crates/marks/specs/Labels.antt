@@ -1,6 +1,5 @@
 -- The labels of the states hold the transitions that read a byte: they lead from a state with the byte's label to the
 -- next in number.
--- Assumes nothing.
 use Prim.Native.Nat.{ℕ, _+_}
 use mathlib.Core.Path.{_≡_, refl, sym, ap, _∙_}
 use native.Mathlib.Omega.{arith}

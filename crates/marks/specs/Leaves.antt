@@ -1,6 +1,5 @@
 -- Which states of a piece take a byte: those with a label. Their bits are noted in entry 63 of the piece, which is no
 -- state's.
--- Assumes nothing.
 use Prim.Native.Nat.{ℕ, _+_, _*_, _^_, _≤_, _<_}
 use mathlib.Core.Path.{_≡_, refl, sym, _∙_, subst}
 use mathlib.Core.Logic.{inl, inr}

@@ -1,6 +1,5 @@
 -- Where every piece has at most 62 states, the numbers of stand-ins and of last states in the tables are those of bits
 -- of a word.
--- Assumes nothing.
 use Prim.Native.Nat.{ℕ, zero, suc, _+_, _≤_, _<_}
 use mathlib.Core.Path.{_≡_, sym, subst}
 use mathlib.Core.List.{List}

@@ -1,7 +1,6 @@
 -- The lowest bit that is set in a word: which one it is, and what is left of the word without it.
 -- So the set bits of a word are gone over one by one: the lowest, then the lowest of what is left, until nothing is
 -- left.
--- Assumes nothing.
 use Prim.Native.Nat.{ℕ, zero, suc, _+_, _-_, _*_, _/_, _%_, _^_, _<_, min}
 use mathlib.Core.Path.{_≡_, refl, sym, ap₂, _∙_, subst}
 use mathlib.Core.Logic.{_↔_}

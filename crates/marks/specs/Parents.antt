@@ -1,6 +1,5 @@
 -- The piece that a child piece hangs below, found by the runs alone: the last piece before it whose run reaches past
 -- it.
--- Assumes nothing.
 use Prim.Native.Nat.{ℕ, zero, suc, _+_, _-_, _≤_, _<_}
 use mathlib.Core.Path.{_≡_, sym, subst}
 use mathlib.Core.List.{List}

@@ -1,6 +1,5 @@
 -- A list for a node: what belongs to its start, then the lists of its parts, then what belongs to its accepting state.
 -- Where each stands in it, by number.
--- Assumes nothing.
 use Prim.Native.Nat.{ℕ, zero, suc, _+_, _-_, _<_}
 use mathlib.Core.Path.{_≡_, refl, ap, _∙_}
 use mathlib.Core.List.{List, [], _∷_, _++_}

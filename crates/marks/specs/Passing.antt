@@ -1,5 +1,4 @@
 -- Passing a mark on sets one bit of a word.
--- Assumes nothing.
 use Prim.Native.Nat.{ℕ, _*_, _/_, _%_, _^_, _<_}
 use native.Mathlib.Nat.{one-mul, zero-mul}
 use native.Mathlib.Omega.{arith}

@@ -1,6 +1,5 @@
 -- Where a part of a piece's tree stands in it: from which bit of the own word on its states are numbered, and from
 -- which word below on its child pieces stand.
--- Assumes nothing.
 use Prim.Native.Nat.{ℕ, _+_, _≤_, _<_}
 use native.Mathlib.Omega.{arith}
 use mathlib.Core.Path.{_≡_, refl, sym, ap, _∙_, subst}
@@ -10,7 +9,18 @@ use lib.ListN.{getD}
 use Rattle.language.specs.Automaton.{State, start, accepting, left, right}
 use Rattle.language.specs.Nested.{Nested, catenation, union, star, Has}
 use Rattle.tables.specs.Words.{width, run}
-use Rattle.marks.specs.Spots.{Spot, own, under, shift, spot, Spot-within, spot-within, widths, getD-left, getD-right}
+use Rattle.marks.specs.Spots.{
+  Spot,
+  own,
+  under,
+  shift,
+  spot,
+  Spot-within,
+  spot-within,
+  widths,
+  getD-left,
+  getD-right,
+}
 
 -- the states of x are numbered from i in the own word of whole, and the words of the child pieces below x stand from n
 -- among those below whole
@@ -33,7 +43,8 @@ pub record Placed {A : Type 0} (whole x : Nested A) (e : State → State) (i n :
   pub apart : (q : State) → Has whole q → ((p : State) × (q ≡ e p)) ⊎ Outside i (width x) n (run x) (spot whole q)
 
 -- a seat in a seat
-pub seat-in : {A : Type 0} {whole x y : Nested A} {i n j m : ℕ} (i' n' : ℕ) → i' ≡ i + j → n' ≡ n + m → Part-seat whole x i n
+pub seat-in : {A : Type 0} {whole x y : Nested A} {i n j m : ℕ} (i' n' : ℕ) → i' ≡ i + j → n' ≡ n + m
+    → Part-seat whole x i n
     → Part-seat x y j m → Part-seat whole y i' n'
 seat-in {whole = whole} {y = y} {i = i} {n = n} {j = j} {m = m} i' n' e f outer inner = record {
   wide = omega (arith, outer .wide, inner .wide);

@@ -1,5 +1,4 @@
 -- From the words of the empty transitions of a piece to its closing table, of the states that they reach.
--- Assumes nothing.
 use Prim.Native.Nat.{ℕ, _+_, _-_, _*_, _≤_, _<_}
 use mathlib.Core.Path.{_≡_, refl, sym, ap, _∙_, subst, subst₂}
 use mathlib.Core.Logic.{_⊎_, inl, inr, _↔_, ⊎-elim}

@@ -1,7 +1,6 @@
 -- Warshall's way to the states that are reached, from the last state down: a state's row is made from the rows of the
 -- states ahead of it,
 -- and then the state is let in between, where a row ahead leads back to it.
--- Assumes nothing.
 use Prim.Native.Nat.{ℕ, _+_, _-_, _≤_, _<_}
 use mathlib.Core.Path.{_≡_, refl, sym, ap₂, subst}
 use mathlib.Core.Logic.{_⊎_, inl, inr, _↔_, ⊎-elim}

@@ -1,6 +1,5 @@
 -- The child pieces of a piece stand one after the other in its run: so a walk from word to word meets each once, from
 -- left to right.
--- Assumes nothing.
 use Prim.Native.Nat.{ℕ, zero, suc, _+_, _-_, _^_, _≤_, _<_, min}
 use native.Mathlib.Omega.{arith}
 use native.Mathlib.Decide.{decLt}
@@ -52,7 +51,8 @@ use Rattle.marks.specs.Settling.{
   settled-words,
 }
 
-module _ (x : Nested Leaf) (c : Child) (n : ℕ) (seat : Part-seat x (below (c .tree)) (c .stand) n) (from : c .from ≡ suc n)
+module _ (x : Nested Leaf) (c : Child) (n : ℕ) (seat : Part-seat x (below (c .tree)) (c .stand) n)
+    (from : c .from ≡ suc n)
   where
     -- the widths of the child piece and of those below it, among the parent's
     seat-widths : (o : ℕ) → o < 1 + run (c .tree) → getD (widths x) (n + o) 0
@@ -177,7 +177,8 @@ module _ (reach runs stands tops : List ℕ) where
   chain-append begun x k (c ∷ cs) ds at between end (here, standing, rest) second =
       (here, standing, chain-append begun x k cs ds (at + (1 + run (c .tree))) between end rest second)
 
-  chain-length : (begun : List ℕ) (x : Nested Leaf) (k : ℕ) (cs : List Child) (at end : ℕ) → Lined-up begun x k cs at end
+  chain-length : (begun : List ℕ) (x : Nested Leaf) (k : ℕ) (cs : List Child) (at end : ℕ)
+      → Lined-up begun x k cs at end
       → at ≤ end
   chain-length begun x k [] at end e = omega arith
   chain-length begun x k (c ∷ cs) at end (here, standing, rest) =

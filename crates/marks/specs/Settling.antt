@@ -1,5 +1,4 @@
 -- When the words of a piece and of its child pieces are settled: each child piece is, and is joined to its stand-in.
--- Assumes nothing.
 use Prim.Native.Nat.{ℕ, suc, _+_, _-_}
 use native.Mathlib.Omega.{arith}
 use mathlib.Core.Path.{_≡_, refl, sym, ap, _∙_, subst}

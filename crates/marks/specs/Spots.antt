@@ -1,6 +1,5 @@
 -- Where the bit of each state stands: in which word of the run, and which bit of it. So words that agree there hold the
 -- same marks.
--- Assumes nothing.
 use Prim.Native.Nat.{ℕ, zero, suc, _+_, _-_, _^_, _≤_, _<_}
 use native.Mathlib.Nat.{add-assoc, zero-add}
 use native.Mathlib.Decide.{decLt}
@@ -123,7 +122,8 @@ abbrev pub Spot-within : ℕ → ℕ → Spot → Type 0
 Spot-within k m (own b) = b < k
 Spot-within k m (under o b) = o < m
 
-within-shift : (s : Spot) (i n k m k' m' : ℕ) → i + k ≤ k' → n + m ≤ m' → Spot-within k m s → Spot-within k' m' (shift i n s)
+within-shift : (s : Spot) (i n k m k' m' : ℕ) → i + k ≤ k' → n + m ≤ m' → Spot-within k m s
+    → Spot-within k' m' (shift i n s)
 within-shift (own b) i n k m k' m' e f h = omega arith
 within-shift (under o b) i n k m k' m' e f h = omega arith
 

@@ -1,6 +1,5 @@
 -- What the steps of a sweep and of a visit make of the words, step by step: so that each need of their proofs is one
 -- citation.
--- Assumes nothing.
 use Prim.Native.Nat.{ℕ, zero, suc, _+_, _*_, _-_, _^_, _≤_, _<_}
 use native.Mathlib.Omega.{arith}
 use mathlib.Core.Bool.{Bool, true, false, false≢true}

@@ -1,5 +1,4 @@
 -- The table of all pieces: piece by piece, from the words of the empty transitions to the states that they reach.
--- Assumes nothing.
 use Prim.Native.Nat.{ℕ, _+_, _*_, _≤_, _<_}
 use mathlib.Core.Path.{_≡_, refl, sym, ap, _∙_, subst}
 use mathlib.Core.Logic.{inl, inr}

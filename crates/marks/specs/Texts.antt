@@ -1,7 +1,6 @@
 -- The words after a text: how they come from those after the text without its last byte, when they say that the text is
 -- in the
 -- language, and when they say that no longer text is.
--- Assumes nothing.
 use Prim.Native.Nat.{ℕ, _+_, _-_}
 use mathlib.Core.Path.{_≡_, sym, subst}
 use mathlib.Core.Logic.{_↔_, Iff·trans as iff-trans}

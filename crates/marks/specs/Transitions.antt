@@ -1,6 +1,5 @@
 -- The words of the empty transitions hold them: bit j of the word of state i is set exactly for a transition from state
 -- i to state j.
--- Assumes nothing.
 use Prim.Native.Nat.{ℕ, _+_, _^_, _<_}
 use mathlib.Core.Path.{_≡_, refl, sym, ap, _∙_, subst}
 use mathlib.Core.Bool.{Bool, true, false, cond, false≢true}

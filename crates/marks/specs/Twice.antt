@@ -1,5 +1,4 @@
 -- Closing a set of marks is two sweeps of the words that hold it: so the words hold the marks of the plain simulation.
--- Assumes nothing.
 use Prim.Native.Nat.{ℕ, suc, _+_, _≤_}
 use native.Mathlib.Omega.{arith}
 use mathlib.Core.Path.{_≡_, refl, sym, _∙_, subst}
@@ -33,7 +32,8 @@ use Rattle.marks.specs.Spots.{
 }
 
 -- the first words hold what the words hold, where there is one for each piece
-front-held : (s : Spot) (k m n : ℕ) (words : List ℕ) → n ≡ 1 + m → Spot-within k m s → Set-at s (take n words) ↔ Set-at s words
+front-held : (s : Spot) (k m n : ℕ) (words : List ℕ) → n ≡ 1 + m → Spot-within k m s
+    → Set-at s (take n words) ↔ Set-at s words
 front-held (own b) k m n words e l = bit-of b (getD-take n words 0 0 (omega arith))
 front-held (under o b) k m n words e l = bit-of b (getD-take n words (suc o) 0 (omega arith))
 

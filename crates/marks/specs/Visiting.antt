@@ -1,5 +1,4 @@
 -- What visiting one child piece after the other makes of the words is what the sweep makes of the marks that they hold.
--- Assumes nothing.
 use Prim.Native.Nat.{ℕ, suc, _+_, _-_, _≤_, _<_}
 use native.Mathlib.Omega.{arith}
 use mathlib.Core.Path.{_≡_, refl, sym, ap, _∙_, subst}

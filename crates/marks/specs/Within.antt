@@ -1,5 +1,4 @@
 -- Closing looks only at states that there are, and no mark is lost by a sweep.
--- Assumes nothing.
 use Prim.Native.Nat.{ℕ}
 use mathlib.Core.Path.{_≡_, refl, subst}
 use mathlib.Core.Logic.{_⊎_, inl, inr, ⊎-elim}

@@ -1,5 +1,4 @@
 -- Why joining the rows of the set bits of a piece's word closes it.
--- Assumes nothing.
 use Prim.Native.Nat.{ℕ, _*_, _^_, _<_}
 use mathlib.Core.Path.{_≡_, sym, ap, _∙_, subst}
 use mathlib.Core.List.{List}

@@ -1,5 +1,4 @@
 -- Moving the word of one piece along a byte: the bits of the states with the byte's label, each one place up.
--- Assumes nothing.
 use Prim.Native.Nat.{ℕ, zero, suc, _+_, _-_, _*_, _/_, _%_, _^_, _≤_, _<_}
 use mathlib.Core.Path.{_≡_, refl, sym, ap, _∙_, subst, subst₂}
 use mathlib.Core.Logic.{inl, inr, _↔_, ⊎-elim}

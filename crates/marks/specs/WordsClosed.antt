@@ -1,6 +1,5 @@
 -- Closing the word of each piece in itself: no mark is lost, none is made that the closing would not make, and each
 -- piece is closed.
--- Assumes nothing.
 use Prim.Native.Nat.{ℕ, _+_, _^_, _≤_, _<_}
 use mathlib.Core.Path.{_≡_, refl, sym, _∙_, subst, subst₂}
 use mathlib.Core.Logic.{_↔_}

@@ -1,5 +1,4 @@
 -- Moving every word along a byte moves the marks along it in every piece.
--- Assumes nothing.
 use Prim.Native.Nat.{ℕ, _+_, _^_, _≤_, _<_}
 use mathlib.Core.Path.{_≡_, refl, sym, ap, _∙_, subst, subst₂}
 use mathlib.Core.Logic.{inr, _↔_}

@@ -1,6 +1,5 @@
 -- Moving every word along a byte and closing each piece in itself: the marks are moved along the byte, and some of the
 -- closing is done.
--- Assumes nothing.
 use Prim.Native.Nat.{ℕ, _+_, _^_, _≤_, _<_}
 use mathlib.Core.Path.{_≡_, sym, subst}
 use mathlib.Core.List.{List}

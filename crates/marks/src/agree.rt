@@ -65,8 +65,8 @@ fn child_agrees(
 ) -> bool
     requires { ⌜ Checkable (now runs) (now stands) (now tops) (now words) pieces × (0 < child) × (child < pieces) ⌝ }
     ensures { λ r.
-        ⌜ Tells (Child-agrees (now (runs .entry)) (now (stands .entry)) (now (tops .entry)) (now (words .entry)) child) r
-        ⌝ }
+        ⌜ Tells (Child-agrees (now (runs .entry)) (now (stands .entry)) (now (tops .entry)) (now (words .entry)) child)
+        r ⌝ }
 {
     let over = parent(runs, child);
     let stand = stands[child] as usize;

@@ -33,7 +33,8 @@ fn join_ahead(reach: &[u64], base: usize, state: usize) -> u64
 // Lets the state `via` in between: where a row after its own has its bit, its row is joined to that row.
 fn let_in(reach: &mut [u64], base: usize, states: usize, via: usize)
     requires { ⌜ (base + states ≤ length (now reach)) × (states ≤ 64) × (via < states) ⌝ }
-    ensures { λ _. ⌜ Rows (Let-in (now (reach .entry)) base via) (now (reach .entry)) (now (reach .exit)) base states ⌝ }
+    ensures { λ _.
+        ⌜ Rows (Let-in (now (reach .entry)) base via) (now (reach .entry)) (now (reach .exit)) base states ⌝ }
 {
     let mut state = via + 1;
     while state < states {

@@ -1,6 +1,5 @@
 -- From an expression to an answer, in one line each: which texts match an expression that was read, and what search
 -- finds by it.
--- Assumes nothing.
 use Prim.Native.Nat.{ℕ, _*_, _≤_}
 use mathlib.Core.Path.{_≡_, subst}
 use mathlib.Core.Bool.{Bool, true, false}

@@ -1,5 +1,4 @@
 -- How the lines of the texts are printed one after the other: what is printed so far, and what is still to come.
--- Assumes nothing.
 use Prim.Native.Nat.{ℕ, _+_, _-_, _*_, _≤_, _<_}
 use mathlib.Core.Path.{_≡_, refl, ap, _∙_}
 use mathlib.Core.Bool.{Bool, true}

@@ -1,5 +1,4 @@
 -- How long the output can be: at most 1,048,575 bytes, so that it fits in 2 to the 20.
--- Assumes nothing.
 use Prim.Native.Nat.{ℕ, _+_, _*_, _-_, _≤_, _<_}
 use mathlib.Core.Path.{_≡_, refl}
 use mathlib.Core.Bool.{Bool, true, false, cond}

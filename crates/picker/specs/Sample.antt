@@ -1,5 +1,4 @@
 -- Examples of docs/REFERENCE.md, section 8, and the edges of the input, by computing the output.
--- Assumes nothing.
 use Prim.Native.Nat.{ℕ}
 use mathlib.Core.Path.{_≡_, refl}
 use mathlib.Core.List.{List, [], _∷_}

@@ -1,6 +1,5 @@
 -- `foamlattice::foam_pick` meets its contract: the answer is that of `picker::pick`, an output has at most 1,048,575
 -- bytes, and each case is packed into its number.
--- Assumes nothing.
 use native.Mathlib.Omega.{arith}
 use mathlib.Core.Path.{ap, sym, _∙_}
 use Rattle.foamlattice.specs.Promise.{pick-packed}

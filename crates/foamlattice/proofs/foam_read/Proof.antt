@@ -1,6 +1,5 @@
 -- `foamlattice::foam_read` meets its contract: the numbers are those of `reader::read`, and each fits its part of the
 -- word.
--- Assumes nothing.
 use native.Mathlib.Omega.{arith}
 use mathlib.Core.Path.{ap, sym, _∙_}
 use Rattle.reader.specs.Answer.{numbers}

@@ -1,5 +1,4 @@
 -- `picker::pick` meets its contract: an input over 65,536 bytes has its one line, another one is reported by its lines.
--- Assumes nothing.
 use native.Mathlib.Omega.{arith}
 use Rattle.finder.specs.Decide.{matches}
 use Rattle.picker.specs.OutputCases.{output-long, output-short}

@@ -1,6 +1,5 @@
 -- `picker::report_lines` meets its contract: what reading the first line answers is the expression's outcome, and what
 -- is printed for it is reported.
--- Assumes nothing.
 use mathlib.Core.Path.{sym, ap, _∙_}
 use native.Mathlib.Omega.{arith}
 use lib.ListN.{take, replicate}

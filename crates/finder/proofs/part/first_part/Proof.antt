@@ -1,6 +1,5 @@
 -- `finder::part::first_part` meets its contract: no part starts before the place at hand. The measure is what is left
 -- of the text.
--- Assumes nothing.
 use Prim.Native.Nat.{ℕ, _≤_, _-_, _+_}
 use mathlib.Core.Path.{_≡_, refl}
 use mathlib.Core.Option.{none}

@@ -1,4 +1,4 @@
--- `finder::part::with_end` meets its contract, by its two cases. Assumes nothing.
+-- `finder::part::with_end` meets its contract, by its two cases.
 use borrow.Author.Needs.{needs}
 use Rattle.finder.proofs.part.with_end.Statement.{statement}
 use Rattle.finder.proofs.part.with_end.Tie as tie

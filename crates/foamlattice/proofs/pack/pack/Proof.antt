@@ -1,5 +1,4 @@
 -- `pack::pack` meets its contract: a flag is 1 or 0, and no part reaches into the next.
--- Assumes nothing.
 use Prim.Native.Nat.{_≤_}
 use native.Mathlib.Omega.{arith}
 use mathlib.Core.Path.{_≡_, refl, sym}

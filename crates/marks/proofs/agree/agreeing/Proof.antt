@@ -1,4 +1,4 @@
--- `marks::agree::agreeing` meets its contract. The loop's invariant: the child pieces passed agree. Assumes nothing.
+-- `marks::agree::agreeing` meets its contract. The loop's invariant: the child pieces passed agree.
 use Prim.Native.Nat.{ℕ, _≤_, _<_, _-_}
 use native.Mathlib.Omega.{arith}
 use Rattle.marks.specs.Bits.{told-no, told-yes}

@@ -1,4 +1,4 @@
--- `marks::agree::child_agrees` meets its contract: it hangs below one piece alone. Assumes nothing.
+-- `marks::agree::child_agrees` meets its contract: it hangs below one piece alone.
 use native.Mathlib.Omega.{arith}
 use Rattle.marks.specs.Checked.{told-child}
 use borrow.Author.Needs.{needs}

@@ -1,4 +1,4 @@
--- `marks::agree::none_past` meets its contract: nothing is left of a word shifted past its last bit. Assumes nothing.
+-- `marks::agree::none_past` meets its contract: nothing is left of a word shifted past its last bit.
 use borrow.Author.Tests.{eqb-true, eqb-false}
 use native.Mathlib.Nat.{le-refl}
 use Rattle.marks.specs.Bits.{below-of-nothing, nothing-left}

@@ -1,4 +1,4 @@
--- `marks::agree::pair_agrees` meets its contract: the three tests are its three parts. Assumes nothing.
+-- `marks::agree::pair_agrees` meets its contract: the three tests are its three parts.
 use Rattle.marks.specs.Bits.{told-no}
 use borrow.Author.Needs.{needs}
 use Rattle.marks.proofs.agree.pair_agrees.Statement.{statement}

@@ -1,6 +1,6 @@
 -- `marks::agree::parent` meets its contract. The loop's invariant: no piece passed, from `at` on, has a run that
 -- reaches past the child.
--- The first piece's run does, so the search ends. Assumes nothing.
+-- The first piece's run does, so the search ends.
 use Prim.Native.Nat.{ℕ, _+_, _≤_, _<_}
 use native.Mathlib.Omega.{arith}
 use lib.ListN.{getD}

@@ -1,5 +1,4 @@
--- `marks::agree::same_bit` meets its contract: two bits are equal where one is set exactly when the other is. Assumes
--- nothing.
+-- `marks::agree::same_bit` meets its contract: two bits are equal where one is set exactly when the other is.
 use borrow.Author.Tests.{eqb-true, eqb-false}
 use Rattle.marks.specs.Bits.{equal-bits}
 use borrow.Author.Needs.{needs}

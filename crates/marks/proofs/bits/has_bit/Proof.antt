@@ -1,4 +1,4 @@
--- `marks::bits::has_bit` meets its contract: a bit is the parity of what is left after a shift. Assumes nothing.
+-- `marks::bits::has_bit` meets its contract: a bit is the parity of what is left after a shift.
 use borrow.Author.Needs.{needs}
 use borrow.Author.Tests.{eqb-true, eqb-false}
 use Rattle.marks.proofs.bits.has_bit.Statement.{statement}

@@ -1,4 +1,4 @@
--- `marks::bits::lowest` meets its contract: the trailing zeros stand below the lowest bit that is set. Assumes nothing.
+-- `marks::bits::lowest` meets its contract: the trailing zeros stand below the lowest bit that is set.
 use native.Mathlib.Omega.{arith}
 use lib.Count.{trailing-le}
 use Rattle.marks.specs.LowestBit.{lowest-bit, lowest-below}

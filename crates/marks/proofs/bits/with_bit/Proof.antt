@@ -1,4 +1,4 @@
--- `marks::bits::with_bit` meets its contract: 1 shifted by less than 64 is a power of two. Assumes nothing.
+-- `marks::bits::with_bit` meets its contract: 1 shifted by less than 64 is a power of two.
 use mathlib.Core.Path.{ap}
 use borrow.Author.Needs.{needs}
 use lib.Bits.{bitOr}

@@ -1,6 +1,6 @@
 -- `marks::close::close` meets its contract. The loop's invariant: the rows of the bits of the word that are no longer
 -- in `rest` are joined.
--- The measure is `rest`, which loses its lowest bit. Assumes nothing.
+-- The measure is `rest`, which loses its lowest bit.
 use native.Mathlib.Omega.{arith}
 use mathlib.Core.Path.{refl}
 use Rattle.marks.specs.LowestBit.{left-smaller}

@@ -1,6 +1,6 @@
 -- `marks::inner::advance` meets its contract: the words are moved along the byte and closed by two sweeps, which is a
 -- step of the plain
--- simulation. Assumes nothing.
+-- simulation.
 use native.Mathlib.Omega.{arith}
 use Rattle.marks.specs.Inner.{moved-closable, top-low, advanced}
 use Rattle.marks.specs.Texts.{all-words}

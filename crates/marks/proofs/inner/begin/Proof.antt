@@ -1,6 +1,6 @@
 -- `marks::inner::begin` meets its contract: the root's start alone is marked in 128 words of zero, these are closed by
 -- two sweeps, and the
--- first of them, one for each piece, are put into the lent words. Assumes nothing.
+-- first of them, one for each piece, are put into the lent words.
 use native.Mathlib.Omega.{arith}
 use Rattle.tree.specs.Pieces.{cut-up}
 use Rattle.marks.specs.Inner.{begins, begins-marked, start-closable, top-low, begun}

@@ -1,6 +1,6 @@
 -- `marks::inner::copy` meets its contract: the first i words are those of the one slice, the others those of the other.
 -- The measure is how
--- many are left. Assumes nothing.
+-- many are left.
 use Prim.Native.Nat.{_-_}
 use borrow.Author.Needs.{needs}
 use Rattle.marks.specs.Inner.{Copying, copying-none, copying-next, copying-done}

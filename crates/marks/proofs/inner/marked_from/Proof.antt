@@ -1,5 +1,4 @@
--- `marks::inner::marked_from` meets its contract: all words before i are 0. The measure is how many are left. Assumes
--- nothing.
+-- `marks::inner::marked_from` meets its contract: all words before i are 0. The measure is how many are left.
 use Prim.Native.Nat.{_≤_, _-_}
 use native.Mathlib.Omega.{arith}
 use borrow.Author.Needs.{needs}

@@ -1,4 +1,4 @@
--- `marks::inner::marked_to` meets its contract: all words from i on are 0. The measure is i. Assumes nothing.
+-- `marks::inner::marked_to` meets its contract: all words from i on are 0. The measure is i.
 use Prim.Native.Nat.{ℕ, _-_, _≤_, _<_}
 use native.Mathlib.Omega.{arith}
 use native.Mathlib.Decide.{ℕ-discrete}

@@ -1,5 +1,4 @@
--- `marks::inner::nothing_left` meets its contract: all words before i are 0. The measure is how many are left. Assumes
--- nothing.
+-- `marks::inner::nothing_left` meets its contract: all words before i are 0. The measure is how many are left.
 use Prim.Native.Nat.{_≤_, _-_}
 use native.Mathlib.Omega.{arith}
 use borrow.Author.Needs.{needs}

@@ -1,5 +1,5 @@
 -- `marks::leaves::leaves` meets its contract. The loop's invariant: the bits of the states passed that have a label are
--- set. Assumes nothing.
+-- set.
 use Prim.Native.Nat.{_≤_, _-_}
 use mathlib.Core.Path.{_∙_}
 use mathlib.Core.Logic.{⊎-elim}

@@ -1,5 +1,4 @@
 -- `marks::leaves::note_leaves` meets its contract. The loop's invariant: the leaves of the pieces passed are noted.
--- Assumes nothing.
 use Prim.Native.Nat.{_≤_, _-_}
 use native.Mathlib.Omega.{arith}
 use Rattle.marks.specs.Leaves.{Leaves-noted, noted-none, noted-more, noted-all}

@@ -1,5 +1,4 @@
--- `marks::moves::move_all` meets its contract. The loop's invariant: the words passed are moved and closed. Assumes
--- nothing.
+-- `marks::moves::move_all` meets its contract. The loop's invariant: the words passed are moved and closed.
 use Prim.Native.Nat.{_≤_, _-_}
 use native.Mathlib.Omega.{arith}
 use Rattle.marks.specs.WordsMovedClosed.{Moving-closing, moving-none, moving-more, moving-all}

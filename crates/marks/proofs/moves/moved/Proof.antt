@@ -1,6 +1,6 @@
 -- `marks::moves::moved` meets its contract. The loop's invariant: of the leaves in the word that are no longer in
 -- `rest`, the ones with
--- the byte's label are picked. The measure is `rest`, which loses its lowest bit. Assumes nothing.
+-- the byte's label are picked. The measure is `rest`, which loses its lowest bit.
 use mathlib.Core.Path.{refl, _∙_}
 use mathlib.Core.Logic.{⊎-elim}
 use native.Mathlib.Omega.{arith}

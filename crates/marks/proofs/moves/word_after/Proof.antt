@@ -1,4 +1,4 @@
--- `marks::moves::word_after` meets its contract: the word is moved and closed, and 0 stays 0. Assumes nothing.
+-- `marks::moves::word_after` meets its contract: the word is moved and closed, and 0 stays 0.
 use borrow.Author.Needs.{needs}
 use Rattle.marks.specs.WordsMovedClosed.{none-after}
 use Rattle.marks.proofs.moves.word_after.Statement.{statement}

@@ -1,4 +1,4 @@
--- `marks::reach::close_all` meets its contract. The loop's invariant: the pieces passed are closed. Assumes nothing.
+-- `marks::reach::close_all` meets its contract. The loop's invariant: the pieces passed are closed.
 use Prim.Native.Nat.{_≤_, _-_}
 use native.Mathlib.Omega.{arith}
 use Rattle.marks.specs.Table.{Closing-pieces, closing-none, closing-more, closing-all}

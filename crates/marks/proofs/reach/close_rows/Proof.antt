@@ -1,6 +1,6 @@
 -- `marks::reach::close_rows` meets its contract. The loop's invariant: the rows of the states passed, from the last
 -- down, hold what is reached
--- with only those states in between. Assumes nothing.
+-- with only those states in between.
 use Prim.Native.Nat.{_≤_}
 use mathlib.Core.Logic.{⊎-elim}
 use native.Mathlib.Omega.{arith}

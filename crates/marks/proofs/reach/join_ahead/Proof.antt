@@ -1,6 +1,6 @@
 -- `marks::reach::join_ahead` meets its contract. The loop's invariant: of the states ahead that the transitions lead
 -- to, all but those left are
--- joined. Assumes nothing.
+-- joined.
 use Prim.Native.Nat.{_+_, _^_, _<_}
 use native.Mathlib.Nat.{lt-of-le-of-lt}
 use native.Mathlib.Omega.{arith}

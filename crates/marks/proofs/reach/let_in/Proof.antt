@@ -1,5 +1,5 @@
 -- `marks::reach::let_in` meets its contract. The loop's invariant: the rows passed have let the state in, and its own
--- is passed. Assumes nothing.
+-- is passed.
 use Prim.Native.Nat.{_≤_, _<_, _-_}
 use mathlib.Core.Logic.{⊎-elim}
 use native.Mathlib.Omega.{arith}

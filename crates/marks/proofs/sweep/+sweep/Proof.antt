@@ -1,6 +1,5 @@
 -- The proof of the cycle of calls {sweep}. What is lent to a child's sweep leaves out the own word, so the number of
 -- words falls.
--- Assumes nothing.
 use Prim.Native.Nat.{ℕ, _+_, _-_, _≤_, _<_}
 use native.Mathlib.Omega.{arith}
 use mathlib.Core.Path.{_≡_, sym, _∙_, subst}

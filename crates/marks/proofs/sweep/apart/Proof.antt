@@ -1,4 +1,4 @@
--- `marks::sweep::apart` meets its contract: words whose common bits are none have no bit in common. Assumes nothing.
+-- `marks::sweep::apart` meets its contract: words whose common bits are none have no bit in common.
 use borrow.Author.Tests.{eqb-true}
 use Rattle.marks.specs.Bits.{none-common}
 use Rattle.marks.proofs.sweep.apart.Statement.{statement}

@@ -1,4 +1,4 @@
--- `marks::sweep::at_rest` meets its contract: its tests are what being at rest asks. Assumes nothing.
+-- `marks::sweep::at_rest` meets its contract: its tests are what being at rest asks.
 use Prim.Native.Nat.{ℕ}
 use mathlib.Core.Path.{_≡_}
 use mathlib.Core.Logic.{inl, inr}

@@ -1,4 +1,4 @@
--- `marks::sweep::close_from` meets its contract: a marked state brings its row, another nothing. Assumes nothing.
+-- `marks::sweep::close_from` meets its contract: a marked state brings its row, another nothing.
 use borrow.Author.Needs.{needs}
 use Rattle.marks.specs.ClosedFromState.{closes-marked, closes-unmarked}
 use Rattle.marks.proofs.sweep.close_from.Statement.{statement}

@@ -1,4 +1,4 @@
--- `marks::sweep::idle` meets its contract: both its tests were made. Assumes nothing.
+-- `marks::sweep::idle` meets its contract: both its tests were made.
 use Prim.Native.Nat.{ℕ}
 use mathlib.Core.Path.{_≡_}
 use native.Mathlib.Omega.{arith}

@@ -1,4 +1,4 @@
--- `marks::sweep::missed` meets its contract: the bit is set where the other's is not. Assumes nothing.
+-- `marks::sweep::missed` meets its contract: the bit is set where the other's is not.
 use mathlib.Core.Path.{sym, subst}
 use borrow.Author.Needs.{needs}
 use Rattle.marks.specs.Swept.{Missed}

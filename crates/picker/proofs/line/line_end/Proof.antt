@@ -1,5 +1,4 @@
--- `picker::line::line_end` meets its contract: no byte passed is 10. The measure is what is left of the input. Assumes
--- nothing.
+-- `picker::line::line_end` meets its contract: no byte passed is 10. The measure is what is left of the input.
 use Prim.Native.Nat.{ℕ, _+_, _≤_, _<_, _-_}
 use mathlib.Core.Path.{_≡_}
 use mathlib.Core.List.{List}

@@ -1,6 +1,6 @@
 -- `picker::print::put_number` meets its contract: a number below 10 is its digit, another one the digits of its tenth,
 -- then its last.
--- The measure is the number. Assumes nothing.
+-- The measure is the number.
 use native.Mathlib.Omega.{arith}
 use borrow.Author.Needs.{needs}
 use Rattle.picker.specs.Printing.{prints-small, prints-large, small-room, large-room}

@@ -1,4 +1,4 @@
--- `picker::print::put_digit` meets its contract: it stores one byte. Assumes nothing.
+-- `picker::print::put_digit` meets its contract: it stores one byte.
 use borrow.Author.Needs.{needs}
 use Rattle.picker.specs.Printing.{prints-byte}
 use Rattle.picker.proofs.print.put_digit.Statement.{statement}

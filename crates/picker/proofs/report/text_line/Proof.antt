@@ -1,4 +1,4 @@
--- `picker::report::text_line` meets its contract: its parts are printed one after the other. Assumes nothing.
+-- `picker::report::text_line` meets its contract: its parts are printed one after the other.
 use Prim.Native.Nat.{ℕ, _+_, _≤_}
 use mathlib.Core.Path.{_≡_}
 use mathlib.Core.Bool.{Bool, true, false}

@@ -1,4 +1,4 @@
--- `picker::report::total_line` meets its contract: its parts are printed one after the other. Assumes nothing.
+-- `picker::report::total_line` meets its contract: its parts are printed one after the other.
 use native.Mathlib.Omega.{arith}
 use borrow.Author.Needs.{needs}
 use lib.ListN.{length, length-append}

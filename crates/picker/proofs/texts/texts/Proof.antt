@@ -1,6 +1,6 @@
 -- `picker::texts::texts` meets its contract: before each text the lines printed so far, with those still to come, are
 -- the whole output. The
--- measure is what is left of the input. Assumes nothing.
+-- measure is what is left of the input.
 use Prim.Native.Nat.{ℕ, _-_}
 use mathlib.Core.Path.{_≡_, refl, sym, ap, _∙_}
 use mathlib.Core.Bool.{Bool}
