@@ -31,11 +31,17 @@ fn crates() -> Vec<String> {
     text.lines().filter_map(|l| l.split_once(':')).map(|(name, _)| name.to_string()).collect()
 }
 
+/// The files below a folder in the order in which a file lists them, each followed by those that it lists itself.
+fn listed(list: &str, folder: &str) -> Vec<String> {
+    let text = fs::read_to_string(format!("crates/{list}")).unwrap_or_default();
+    let modules = text.lines().filter_map(|l| l.strip_prefix("pub mod ").or(l.strip_prefix("mod ")));
+    let files = modules.map(|m| format!("{folder}/{}", m.trim()));
+    files.flat_map(|f| [vec![format!("{f}.antt")], listed(&format!("{f}.antt"), &f)].concat()).collect()
+}
+
 /// The files of a crate in the order in which its Lib lists them.
 fn reading_order(name: &str) -> Vec<String> {
-    let lib = fs::read_to_string(format!("crates/{name}/specs/Lib.antt")).unwrap_or_default();
-    let modules = lib.lines().filter_map(|l| l.split("mod ").nth(1));
-    modules.map(|m| format!("{name}/specs/{}.antt", m.trim().replace('.', "/"))).collect()
+    listed(&format!("{name}/specs/Lib.antt"), &format!("{name}/specs"))
 }
 
 /// What stands in backquotes in the last cell of a row.

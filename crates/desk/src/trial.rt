@@ -5,7 +5,7 @@ use crate::date::next_date;
 use crate::date::text_of;
 use finder::Matched;
 use libc::STDOUT_FILENO;
-use reader::Answer;
+use reader::ReadAnswer;
 ghost use Prim.Native.Nat.{_+_, _≤_, _<_};
 ghost use mathlib.Core.Path.{_≡_};
 ghost use lib.ListN.{length};
@@ -192,7 +192,7 @@ fn bytes_of(records: usize) -> isize {
 pub fn trial(expr: &[u8], listed: bool) {
     let mut list = [0u8; 15360];
     let answer = reader::read(expr, &mut list);
-    let Answer::Read { records, pieces } = answer else {
+    let ReadAnswer::Read { records, pieces } = answer else {
         say(b"refused\n");
         return;
     };

@@ -4,10 +4,10 @@ use crate::say::say;
 use crate::say::say_refused;
 use crate::say::say_yes;
 use libc::STDOUT_FILENO;
-use marks::Answer;
+use marks::MarksAnswer;
 use marks::numbers::numbers_of;
 
-fn say_answer(answer: Answer) {
+fn say_answer(answer: MarksAnswer) {
     let numbers = numbers_of(answer);
     if numbers.refusal != 0 {
         say_refused(numbers.refusal, numbers.place);
@@ -35,7 +35,7 @@ fn say_words(words: &[u64], shown: usize) {
 }
 
 // Starts, and steps along each byte of the text; answers what the last of these answered.
-fn walk(list: &[u8], words: &mut [u64], text: &[u8]) -> Answer {
+fn walk(list: &[u8], words: &mut [u64], text: &[u8]) -> MarksAnswer {
     let mut answer = marks::start(list, words);
     let mut i = 0;
     while i < text.len() {

@@ -3,17 +3,17 @@ use crate::say::say;
 use crate::say::say_number;
 use crate::say::say_refused;
 use libc::STDOUT_FILENO;
-use reader::Answer;
+use reader::ReadAnswer;
 
-fn say_answer(answer: Answer) {
+fn say_answer(answer: ReadAnswer) {
     match answer {
-        Answer::Read { records, pieces } => {
+        ReadAnswer::Read { records, pieces } => {
             say(b"records ");
             say_number(records as u64);
             say(b", pieces ");
             say_number(pieces as u64);
         }
-        Answer::Refused { number, place } => say_refused(number, place),
+        ReadAnswer::Refused { number, place } => say_refused(number, place),
     }
 }
 
@@ -45,8 +45,8 @@ pub fn read_shown(expr: &[u8]) {
 }
 
 // How many bytes the records that were read have: none after a refusal.
-fn bytes_of(answer: Answer) -> isize {
-    let Answer::Read { records, pieces: _ } = answer else {
+fn bytes_of(answer: ReadAnswer) -> isize {
+    let ReadAnswer::Read { records, pieces: _ } = answer else {
         return 0;
     };
     if records <= 1920 {

@@ -10,7 +10,7 @@ use lib.ListN.{length, getD}
 use Rattle.language.specs.Tree.{Tree}
 use Rattle.tree.specs.Leaf.{Leaf, Matches}
 use Rattle.tables.specs.Tables.{Holding, Answered}
-use Rattle.finder.specs.Found.{part, Part}
+use Rattle.finder.specs.Found.{part, Part-in-language}
 use Rattle.finder.specs.PartLaws.{part-empty, part-next, part-join}
 use Rattle.finder.specs.Progress.{
   better,

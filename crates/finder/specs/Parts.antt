@@ -2,9 +2,9 @@
 use Prim.Native.Nat.{ℕ}
 use mathlib.Core.Bool.{Bool, true, false}
 use mathlib.Core.Option.{Option, none, some}
-use Rattle.finder.specs.Found.{Answer, at, nothing}
-use Rattle.finder.specs.declared.part.Part.{Part}
-use Rattle.finder.specs.declared.part.Part.the-variants.{At, Nothing}
+use Rattle.finder.specs.Found.{Search-outcome, at, nothing}
+use Rattle.finder.specs.declared.part.Span.{Span}
+use Rattle.finder.specs.declared.part.Span.the-variants.{At, Nothing}
 use Rattle.finder.specs.declared.part.End.{End}
 use Rattle.finder.specs.declared.part.End.the-variants.{At as End-at, Nowhere}
 
@@ -14,11 +14,11 @@ end-of (End-at e) = some e
 end-of Nowhere = none
 
 -- the part found, or nothing
-abbrev pub answer-of : Part → Answer
+abbrev pub answer-of : Span → Search-outcome
 answer-of (At s e) = at s e
 answer-of Nothing = nothing
 
 -- whether a part was found
-abbrev pub is-part : Part → Bool
+abbrev pub is-part : Span → Bool
 is-part (At s e) = true
 is-part Nothing = false

@@ -8,7 +8,7 @@ use mathlib.Core.List.{List}
 use native.Mathlib.Decide.{decLt}
 use native.Mathlib.Omega.{arith}
 use lib.ListN.{length}
-use Rattle.finder.specs.Found.{Part, None-before, Found, Nothing-found}
+use Rattle.finder.specs.Found.{Part-in-language, None-before, Found, Nothing-found}
 
 -- the latest end so far, once a test has looked at the end e
 abbrev pub better : Bool → ℕ → Option ℕ → Option ℕ
@@ -18,20 +18,20 @@ better false e best = best
 module _ (L : List ℕ → Type 0) (text : List ℕ) where
   -- a test says whether the part from s to e lies in the language
   abbrev pub Says-part : Bool → ℕ → ℕ → Type 0
-  Says-part test s e = (test ≡ true) ↔ Part L text s e
+  Says-part test s e = (test ≡ true) ↔ Part-in-language L text s e
 
   -- no part from s ends at one of the places from i to e
   abbrev pub None-ends : ℕ → ℕ → ℕ → Type 0
-  None-ends s i e = (j : ℕ) → i ≤ j → j ≤ e → Part L text s j → ⊥
+  None-ends s i e = (j : ℕ) → i ≤ j → j ≤ e → Part-in-language L text s j → ⊥
 
   -- no part from s ends after e
   abbrev pub None-after : ℕ → ℕ → Type 0
-  None-after s e = (j : ℕ) → e < j → Part L text s j → ⊥
+  None-after s e = (j : ℕ) → e < j → Part-in-language L text s j → ⊥
 
   -- of the parts from s that end at e or before, the one from s to best ends latest
   pub record Latest (s e best : ℕ) : Type 0 where
     pub reached : best ≤ e
-    pub here : Part L text s best
+    pub here : Part-in-language L text s best
     pub latest : None-ends s (best + 1) e
 
   -- the latest end so far, at e: of no part, or of one
@@ -41,12 +41,12 @@ module _ (L : List ℕ → Type 0) (text : List ℕ) where
 
   -- the latest end of all parts from s
   pub record Best (s best : ℕ) : Type 0 where
-    pub here : Part L text s best
+    pub here : Part-in-language L text s best
     pub latest : None-after s best
 
   -- no part begins at s, or the latest end is known
   abbrev pub Furthest : ℕ → Option ℕ → Type 0
-  Furthest s none = (j : ℕ) → Part L text s j → ⊥
+  Furthest s none = (j : ℕ) → Part-in-language L text s j → ⊥
   Furthest s (some best) = Best s best
 
   -- one place further where no part ends

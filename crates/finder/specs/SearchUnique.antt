@@ -5,7 +5,7 @@ use mathlib.Core.List.{List}
 use native.Mathlib.Nat.{le-antisymm}
 use native.Mathlib.Decide.{decLt}
 use native.Mathlib.Omega.{arith}
-use Rattle.finder.specs.Found.{Found, Answer, at, nothing, Answers}
+use Rattle.finder.specs.Found.{Found, Search-outcome, at, nothing, Answers}
 
 module _ (L : List ℕ → Type 0) (text : List ℕ) where
   -- of two that begin earliest the one does not begin later
@@ -17,7 +17,7 @@ module _ (L : List ℕ → Type 0) (text : List ℕ) where
   not-shorter {s} {e} {j} f g = elim (decLt e j) [ yes h ↦ absurd (f .latest j h (g .here)) | no h ↦ omega arith ]
 
   -- two right answers are the same: they begin at the same place, and so end at the same place
-  pub search-unique : (a b : Answer) → Answers L text a → Answers L text b → a ≡ b
+  pub search-unique : (a b : Search-outcome) → Answers L text a → Answers L text b → a ≡ b
   search-unique (at s e) (at i j) f g =
       let begins : i ≡ s = le-antisymm (not-later g f) (not-later f g) in
       let g′ : Found L text s j = rw begins at g in

@@ -8,7 +8,7 @@ use mathlib.Core.Option.{Option, none, some}
 use mathlib.Core.List.{List}
 use native.Mathlib.Omega.{arith}
 use lib.ListN.{length}
-use Rattle.finder.specs.Found.{part, None-before, Answer, at, nothing, Answers}
+use Rattle.finder.specs.Found.{part, None-before, Search-outcome, at, nothing, Answers}
 use Rattle.finder.specs.SearchUnique.{search-unique}
 use Rattle.finder.specs.Progress.{
   better,
@@ -31,18 +31,18 @@ latest-end test text s zero = better (test (part s s text)) s none
 latest-end test text s (suc n) = better (test (part s (s + n + 1) text)) (s + n + 1) (latest-end test text s n)
 
 -- the answer where a part begins at s: with its latest end, or as it is from the next start on
-abbrev pub answer-at : ℕ → Option ℕ → Answer → Answer
+abbrev pub answer-at : ℕ → Option ℕ → Search-outcome → Search-outcome
 answer-at s none later = later
 answer-at s (some e) later = at s e
 
 -- the answer among the n starts from s on
-unfoldable pub answer-from : (List ℕ → Bool) → List ℕ → ℕ → ℕ → Answer
+unfoldable pub answer-from : (List ℕ → Bool) → List ℕ → ℕ → ℕ → Search-outcome
 answer-from test text s zero = nothing
 answer-from test text s (suc n) =
     answer-at s (latest-end test text s (length text - s)) (answer-from test text (s + 1) n)
 
 -- the answer of a search in a text for what passes the test
-abbrev pub searched : (List ℕ → Bool) → List ℕ → Answer
+abbrev pub searched : (List ℕ → Bool) → List ℕ → Search-outcome
 searched test text = answer-from test text 0 (length text + 1)
 
 module _ (L : List ℕ → Type 0) (test : List ℕ → Bool) (exactly : (w : List ℕ) → (test w ≡ true) ↔ L w) (text : List ℕ)
@@ -73,7 +73,7 @@ module _ (L : List ℕ → Type 0) (test : List ℕ → Bool) (exactly : (w : Li
         (rw all at (latest-so-far s (length text - s) (omega arith))) (none-past-end L text s)
 
     -- at one start: the answer there, or one from the next start on
-    answer-settled : (s : ℕ) (best : Option ℕ) (later : Answer) → None-before L text s → Furthest L text s best
+    answer-settled : (s : ℕ) (best : Option ℕ) (later : Search-outcome) → None-before L text s → Furthest L text s best
         → (None-before L text (s + 1) → Answers L text later) → Answers L text (answer-at s best later)
     answer-settled s none later before settled go = go (settled-next L text s before settled)
     answer-settled s (some e) later before settled go = settled-found L text s e before settled
@@ -93,6 +93,6 @@ module _ (L : List ℕ → Type 0) (test : List ℕ → Bool) (exactly : (w : Li
     searched-answers = answers-from 0 (length text + 1) (omega arith) (none-before-first L text)
 
     -- and it is the only one
-    pub searched-exactly : (a : Answer) → Answers L text a ↔ (searched test text ≡ a)
+    pub searched-exactly : (a : Search-outcome) → Answers L text a ↔ (searched test text ≡ a)
     searched-exactly a =
         (λ f. search-unique L text (searched test text) a searched-answers f, λ e. rw e at searched-answers)

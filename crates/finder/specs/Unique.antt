@@ -9,7 +9,7 @@ use lib.Dec.{eqb}
 use Rattle.language.specs.Tree.{Tree}
 use Rattle.tree.specs.Leaf.{Leaf, Matches}
 use Rattle.tree.specs.Readback.{good-unique}
-use Rattle.finder.specs.Found.{Answer, at, nothing}
+use Rattle.finder.specs.Found.{Search-outcome, at, nothing}
 use Rattle.finder.specs.SearchUnique.{search-unique}
 use Rattle.finder.specs.Answer.{refusing, answering, finding, match-numbers, search-numbers}
 use Rattle.finder.specs.Promise.{
@@ -72,7 +72,7 @@ same-test false true h = h .1 refl
 same-test false false h = refl
 
 -- the numbers of a search that refuses nothing
-abbrev found-numbers : Answer → Numbers
+abbrev found-numbers : Search-outcome → Numbers
 found-numbers (at start end) = finding start end
 found-numbers nothing = answering false
 
@@ -105,7 +105,8 @@ module _ (list text : List ℕ) where
   match-answer-unique r s a b = sym (matched-back r) ∙ ap matched-by (match-unique a b) ∙ matched-back s
 
   -- two parts found by one list, or nothing, are the same
-  same-found : {a b : Answer} {P Q : Tree Leaf → Type 0} → ((t : Tree Leaf) → P t → Q t → a ≡ b) → Of-good list text P
+  same-found : {a b : Search-outcome} {P Q : Tree Leaf → Type 0} → ((t : Tree Leaf) → P t → Q t → a ≡ b)
+      → Of-good list text P
       → Of-good list text Q → found-numbers a ≡ found-numbers b
   same-found same a b = let (t, p, q) = of-one a b in ap found-numbers (same t p q)
 

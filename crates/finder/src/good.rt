@@ -1,5 +1,5 @@
 // Match and search over a list that is known to be good: its tables are made once, on the stack, for either.
-use crate::part::Part;
+use crate::part::Span;
 use crate::part::first_part;
 use crate::text::text_matches;
 use marks::inner::prepare;
@@ -15,7 +15,7 @@ ghost use Rattle.finder.specs.Found.{Answers};
 ghost use Rattle.finder.specs.Parts.{answer-of, is-part};
 
 // The part in the language that starts earliest and then ends furthest; of the whole text alone where `whole` says so.
-pub fn find_good(list: &[u8], cuts: &[u16], count: usize, text: &[u8], whole: bool) -> Part
+pub fn find_good(list: &[u8], cuts: &[u16], count: usize, text: &[u8], whole: bool) -> Span
     requires { ⌜ Decided-good (now list) (now cuts) count ⌝ }
     ensures { λ r. ⌜ (whole ≡ true → (t : Tree Leaf) → Good (now (list .entry)) t
         → (is-part r ≡ true) ↔ Matches t (now (text .entry))) ⌝ }
@@ -23,7 +23,7 @@ pub fn find_good(list: &[u8], cuts: &[u16], count: usize, text: &[u8], whole: bo
         → Answers (Matches t) (now (text .entry)) (answer-of r)) ⌝ }
 {
     let mut reach = [0u64; 8192];
-    let mut labels = [0u16; 8192];
+    let mut codes = [0u16; 8192];
     let mut runs = [0u8; 128];
     let mut stands = [0u8; 128];
     let mut tops = [0u8; 128];
@@ -32,20 +32,20 @@ pub fn find_good(list: &[u8], cuts: &[u16], count: usize, text: &[u8], whole: bo
         cuts,
         count,
         &mut reach,
-        &mut labels,
+        &mut codes,
         &mut runs,
         &mut stands,
         &mut tops,
     );
     if !whole {
-        return first_part(&reach, &labels, &runs, &stands, &tops, count, text);
+        return first_part(&reach, &codes, &runs, &stands, &tops, count, text);
     }
-    if text_matches(&reach, &labels, &runs, &stands, &tops, count, text) {
-        Part::At {
+    if text_matches(&reach, &codes, &runs, &stands, &tops, count, text) {
+        Span::At {
             start: 0,
             end: text.len(),
         }
     } else {
-        Part::Nothing
+        Span::Nothing
     }
 }

@@ -4,7 +4,7 @@ pub mod numbers;
 mod part;
 mod text;
 
-use part::Part;
+use part::Span;
 pub use text::text_matches;
 ghost use Rattle.finder.specs.Answer.{match-numbers, search-numbers};
 ghost use Rattle.finder.specs.Promise.{Match-answers, Search-answers};
@@ -50,8 +50,8 @@ pub fn is_match(list: &[u8], text: &[u8]) -> Matched
     }
     let part = good::find_good(list, &cuts, pieces, text, true);
     match part {
-        Part::At { start: _, end: _ } => Matched::Yes,
-        Part::Nothing => Matched::No,
+        Span::At { start: _, end: _ } => Matched::Yes,
+        Span::Nothing => Matched::No,
     }
 }
 
@@ -69,7 +69,7 @@ pub fn search(list: &[u8], text: &[u8]) -> Searched
     }
     let part = good::find_good(list, &cuts, pieces, text, false);
     match part {
-        Part::At { start, end } => Searched::Found { start, end },
-        Part::Nothing => Searched::Nothing,
+        Span::At { start, end } => Searched::Found { start, end },
+        Span::Nothing => Searched::Nothing,
     }
 }

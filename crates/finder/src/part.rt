@@ -16,7 +16,7 @@ ghost use Rattle.finder.specs.Found.{Answers};
 ghost use Rattle.finder.specs.Parts.{end-of, answer-of};
 
 // A part of a text, or nothing.
-pub enum Part {
+pub enum Span {
     At { start: usize, end: usize },
     Nothing,
 }
@@ -38,7 +38,7 @@ fn with_end(yes: bool, end: usize, best: End) -> End
 // the language.
 fn furthest_end(
     reach: &[u64],
-    labels: &[u16],
+    codes: &[u16],
     runs: &[u8],
     stands: &[u8],
     tops: &[u8],
@@ -48,13 +48,13 @@ fn furthest_end(
     text: &[u8],
     start: usize,
 ) -> End
-    requires { ⌜ Ready (now reach) (now labels) (now runs) (now stands) (now tops) count ⌝ }
+    requires { ⌜ Ready (now reach) (now codes) (now runs) (now stands) (now tops) count ⌝ }
     requires { ⌜ (start ≤ length (now text)) × (length (now first) ≡ 128) ⌝ }
-    requires { ⌜ ((t : Tree Leaf) → Prepared t (now reach) (now labels) (now runs) (now stands) (now tops) count
+    requires { ⌜ ((t : Tree Leaf) → Prepared t (now reach) (now codes) (now runs) (now stands) (now tops) count
         → Answered t [] (now first) empty) ⌝ }
     ensures { λ r.
         ⌜ ((t : Tree Leaf)
-        → Prepared t (now (reach .entry)) (now (labels .entry)) (now (runs .entry)) (now (stands .entry))
+        → Prepared t (now (reach .entry)) (now (codes .entry)) (now (runs .entry)) (now (stands .entry))
         (now (tops .entry)) count → Furthest (Matches t) (now (text .entry)) start (end-of r)) ⌝ }
 {
     let mut words = [0u64; 128];
@@ -67,7 +67,7 @@ fn furthest_end(
         }
         let yes = advance(
             reach,
-            labels,
+            codes,
             runs,
             stands,
             tops,
@@ -86,26 +86,26 @@ fn furthest_end(
 // with are made once for all places.
 pub fn first_part(
     reach: &[u64],
-    labels: &[u16],
+    codes: &[u16],
     runs: &[u8],
     stands: &[u8],
     tops: &[u8],
     count: usize,
     text: &[u8],
-) -> Part
-    requires { ⌜ Ready (now reach) (now labels) (now runs) (now stands) (now tops) count ⌝ }
+) -> Span
+    requires { ⌜ Ready (now reach) (now codes) (now runs) (now stands) (now tops) count ⌝ }
     ensures { λ r.
         ⌜ ((t : Tree Leaf)
-        → Prepared t (now (reach .entry)) (now (labels .entry)) (now (runs .entry)) (now (stands .entry))
+        → Prepared t (now (reach .entry)) (now (codes .entry)) (now (runs .entry)) (now (stands .entry))
         (now (tops .entry)) count → Answers (Matches t) (now (text .entry)) (answer-of r)) ⌝ }
 {
     let mut first = [0u64; 128];
-    let empty = begin(reach, labels, runs, stands, tops, count, &mut first);
+    let empty = begin(reach, codes, runs, stands, tops, count, &mut first);
     let mut start = 0;
     while start <= text.len() {
         let found = furthest_end(
             reach,
-            labels,
+            codes,
             runs,
             stands,
             tops,
@@ -116,9 +116,9 @@ pub fn first_part(
             start,
         );
         match found {
-            End::At(end) => return Part::At { start, end },
+            End::At(end) => return Span::At { start, end },
             End::Nowhere => start += 1,
         }
     }
-    Part::Nothing
+    Span::Nothing
 }

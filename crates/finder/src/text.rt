@@ -14,36 +14,27 @@ ghost use Rattle.tables.specs.Tables.{Prepared, Ready};
 // rest is not read.
 pub fn text_matches(
     reach: &[u64],
-    labels: &[u16],
+    codes: &[u16],
     runs: &[u8],
     stands: &[u8],
     tops: &[u8],
     count: usize,
     text: &[u8],
 ) -> bool
-    requires { ⌜ Ready (now reach) (now labels) (now runs) (now stands) (now tops) count ⌝ }
+    requires { ⌜ Ready (now reach) (now codes) (now runs) (now stands) (now tops) count ⌝ }
     ensures { λ r.
         ⌜ ((t : Tree Leaf)
-        → Prepared t (now (reach .entry)) (now (labels .entry)) (now (runs .entry)) (now (stands .entry))
+        → Prepared t (now (reach .entry)) (now (codes .entry)) (now (runs .entry)) (now (stands .entry))
         (now (tops .entry)) count → (r ≡ true) ↔ Matches t (now (text .entry))) ⌝ }
 {
     let mut words = [0u64; 128];
-    let mut yes = begin(reach, labels, runs, stands, tops, count, &mut words);
+    let mut yes = begin(reach, codes, runs, stands, tops, count, &mut words);
     let mut i = 0;
     while i < text.len() {
         if nothing_left(&words, count) {
             return false;
         }
-        yes = advance(
-            reach,
-            labels,
-            runs,
-            stands,
-            tops,
-            count,
-            &mut words,
-            text[i],
-        );
+        yes = advance(reach, codes, runs, stands, tops, count, &mut words, text[i]);
         i += 1;
     }
     yes

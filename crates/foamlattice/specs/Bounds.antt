@@ -116,7 +116,8 @@ outcome-ranges bytes room (refused number place) e =
       records-small = omega arith;
       pieces-small = omega arith;
     }
-outcome-ranges bytes room (tree t) e = picked-ranges t (ltb most-pieces (piece-count t)) (ltb room (record-size * nodes t)) refl
+outcome-ranges bytes room (tree t) e =
+    picked-ranges t (ltb most-pieces (piece-count t)) (ltb room (record-size * nodes t)) refl
 
 -- what is answered for any bytes and any buffer
 pub answered-ranges : (bytes : List ℕ) (room : ℕ) → Read-ranges (answered bytes room)

@@ -13,7 +13,7 @@ use marks::step;
 use pack::pack;
 use picker::Picked;
 use picker::pick;
-use reader::Answer;
+use reader::ReadAnswer;
 use reader::read;
 ghost use mathlib.Core.Path.{_≡_};
 ghost use lib.ListN.{length};
@@ -38,8 +38,8 @@ pub extern "C" fn foam_read(expression: &[u8], records: &mut [u8]) -> u64
 {
     let answer = read(expression, records);
     match answer {
-        Answer::Read { records, pieces } => pack(0, false, records, pieces),
-        Answer::Refused { number, place } => pack(number, false, place, 0),
+        ReadAnswer::Read { records, pieces } => pack(0, false, records, pieces),
+        ReadAnswer::Refused { number, place } => pack(number, false, place, 0),
     }
 }
 

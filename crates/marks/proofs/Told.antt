@@ -11,9 +11,9 @@ use Rattle.tree.specs.declared.good.Decided.{Decided}
 use Rattle.tree.specs.declared.good.Decided.the-variants.{Good as good, NotGood as not-good}
 use Rattle.tree.proofs.good.Decided.{the-type}
 use Rattle.tables.specs.Given.{Decided-good}
-use Rattle.marks.specs.declared.Answer.{Answer}
-use Rattle.marks.specs.declared.Answer.the-variants.{Marked, NotGood, TooFewWords, NotMarks}
-use Rattle.marks.proofs.Answer.{the-type as answer-type}
+use Rattle.marks.specs.declared.MarksAnswer.{MarksAnswer}
+use Rattle.marks.specs.declared.MarksAnswer.the-variants.{Marked, NotGood, TooFewWords, NotMarks}
+use Rattle.marks.proofs.MarksAnswer.{the-type as answer-type}
 use Rattle.marks.specs.Answer.{refusing, numbers}
 use Rattle.marks.specs.Promise.{Not-good}
 
@@ -40,7 +40,7 @@ abbrev refusals : List ℕ
 refusals = 10 ∷ 12 ∷ 13 ∷ []
 
 -- a case past the first is a refusal
-pub told-refusal : (answer : Answer) (place : ℕ) → tagOf answer-type answer ≡ suc place
+pub told-refusal : (answer : MarksAnswer) (place : ℕ) → tagOf answer-type answer ≡ suc place
     → numbers answer ≡ refusing (getD refusals place 0)
 told-refusal (Marked accepting) place tag = absurd (omega arith)
 told-refusal NotGood place tag = let at : 0 ≡ place = omega arith in rw (sym at)

@@ -1,8 +1,8 @@
 -- The numbers that a start or a step gives back: one definition for each case of its answer, by the table of refusals.
 use Prim.Native.Nat.{ℕ}
 use mathlib.Core.Bool.{Bool, false}
-use Rattle.marks.specs.declared.Answer.{Answer}
-use Rattle.marks.specs.declared.Answer.the-variants.{Marked, NotGood, TooFewWords, NotMarks}
+use Rattle.marks.specs.declared.MarksAnswer.{MarksAnswer}
+use Rattle.marks.specs.declared.MarksAnswer.the-variants.{Marked, NotGood, TooFewWords, NotMarks}
 -- the refusal's number, 0 for none, and its place; whether the root's accepting state is now marked
 pub use Rattle.marks.specs.declared.numbers.Numbers.{Numbers}
 
@@ -15,7 +15,7 @@ abbrev pub marking : (accepting : Bool) → Numbers
 marking accepting = record { refusal = 0; place = 0; accepting = accepting }
 
 -- the numbers that each case of an answer gives back
-abbrev pub numbers : Answer → Numbers
+abbrev pub numbers : MarksAnswer → Numbers
 numbers (Marked accepting) = marking accepting
 numbers NotGood = refusing 10
 numbers TooFewWords = refusing 12

@@ -22,19 +22,19 @@ use Rattle.tree.specs.Nesting.{every-below}
 use Rattle.tree.specs.Pieces.{cut-up, stated}
 use Rattle.tables.specs.Words.{Bit, width, run, Holds, Clean, Agreeing, Set-of}
 use Rattle.tables.specs.Plan.{Pieces, Planned}
-use Rattle.marks.specs.Bits.{Tells}
+use Rattle.marks.specs.BitsOfWords.Bits.{Tells}
 use Rattle.tables.specs.Tables.{Prepared, Roomy, Ready, Holding, Answered}
 use Rattle.marks.specs.Promise.{Hold, Marks-of}
-use Rattle.marks.specs.EachPieceClosed.{Each-closed-below}
-use Rattle.marks.specs.Swept.{Nearly-closed, Quiet, Narrow-below, In-tables}
-use Rattle.marks.specs.ClosedFromState.{closed-nearly}
+use Rattle.marks.specs.ClosingPieces.EachPieceClosed.{Each-closed-below}
+use Rattle.marks.specs.Sweep.Swept.{Nearly-closed, Quiet, Narrow-below, In-tables}
+use Rattle.marks.specs.ClosingPieces.ClosedFromState.{closed-nearly}
 use Rattle.tables.specs.Given
 use Rattle.tables.specs.Given.{small-narrow}
-use Rattle.marks.specs.Table.{Closed-all}
-use Rattle.marks.specs.Leaves.{Leaves-noted, kept-each}
-use Rattle.marks.specs.Low.{low-tops, checkable}
-use Rattle.marks.specs.Checked.{Checkable}
-use Rattle.marks.specs.WordsMovedClosed.{
+use Rattle.marks.specs.ClosingTable.Table.{Closed-all}
+use Rattle.marks.specs.Moving.Leaves.{Leaves-noted, kept-each}
+use Rattle.marks.specs.BitsOfWords.Low.{low-tops, checkable}
+use Rattle.marks.specs.SharedStates.Checked.{Checkable}
+use Rattle.marks.specs.Moving.WordsMovedClosed.{
   Moved-closed,
   moved-length,
   moved-others,
@@ -43,8 +43,8 @@ use Rattle.marks.specs.WordsMovedClosed.{
   moved-each-closed,
   moved-clean,
 }
-use Rattle.marks.specs.Twice.{Run-of, Closable, Closed-twice, front-holds, front-clean}
-use Rattle.marks.specs.Simulated.{
+use Rattle.marks.specs.Sweep.Twice.{Run-of, Closable, Closed-twice, front-holds, front-clean}
+use Rattle.marks.specs.Sweep.Simulated.{
   laid-whole,
   Start-marked,
   start-holds,
@@ -56,7 +56,7 @@ use Rattle.marks.specs.Simulated.{
   accepting-bit,
 }
 use Rattle.marks.specs.Texts.{all-words, holding-first, holding-next, accepting-answer}
-use Rattle.marks.specs.Visiting.{accepting-holds}
+use Rattle.marks.specs.Sweep.Visiting.{accepting-holds}
 
 -- a test that tells a fact passes exactly when the fact holds
 told-exactly : {P : Type 0} (answer : Bool) → Tells P answer → (answer ≡ true) ↔ P
@@ -100,16 +100,16 @@ pub record Advanced (t : Tree Leaf) (byte : ℕ) (before after : List ℕ) (yes'
   pub answer : (yes' ≡ true) ↔ Stepped meaning t byte (Set-of (cut-up t) before) accepting
 
 -- the tables are those of a tree of which the words are marks, but for agreement
-pub record Running (reach labels runs stands tops : List ℕ) (count : ℕ) (words : List ℕ) : Type 0 where
-  pub ready : Ready reach labels runs stands tops count
+pub record Running (reach codes runs stands tops : List ℕ) (count : ℕ) (words : List ℕ) : Type 0 where
+  pub ready : Ready reach codes runs stands tops count
   pub enough : count ≤ length words
   pub clean : Clean (cut-up (ready .of-tree .0)) words
 
 -- 128 words that are clean for every tree that the tables are of can be stepped
-pub running : {reach labels runs stands tops words : List ℕ} {count : ℕ} → Ready reach labels runs stands tops count
+pub running : {reach codes runs stands tops words : List ℕ} {count : ℕ} → Ready reach codes runs stands tops count
     → length words ≡ 128
-    → ((t : Tree Leaf) → Prepared t reach labels runs stands tops count → Clean (cut-up t) words)
-    → Running reach labels runs stands tops count words
+    → ((t : Tree Leaf) → Prepared t reach codes runs stands tops count → Clean (cut-up t) words)
+    → Running reach codes runs stands tops count words
 running ready long clean =
     let prepared = ready .of-tree .1 in
     record {
@@ -119,11 +119,11 @@ running ready long clean =
           clean (ready .of-tree .0) prepared;
     }
 
-module _ {t : Tree Leaf} {reach labels runs stands tops : List ℕ} {count : ℕ}
-    (prepared : Prepared t reach labels runs stands tops count) where
+module _ {t : Tree Leaf} {reach codes runs stands tops : List ℕ} {count : ℕ}
+    (prepared : Prepared t reach codes runs stands tops count) where
   -- the tables speak of every piece
   pub prepared-laid : In-tables reach runs stands tops (cut-up t) 0
-  prepared-laid = laid-whole reach labels runs stands tops (cut-up t) (prepared .planned) (prepared .reached) (narrow t)
+  prepared-laid = laid-whole reach codes runs stands tops (cut-up t) (prepared .planned) (prepared .reached) (narrow t)
       (all-narrow t)
 
   -- there is a word for each piece
@@ -144,7 +144,7 @@ module _ {t : Tree Leaf} {reach labels runs stands tops : List ℕ} {count : ℕ
   }
 
   -- and can be closed
-  pub prepared-closable : {words : List ℕ} {from to : ℕ} → Roomy reach labels runs stands tops → count ≤ length words
+  pub prepared-closable : {words : List ℕ} {from to : ℕ} → Roomy reach codes runs stands tops → count ≤ length words
       → Run-of reach runs stands tops count (cut-up t) words
       → Quiet 0 from to (take count words) → Closable reach runs stands tops count from to words
   prepared-closable {words} roomy enough on quiet = record {
@@ -176,10 +176,10 @@ module _ {t : Tree Leaf} {reach labels runs stands tops : List ℕ} {count : ℕ
       same-bit e = (subst (λ (i : ℕ). Bit (getD words 0 0) i) e, subst (λ (i : ℕ). Bit (getD words 0 0) i) (sym e))
 
   -- whether words are marks can be tested
-  pub prepared-checkable : {words : List ℕ} → Roomy reach labels runs stands tops → count ≤ length words
+  pub prepared-checkable : {words : List ℕ} → Roomy reach codes runs stands tops → count ≤ length words
       → Checkable runs stands tops words count
   prepared-checkable {words} roomy enough =
-      checkable (record { labels = labels; runs = runs; stands = stands; tops = tops }) (cut-up t) count
+      checkable (record { codes = codes; runs = runs; stands = stands; tops = tops }) (cut-up t) count
       (prepared .planned) (sym prepared-count) (narrow t) (all-narrow t) words
       (omega (arith, prepared .counted, prepared .few, roomy .runs-room))
       (omega (arith, prepared .counted, prepared .few, roomy .stands-room))
@@ -190,7 +190,7 @@ module _ {t : Tree Leaf} {reach labels runs stands tops : List ℕ} {count : ℕ
       → ((tables : Pieces) (x : Nested Leaf) → tables .runs ≡ runs → tables .stands ≡ stands → tables .tops ≡ tops
       → Planned tables x → 1 + run x ≡ count → Tells (Clean x words × Agreeing x words) answer)
       → Tells (Clean (cut-up t) words × Agreeing (cut-up t) words) answer
-  prepared-told words tells = tells (record { labels = labels; runs = runs; stands = stands; tops = tops }) (cut-up t)
+  prepared-told words tells = tells (record { codes = codes; runs = runs; stands = stands; tops = tops }) (cut-up t)
       refl refl refl (prepared .planned) (sym prepared-count)
 
   -- from words with the root's start alone marked, closed twice, and the first of them put into the lent words
@@ -224,11 +224,11 @@ module _ {t : Tree Leaf} {reach labels runs stands tops : List ℕ} {count : ℕ
       }
 
   -- words that were moved are the run of the pieces
-  pub moved-run : {byte : ℕ} {before moved : List ℕ} → Moved-closed reach labels before moved byte count
+  pub moved-run : {byte : ℕ} {before moved : List ℕ} → Moved-closed reach codes before moved byte count
       → Clean (cut-up t) before → Run-of reach runs stands tops count (cut-up t) moved
   moved-run went clean =
       let x = cut-up t in
-      let tables : Pieces = record { labels = labels; runs = runs; stands = stands; tops = tops } in
+      let tables : Pieces = record { codes = codes; runs = runs; stands = stands; tops = tops } in
       let room : 1 + run x ≤ count = omega (arith, prepared-count) in
       let closed = moved-each-closed went tables x refl (prepared .planned) (prepared .reached) room (narrow t)
       (all-narrow t) clean in
@@ -237,12 +237,12 @@ module _ {t : Tree Leaf} {reach labels runs stands tops : List ℕ} {count : ℕ
 
   -- from words moved along the byte, and closed twice
   pub advanced : (byte : ℕ) (before moved after : List ℕ) (yes' : Bool) → Marks-of t before
-      → Moved-closed reach labels before moved byte count → Closed-twice reach runs stands tops count moved after
+      → Moved-closed reach codes before moved byte count → Closed-twice reach runs stands tops count moved after
       → length after ≡ length moved → Tells (Bit (getD after 0 0) (getD tops 0 0)) yes'
       → Advanced t byte before after yes'
   advanced byte before moved after yes' marks went twice long told =
       let x = cut-up t in
-      let tables : Pieces = record { labels = labels; runs = runs; stands = stands; tops = tops } in
+      let tables : Pieces = record { codes = codes; runs = runs; stands = stands; tops = tops } in
       let room : 1 + run x ≤ count = omega (arith, prepared-count) in
       let on = moved-run went (marks .clean) in
       let models : Models x (Holds x after) (Stepped meaning t byte (Set-of x before)) =
@@ -285,8 +285,8 @@ answered-first {t} begins =
     }
 
 -- words of which the first are put in the place of others answer the same
-pub answered-copy : {t : Tree Leaf} {reach labels runs stands tops w after : List ℕ} {count : ℕ} {yes' : Bool}
-    (from to : List ℕ) → Prepared t reach labels runs stands tops count
+pub answered-copy : {t : Tree Leaf} {reach codes runs stands tops w after : List ℕ} {count : ℕ} {yes' : Bool}
+    (from to : List ℕ) → Prepared t reach codes runs stands tops count
     → count ≤ length from → after ≡ take count from ++ drop count to → Answered t w from yes' → Answered t w after yes'
 answered-copy {t} {w = w} {after = after} {count = count} from to prepared enough put answered =
     let x = cut-up t in
@@ -324,9 +324,9 @@ answered-next {t} {w} {before} {after} {b} {yes'} holding went =
     }
 
 -- words that were moved can be closed, where the marks are from `from` up to `to`
-pub moved-closable : {reach labels runs stands tops : List ℕ} {count byte from to : ℕ} {before moved : List ℕ}
-    → Running reach labels runs stands tops count before
-    → Moved-closed reach labels before moved byte count → ((o : ℕ) → o < from → getD moved o 0 ≡ 0)
+pub moved-closable : {reach codes runs stands tops : List ℕ} {count byte from to : ℕ} {before moved : List ℕ}
+    → Running reach codes runs stands tops count before
+    → Moved-closed reach codes before moved byte count → ((o : ℕ) → o < from → getD moved o 0 ≡ 0)
     → ((o : ℕ) → to ≤ o → o < count → getD moved o 0 ≡ 0)
     → Closable reach runs stands tops count from to moved
 moved-closable {count = count} {moved = moved} running went none-before none-after =
@@ -350,7 +350,7 @@ pub begins-marked : (x : Nested Leaf) → Start-marked x begins
 begins-marked x = record { first = refl; others = λ o inside. zeros 127 o }
 
 -- words with the root's start alone marked can be closed
-pub start-closable : {reach labels runs stands tops : List ℕ} {count : ℕ} → Ready reach labels runs stands tops count
+pub start-closable : {reach codes runs stands tops : List ℕ} {count : ℕ} → Ready reach codes runs stands tops count
     → Closable reach runs stands tops count 0 0 begins
 start-closable {count = count} ready =
     let x = cut-up (ready .of-tree .0) in
@@ -366,14 +366,14 @@ start-closable {count = count} ready =
     later (suc o) l = zeros 127 o
 
 -- the tables that were made are those of t, once the table of the empty transitions is closed and the leaves are noted
-pub prepared-of : {list nexts closed reach labels runs stands tops : List ℕ} {count : ℕ} (t : Tree Leaf) → Good list t
-    → Given.Laid t nexts labels runs stands tops count
-    → Closed-all tops nexts closed count → Leaves-noted labels closed reach count
-    → Prepared t reach labels runs stands tops count
+pub prepared-of : {list nexts closed reach codes runs stands tops : List ℕ} {count : ℕ} (t : Tree Leaf) → Good list t
+    → Given.Laid t nexts codes runs stands tops count
+    → Closed-all tops nexts closed count → Leaves-noted codes closed reach count
+    → Prepared t reach codes runs stands tops count
 prepared-of t good made closes notes = record {
   planned = made .planned;
   reached = kept-each notes (cut-up t) (narrow t) (all-narrow t)
-      (closes .reached (record { labels = _; runs = _; stands = _; tops = _ }) (cut-up t) refl (made .planned)
+      (closes .reached (record { codes = _; runs = _; stands = _; tops = _ }) (cut-up t) refl (made .planned)
       (omega (arith, made .counted, all-words t)) (made .words));
   noted = notes .noted;
   counted = made .counted;
@@ -381,8 +381,8 @@ prepared-of t good made closes notes = record {
 }
 
 -- every top is a number of a state
-pub tops-low : {nexts labels runs stands tops : List ℕ} {count : ℕ} (t : Tree Leaf)
-    → Given.Laid t nexts labels runs stands tops count → (k : ℕ) → k < count → getD tops k 0 < 64
+pub tops-low : {nexts codes runs stands tops : List ℕ} {count : ℕ} (t : Tree Leaf)
+    → Given.Laid t nexts codes runs stands tops count → (k : ℕ) → k < count → getD tops k 0 < 64
 tops-low {count = count} t made k inside =
     omega (
       arith,

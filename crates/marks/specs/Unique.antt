@@ -15,7 +15,7 @@ use Rattle.tree.specs.Readback.{good-unique}
 use Rattle.tables.specs.Words.{run, Set-of}
 use Rattle.tree.specs.Pieces.{cut-up}
 use Rattle.marks.specs.Texts.{all-words}
-use Rattle.marks.specs.Alike.{same-words}
+use Rattle.marks.specs.BitsOfWords.Alike.{same-words}
 use Rattle.marks.specs.Answer.{Numbers, refusing, marking, numbers}
 use Rattle.marks.specs.Promise.{
   Hold,
@@ -35,8 +35,8 @@ use Rattle.marks.specs.Promise.{
   step-not-marks,
   stepped,
 }
-use Rattle.marks.specs.declared.Answer.{Answer}
-use Rattle.marks.specs.declared.Answer.the-variants.{Marked, NotGood, TooFewWords, NotMarks}
+use Rattle.marks.specs.declared.MarksAnswer.{MarksAnswer}
+use Rattle.marks.specs.declared.MarksAnswer.the-variants.{Marked, NotGood, TooFewWords, NotMarks}
 
 -- words enough that hold the same set, and are as before past the pieces, are the same
 hold-unique : (t : Tree Leaf) (X : States) (before after after' : List ℕ) → piece-count t ≤ length before
@@ -272,10 +272,10 @@ module _ {list : List ℕ} {byte : ℕ} {before : List ℕ} where
         (λ (t, good, taken). (t, good, taken .0, taken .1), λ (t, good, enough, marks). (t, good, (enough, marks)))
 
 -- an answer is known from its numbers
-pub numbers-injective : (r s : Answer) → numbers r ≡ numbers s → r ≡ s
+pub numbers-injective : (r s : MarksAnswer) → numbers r ≡ numbers s → r ≡ s
 numbers-injective r s e = known r s (ap (λ (n : Numbers). n .refusal) e) (ap (λ (n : Numbers). n .accepting) e)
   where
-    known : (r s : Answer) → numbers r .refusal ≡ numbers s .refusal → numbers r .accepting ≡ numbers s .accepting
+    known : (r s : MarksAnswer) → numbers r .refusal ≡ numbers s .refusal → numbers r .accepting ≡ numbers s .accepting
         → r ≡ s
     known (Marked yes') (Marked yes'') e f = ap Marked f
     known (Marked yes') NotGood e f = absurd (omega arith)

@@ -7,9 +7,9 @@ ghost use Rattle.language.specs.Nested.{Nested};
 ghost use Rattle.tree.specs.Leaf.{Leaf};
 ghost use Rattle.tables.specs.Words.{Bit, run, Clean, Agreeing};
 ghost use Rattle.tables.specs.Plan.{Pieces, Planned};
-ghost use Rattle.marks.specs.Bits.{Tells};
-ghost use Rattle.marks.specs.Parents.{Parent};
-ghost use Rattle.marks.specs.Checked.{Pair-agrees, Child-agrees, Checkable};
+ghost use Rattle.marks.specs.BitsOfWords.Bits.{Tells};
+ghost use Rattle.marks.specs.SharedStates.Parents.{Parent};
+ghost use Rattle.marks.specs.SharedStates.Checked.{Pair-agrees, Child-agrees, Checkable};
 
 // Whether bit i of one word is as bit j of another.
 fn same_bit(one: u64, i: usize, other: u64, j: usize) -> bool

@@ -3,8 +3,8 @@ ghost use Prim.Native.Nat.{_^_, _<_};
 ghost use mathlib.Core.Path.{_≡_};
 ghost use lib.Bits.{bitOr};
 ghost use Rattle.tables.specs.Words.{Bit};
-ghost use Rattle.marks.specs.Bits.{Tells};
-ghost use Rattle.marks.specs.LowestBit.{Lowest};
+ghost use Rattle.marks.specs.BitsOfWords.Bits.{Tells};
+ghost use Rattle.marks.specs.BitsOfWords.LowestBit.{Lowest};
 
 // Whether bit i is set.
 pub fn has_bit(word: u64, i: usize) -> bool

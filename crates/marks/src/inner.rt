@@ -12,11 +12,11 @@ ghost use lib.ListN.{length, getD, take, drop};
 ghost use Rattle.language.specs.Tree.{Tree};
 ghost use Rattle.tree.specs.Leaf.{Leaf};
 ghost use Rattle.tree.specs.Records.{Good};
-ghost use Rattle.marks.specs.Bits.{Tells};
+ghost use Rattle.marks.specs.BitsOfWords.Bits.{Tells};
 ghost use Rattle.tables.specs.Given.{Decided-good};
 ghost use Rattle.marks.specs.Promise.{Marks-of};
 ghost use Rattle.tables.specs.Tables.{Prepared, Roomy, Ready};
-ghost use Rattle.marks.specs.AllZero.{All-zero};
+ghost use Rattle.marks.specs.BitsOfWords.AllZero.{All-zero};
 ghost use Rattle.marks.specs.Inner.{Running, Begun, Advanced};
 
 // Makes the tables of a good list of `count` pieces, with the pieces below each record's node as deciding on the list
@@ -26,22 +26,22 @@ pub fn prepare(
     cuts: &[u16],
     count: usize,
     reach: &mut [u64],
-    labels: &mut [u16],
+    codes: &mut [u16],
     runs: &mut [u8],
     stands: &mut [u8],
     tops: &mut [u8],
 )
     requires { ⌜ Decided-good (now list) (now cuts) count ⌝ }
-    requires { ⌜ Roomy (now reach) (now labels) (now runs) (now stands) (now tops) ⌝ }
-    ensures { λ _. ⌜ Roomy (now (reach .exit)) (now (labels .exit)) (now (runs .exit)) (now (stands .exit))
+    requires { ⌜ Roomy (now reach) (now codes) (now runs) (now stands) (now tops) ⌝ }
+    ensures { λ _. ⌜ Roomy (now (reach .exit)) (now (codes .exit)) (now (runs .exit)) (now (stands .exit))
         (now (tops .exit)) ⌝ }
     ensures { λ _. ⌜ ((t : Tree Leaf) → Good (now (list .entry)) t
-        → Prepared t (now (reach .exit)) (now (labels .exit)) (now (runs .exit)) (now (stands .exit)) (now (tops .exit))
+        → Prepared t (now (reach .exit)) (now (codes .exit)) (now (runs .exit)) (now (stands .exit)) (now (tops .exit))
         count) ⌝ }
 {
-    plan(list, cuts, count, reach, labels, runs, stands, tops);
+    plan(list, cuts, count, reach, codes, runs, stands, tops);
     close_all(reach, tops, count);
-    note_leaves(reach, labels, count);
+    note_leaves(reach, codes, count);
 }
 
 // Puts the first `count` words of one slice in the place of those of another.
@@ -59,18 +59,18 @@ pub fn copy(from: &[u64], count: usize, to: &mut [u64])
 // Marks the root's start alone and closes. Answers whether the root's accepting state is now marked.
 pub fn begin(
     reach: &[u64],
-    labels: &[u16],
+    codes: &[u16],
     runs: &[u8],
     stands: &[u8],
     tops: &[u8],
     count: usize,
     words: &mut [u64],
 ) -> bool
-    requires { ⌜ Ready (now reach) (now labels) (now runs) (now stands) (now tops) count ⌝ }
+    requires { ⌜ Ready (now reach) (now codes) (now runs) (now stands) (now tops) count ⌝ }
     requires { ⌜ count ≤ length (now words) ⌝ }
     ensures { λ r.
         ⌜ ((t : Tree Leaf)
-        → Prepared t (now (reach .entry)) (now (labels .entry)) (now (runs .entry)) (now (stands .entry))
+        → Prepared t (now (reach .entry)) (now (codes .entry)) (now (runs .entry)) (now (stands .entry))
         (now (tops .entry)) count → Begun t (now (words .entry)) (now (words .exit)) r) ⌝ }
 {
     let mut marks = [0u64; 128];
@@ -114,7 +114,7 @@ fn marked_to(words: &[u64], count: usize) -> usize
 // Moves the marks along the byte and closes. Answers whether the root's accepting state is now marked.
 pub fn advance(
     reach: &[u64],
-    labels: &[u16],
+    codes: &[u16],
     runs: &[u8],
     stands: &[u8],
     tops: &[u8],
@@ -122,14 +122,14 @@ pub fn advance(
     words: &mut [u64],
     byte: u8,
 ) -> bool
-    requires { ⌜ Running (now reach) (now labels) (now runs) (now stands) (now tops) count (now words) ⌝ }
+    requires { ⌜ Running (now reach) (now codes) (now runs) (now stands) (now tops) count (now words) ⌝ }
     ensures { λ r.
         ⌜ ((t : Tree Leaf)
-        → Prepared t (now (reach .entry)) (now (labels .entry)) (now (runs .entry)) (now (stands .entry))
+        → Prepared t (now (reach .entry)) (now (codes .entry)) (now (runs .entry)) (now (stands .entry))
         (now (tops .entry)) count → Marks-of t (now (words .entry))
         → Advanced t byte (now (words .entry)) (now (words .exit)) r) ⌝ }
 {
-    move_all(reach, labels, words, byte, count);
+    move_all(reach, codes, words, byte, count);
     let from = marked_from(words, count);
     let to = marked_to(words, count);
     close_twice(reach, runs, stands, tops, count, from, to, words);

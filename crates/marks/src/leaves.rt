@@ -3,18 +3,18 @@
 use crate::bits::with_bit;
 ghost use Prim.Native.Nat.{_+_, _*_, _≤_};
 ghost use lib.ListN.{length};
-ghost use Rattle.marks.specs.Leaves.{Leaves, Leaves-noted};
+ghost use Rattle.marks.specs.Moving.Leaves.{Leaves, Leaves-noted};
 
-// The word with the bits of a piece's states that have a label.
-fn leaves(labels: &[u16], piece: usize) -> u64
-    requires { ⌜ 64 * piece + 64 ≤ length (now labels) ⌝ }
-    ensures { λ r. ⌜ Leaves (now (labels .entry)) piece 62 r ⌝ }
+// The word with the bits of a piece's states that have a code.
+fn leaves(codes: &[u16], piece: usize) -> u64
+    requires { ⌜ 64 * piece + 64 ≤ length (now codes) ⌝ }
+    ensures { λ r. ⌜ Leaves (now (codes .entry)) piece 62 r ⌝ }
 {
     let base = 64 * piece;
     let mut state = 0;
     let mut word: u64 = 0;
     while state < 62 {
-        if labels[base + state] != 0 {
+        if codes[base + state] != 0 {
             word = with_bit(word, state);
         }
         state += 1;
@@ -23,14 +23,14 @@ fn leaves(labels: &[u16], piece: usize) -> u64
 }
 
 // Notes the leaves of every piece. The words of its states stay.
-pub fn note_leaves(reach: &mut [u64], labels: &[u16], pieces: usize)
-    requires { ⌜ (64 * pieces ≤ length (now reach)) × (64 * pieces ≤ length (now labels)) ⌝ }
-    ensures { λ _. ⌜ Leaves-noted (now (labels .entry)) (now (reach .entry)) (now (reach .exit)) pieces ⌝ }
+pub fn note_leaves(reach: &mut [u64], codes: &[u16], pieces: usize)
+    requires { ⌜ (64 * pieces ≤ length (now reach)) × (64 * pieces ≤ length (now codes)) ⌝ }
+    ensures { λ _. ⌜ Leaves-noted (now (codes .entry)) (now (reach .entry)) (now (reach .exit)) pieces ⌝ }
 {
     let mut piece = 0;
     while piece < pieces {
         let at = 64 * piece + 63;
-        reach[at] = leaves(labels, piece);
+        reach[at] = leaves(codes, piece);
         piece += 1;
     }
 }

@@ -23,7 +23,7 @@ ghost use Rattle.marks.specs.Answer.{numbers};
 ghost use Rattle.marks.specs.Promise.{Starts, Steps};
 
 // What a start or a step answers.
-pub enum Answer {
+pub enum MarksAnswer {
     // The marks are made; whether the root's accepting state is now marked.
     Marked { accepting: bool },
     // The list is not good.
@@ -42,7 +42,7 @@ fn mark_good(
     words: &mut [u64],
     stepping: bool,
     byte: u8,
-) -> Answer
+) -> MarksAnswer
     requires { ⌜ Decided-good (now list) (now cuts) count ⌝ }
     ensures { λ r. ⌜ (stepping ≡ false
         → Starts (now (list .entry)) (now (words .entry)) (now (words .exit)) (numbers r)) ⌝ }
@@ -50,7 +50,7 @@ fn mark_good(
         → Steps (now (list .entry)) byte (now (words .entry)) (now (words .exit)) (numbers r)) ⌝ }
 {
     let mut reach = [0u64; 8192];
-    let mut labels = [0u16; 8192];
+    let mut codes = [0u16; 8192];
     let mut runs = [0u8; 128];
     let mut stands = [0u8; 128];
     let mut tops = [0u8; 128];
@@ -59,45 +59,45 @@ fn mark_good(
         cuts,
         count,
         &mut reach,
-        &mut labels,
+        &mut codes,
         &mut runs,
         &mut stands,
         &mut tops,
     );
     if words.len() < count {
-        return Answer::TooFewWords;
+        return MarksAnswer::TooFewWords;
     }
     if stepping {
         if !agreeing(&runs, &stands, &tops, words, count) {
-            return Answer::NotMarks;
+            return MarksAnswer::NotMarks;
         }
-        let accepting = advance(&reach, &labels, &runs, &stands, &tops, count, words, byte);
-        return Answer::Marked { accepting };
+        let accepting = advance(&reach, &codes, &runs, &stands, &tops, count, words, byte);
+        return MarksAnswer::Marked { accepting };
     }
-    let accepting = begin(&reach, &labels, &runs, &stands, &tops, count, words);
-    Answer::Marked { accepting }
+    let accepting = begin(&reach, &codes, &runs, &stands, &tops, count, words);
+    MarksAnswer::Marked { accepting }
 }
 
 // Marks the root's start in the lent words and closes.
-pub fn start(list: &[u8], words: &mut [u64]) -> Answer
+pub fn start(list: &[u8], words: &mut [u64]) -> MarksAnswer
     ensures { λ r. ⌜ Starts (now (list .entry)) (now (words .entry)) (now (words .exit)) (numbers r) ⌝ }
 {
     let mut cuts = [0u16; SLOT_COUNT];
     let decided = decide_with(list, &mut cuts);
     let Decided::Good { records: _, pieces } = decided else {
-        return Answer::NotGood;
+        return MarksAnswer::NotGood;
     };
     mark_good(list, &cuts, pieces, words, false, 0)
 }
 
 // Moves the marks in the lent words along the byte and closes.
-pub fn step(list: &[u8], words: &mut [u64], byte: u8) -> Answer
+pub fn step(list: &[u8], words: &mut [u64], byte: u8) -> MarksAnswer
     ensures { λ r. ⌜ Steps (now (list .entry)) byte (now (words .entry)) (now (words .exit)) (numbers r) ⌝ }
 {
     let mut cuts = [0u16; SLOT_COUNT];
     let decided = decide_with(list, &mut cuts);
     let Decided::Good { records: _, pieces } = decided else {
-        return Answer::NotGood;
+        return MarksAnswer::NotGood;
     };
     mark_good(list, &cuts, pieces, words, true, byte)
 }

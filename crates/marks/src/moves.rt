@@ -11,24 +11,24 @@ ghost use Rattle.tree.specs.Leaf.{Leaf};
 ghost use Rattle.tables.specs.Words.{width};
 ghost use Rattle.tables.specs.Plan.{row, takes, Moves};
 ghost use Rattle.tables.specs.Tables.{Noted};
-ghost use Rattle.marks.specs.WordsMovedClosed.{Word-after, Moved-closed};
+ghost use Rattle.marks.specs.Moving.WordsMovedClosed.{Word-after, Moved-closed};
 
-// The word of a piece, moved along the byte: a state that takes it has the label one above it, and leads to the next
+// The word of a piece, moved along the byte: a state that takes it has the code one above it, and leads to the next
 // state. Only leaves are
 // looked at.
-pub fn moved(reach: &[u64], labels: &[u16], piece: usize, word: u64, byte: u8) -> u64
-    requires { ⌜ (64 * piece + 64 ≤ length (now reach)) × (64 * piece + 64 ≤ length (now labels))
-        × Noted (now reach) (now labels) piece ⌝ }
-    ensures { λ r. ⌜ ((x : Nested Leaf) → width x ≤ 62 → row (now (labels .entry)) piece (width x) ≡ takes x
+pub fn moved(reach: &[u64], codes: &[u16], piece: usize, word: u64, byte: u8) -> u64
+    requires { ⌜ (64 * piece + 64 ≤ length (now reach)) × (64 * piece + 64 ≤ length (now codes))
+        × Noted (now reach) (now codes) piece ⌝ }
+    ensures { λ r. ⌜ ((x : Nested Leaf) → width x ≤ 62 → row (now (codes .entry)) piece (width x) ≡ takes x
         → word < 2 ^ width x → Moves x byte word r) ⌝ }
 {
     let base = 64 * piece;
-    let label = byte as u16 + 1;
+    let code = byte as u16 + 1;
     let mut rest = word & reach[base + 63];
     let mut picked: u64 = 0;
     while rest != 0 {
         let state = lowest(rest);
-        if labels[base + state] == label {
+        if codes[base + state] == code {
             picked = with_bit(picked, state);
         }
         rest = rest & (rest - 1);
@@ -38,29 +38,29 @@ pub fn moved(reach: &[u64], labels: &[u16], piece: usize, word: u64, byte: u8) -
 
 // The word of a piece after the byte: moved, and closed in the piece. A word of no marks stays one, and its tables are
 // not looked at.
-fn word_after(reach: &[u64], labels: &[u16], piece: usize, word: u64, byte: u8) -> u64
-    requires { ⌜ (64 * piece + 64 ≤ length (now reach)) × (64 * piece + 64 ≤ length (now labels))
-        × Noted (now reach) (now labels) piece ⌝ }
-    ensures { λ r. ⌜ Word-after (now (reach .entry)) (now (labels .entry)) piece word byte r ⌝ }
+fn word_after(reach: &[u64], codes: &[u16], piece: usize, word: u64, byte: u8) -> u64
+    requires { ⌜ (64 * piece + 64 ≤ length (now reach)) × (64 * piece + 64 ≤ length (now codes))
+        × Noted (now reach) (now codes) piece ⌝ }
+    ensures { λ r. ⌜ Word-after (now (reach .entry)) (now (codes .entry)) piece word byte r ⌝ }
 {
     if word == 0 {
         return 0;
     }
-    let moved = moved(reach, labels, piece, word, byte);
+    let moved = moved(reach, codes, piece, word, byte);
     close(reach, piece, moved)
 }
 
 // Moves the words of all pieces along the byte, and closes each piece in itself.
-pub fn move_all(reach: &[u64], labels: &[u16], words: &mut [u64], byte: u8, pieces: usize)
-    requires { ⌜ (64 * pieces ≤ length (now reach)) × (64 * pieces ≤ length (now labels))
+pub fn move_all(reach: &[u64], codes: &[u16], words: &mut [u64], byte: u8, pieces: usize)
+    requires { ⌜ (64 * pieces ≤ length (now reach)) × (64 * pieces ≤ length (now codes))
         × (pieces ≤ length (now words)) ⌝ }
-    requires { ⌜ ((k : ℕ) → k < pieces → Noted (now reach) (now labels) k) ⌝ }
-    ensures { λ _. ⌜ Moved-closed (now (reach .entry)) (now (labels .entry)) (now (words .entry)) (now (words .exit))
+    requires { ⌜ ((k : ℕ) → k < pieces → Noted (now reach) (now codes) k) ⌝ }
+    ensures { λ _. ⌜ Moved-closed (now (reach .entry)) (now (codes .entry)) (now (words .entry)) (now (words .exit))
         byte pieces ⌝ }
 {
     let mut piece = 0;
     while piece < pieces {
-        words[piece] = word_after(reach, labels, piece, words[piece], byte);
+        words[piece] = word_after(reach, codes, piece, words[piece], byte);
         piece += 1;
     }
 }

@@ -1,5 +1,5 @@
 // The numbers of an answer, for callers that print or pack them.
-use crate::Answer;
+use crate::MarksAnswer;
 ghost use mathlib.Core.Path.{_≡_};
 ghost use Rattle.marks.specs.Answer.{numbers};
 
@@ -14,18 +14,18 @@ pub struct Numbers {
 }
 
 // The numbers of an answer.
-pub fn numbers_of(answer: Answer) -> Numbers
+pub fn numbers_of(answer: MarksAnswer) -> Numbers
     ensures { λ r. ⌜ r ≡ numbers answer ⌝ }
 {
     match answer {
-        Answer::Marked { accepting } => Numbers {
+        MarksAnswer::Marked { accepting } => Numbers {
             refusal: 0,
             place: 0,
             accepting,
         },
-        Answer::NotGood => refusing(10),
-        Answer::TooFewWords => refusing(12),
-        Answer::NotMarks => refusing(13),
+        MarksAnswer::NotGood => refusing(10),
+        MarksAnswer::TooFewWords => refusing(12),
+        MarksAnswer::NotMarks => refusing(13),
     }
 }
 

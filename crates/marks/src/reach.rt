@@ -7,11 +7,11 @@ use crate::bits::lowest;
 use crate::bits::with_bit;
 ghost use Prim.Native.Nat.{ℕ, _+_, _*_, _≤_, _<_};
 ghost use lib.ListN.{length, getD};
-ghost use Rattle.marks.specs.Rows.{Rows};
-ghost use Rattle.marks.specs.Ahead.{Joined-ahead};
-ghost use Rattle.marks.specs.Reaching.{Let-in};
-ghost use Rattle.marks.specs.Reached.{Closed-rows};
-ghost use Rattle.marks.specs.Table.{Closed-all};
+ghost use Rattle.marks.specs.ClosingTable.Rows.{Rows};
+ghost use Rattle.marks.specs.ClosingTable.Ahead.{Joined-ahead};
+ghost use Rattle.marks.specs.ClosingTable.Reaching.{Let-in};
+ghost use Rattle.marks.specs.ClosingTable.Reached.{Closed-rows};
+ghost use Rattle.marks.specs.ClosingTable.Table.{Closed-all};
 
 // The row of a state: its word and its own bit, and the rows of the states ahead that its transitions lead to.
 fn join_ahead(reach: &[u64], base: usize, state: usize) -> u64

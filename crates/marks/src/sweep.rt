@@ -9,10 +9,10 @@ ghost use Rattle.language.specs.Nested.{Nested};
 ghost use Rattle.language.specs.Settled.{Settled};
 ghost use Rattle.tree.specs.Leaf.{Leaf, meaning};
 ghost use Rattle.tables.specs.Words.{Bit, Holds};
-ghost use Rattle.marks.specs.Bits.{Tells};
-ghost use Rattle.marks.specs.Swept.{passed, Sweep-ready, Sweepable, Swept, At-rest, Missed, Apart};
-ghost use Rattle.marks.specs.ClosedFromState.{Closes-from};
-ghost use Rattle.marks.specs.Twice.{Closable, Closed-twice};
+ghost use Rattle.marks.specs.BitsOfWords.Bits.{Tells};
+ghost use Rattle.marks.specs.Sweep.Swept.{passed, Sweep-ready, Sweepable, Swept, At-rest, Missed, Apart};
+ghost use Rattle.marks.specs.ClosingPieces.ClosedFromState.{Closes-from};
+ghost use Rattle.marks.specs.Sweep.Twice.{Closable, Closed-twice};
 
 // The word with bit `to` set where bit `from` of the other is.
 fn pass(other: u64, from: usize, word: u64, to: usize) -> u64

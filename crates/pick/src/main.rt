@@ -5,7 +5,7 @@ use libc::STDOUT_FILENO;
 use picker::MOST_OUTPUT;
 use picker::Picked;
 ghost use Rattle.pick.specs.Space.{Space};
-ghost use Rattle.pick.specs.Within.{Within};
+ghost use Rattle.pick.specs.ReadWithin.{Read-within};
 
 // What reading the input comes to.
 enum Input {
@@ -39,7 +39,7 @@ fn read_part(part: &mut [u8]) -> isize {
 
 // Reads standard input, which may come in many parts, into a buffer.
 fn read_input(input: &mut [u8]) -> Input
-    ensures { λ r. ⌜ Within (now (input .exit)) r ⌝ }
+    ensures { λ r. ⌜ Read-within (now (input .exit)) r ⌝ }
 {
     let mut count = 0;
     while count < input.len() {

@@ -14,8 +14,8 @@ use Rattle.reader.specs.Grammar.{Written}
 use Rattle.reader.specs.Agree.{scanned-exactly, grammar-unique}
 use Rattle.reader.specs.Answer.{numbers, answered, records-after}
 use Rattle.reader.specs.Kept.{Kept, kept}
-use Rattle.reader.specs.declared.answer.Answer.the-variants.{Read}
-use Rattle.finder.specs.Found.{Part, Found, Nothing-found}
+use Rattle.reader.specs.declared.answer.ReadAnswer.the-variants.{Read}
+use Rattle.finder.specs.Found.{Part-in-language, Found, Nothing-found}
 use Rattle.finder.specs.Answer.{answering, finding}
 use Rattle.finder.specs.Promise.{Of-good, Match-answers, Search-answers}
 use Rattle.finder.specs.Refusals.{match-exactly, search-found-exactly, search-nothing-exactly}
@@ -30,8 +30,9 @@ pub record Accepted (bytes before after : List ℕ) (records pieces : ℕ) : Typ
   pub buffer : after ≡ records-after bytes before
 
 -- a part in a language lies in a larger one
-part-within : {L M : List ℕ → Type 0} (text : List ℕ) → ((w : List ℕ) → L w → M w) → (s e : ℕ) → Part L text s e
-    → Part M text s e
+part-within : {L M : List ℕ → Type 0} (text : List ℕ) → ((w : List ℕ) → L w → M w) → (s e : ℕ)
+    → Part-in-language L text s e
+    → Part-in-language M text s e
 part-within text within s e p = record { ordered = p .ordered; inside = p .inside; belongs = within _ (p .belongs) }
 
 -- in two languages that are the same, search finds the same

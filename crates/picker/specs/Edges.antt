@@ -20,7 +20,7 @@ use Rattle.reader.specs.Answer.{answer-for, answered, records-after}
 use Rattle.reader.specs.Kept.{kept}
 use Rattle.tables.specs.Tables.{Holding, Answered}
 use Rattle.marks.specs.Promise.{Starts, Steps}
-use Rattle.finder.specs.Found.{Answer, at, nothing, Answers}
+use Rattle.finder.specs.Found.{Search-outcome, at, nothing, Answers}
 use Rattle.finder.specs.Promise.{
   Of-good,
   Match-answers,
@@ -72,7 +72,7 @@ pub data Row : Type 0 where
   -- the answer for a whole text
   answers : (expression text : List ℕ) (answer : Bool) → Row
   -- what search finds in a text
-  finds : (expression text : List ℕ) (answer : Answer) → Row
+  finds : (expression text : List ℕ) (answer : Search-outcome) → Row
 
 -- the expression is read, with so many records and pieces, into every buffer that has room for them; and of the list of
 -- records that the buffer then begins with, this holds
@@ -98,7 +98,7 @@ pub record Marking (list : List ℕ) (start : Left) (steps : List Step) : Type 0
   pub goes-on : Each-step list (start .words) steps
 
 -- what search says of a text
-abbrev pub Finding : (list text : List ℕ) → Answer → Type 0
+abbrev pub Finding : (list text : List ℕ) → Search-outcome → Type 0
 Finding list text (at s e) =
     Search-answers list text (record { refusal = 0; place = 0; matched = true; start = s; end = e })
 Finding list text nothing =
@@ -164,7 +164,7 @@ is-tree test (tree t) = also (Bool·beq (ltb most-pieces (piece-count t)) false)
 is-tree test (refused n p) = false
 
 -- whether two answers of search are the same
-unfoldable same-answer : Answer → Answer → Bool
+unfoldable same-answer : Search-outcome → Search-outcome → Bool
 same-answer (at s e) (at i j) = also (eqb s i) (eqb e j)
 same-answer (at s e) nothing = false
 same-answer nothing (at i j) = false
@@ -250,7 +250,7 @@ reads-holds expression records pieces (tree t) scans e =
 reads-holds expression records pieces (refused n p) scans e = absurd (false≢true e)
 
 -- two answers that pass the test are the same
-answer-holds : (a b : Answer) → same-answer a b ≡ true → a ≡ b
+answer-holds : (a b : Search-outcome) → same-answer a b ≡ true → a ≡ b
 unfolding same-answer
 answer-holds (at s e) (at i j) h = rw (eqb-true s i (also-first _ _ h), eqb-true e j (also-second _ _ h))
 answer-holds (at s e) nothing h = absurd (false≢true h)
@@ -310,7 +310,7 @@ module _ {list : List ℕ} {t : Tree Leaf} (good : Good list t) where
       record { t = t; good = good; short = ltb-false longest-text (length text) (fails _ short); holds = holds }
 
   -- a right answer is what search gives back
-  finds-hold : (text : List ℕ) (answer : Answer) → Bool·beq (ltb longest-text (length text)) false ≡ true
+  finds-hold : (text : List ℕ) (answer : Search-outcome) → Bool·beq (ltb longest-text (length text)) false ≡ true
       → Answers (Matches t) text answer → Finding list text answer
   finds-hold text (at s e) short found = search-found (of-good short found)
   finds-hold text nothing short none = search-nothing (of-good short none)

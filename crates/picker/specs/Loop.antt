@@ -19,7 +19,7 @@ use Rattle.picker.specs.Printing.{Prints, prints-none, prints-join}
 
 -- there is space for what is to come from a place of the input on, after so many texts and yes lines: 16 bytes for each
 -- text, 31 for the last line
-pub record Space (input : List ℕ) (place at count yes-lines : ℕ) (out : List ℕ) : Type 0 where
+pub record Print-space (input : List ℕ) (place at count yes-lines : ℕ) (out : List ℕ) : Type 0 where
   pub inside : place ≤ length input
   pub ranked : yes-lines ≤ count
   pub few : count + length (lines (drop place input)) < 100000
@@ -27,11 +27,12 @@ pub record Space (input : List ℕ) (place at count yes-lines : ℕ) (out : List
 
 -- the last line has space where no text is left
 pub space-total : {input : List ℕ} {place at count yes-lines : ℕ} {out : List ℕ}
-    → Space input place at count yes-lines out → at + length (total-line count yes-lines) ≤ length out
+    → Print-space input place at count yes-lines out → at + length (total-line count yes-lines) ≤ length out
 space-total {count = count} {yes-lines = yes-lines} s =
     omega (arith, s, total-line-length count yes-lines (omega (arith, s)) (s .ranked))
 
-module _ {input : List ℕ} {place at count yes-lines : ℕ} {out : List ℕ} (s : Space input place at count yes-lines out)
+module _ {input : List ℕ} {place at count yes-lines : ℕ} {out : List ℕ}
+    (s : Print-space input place at count yes-lines out)
     (end : ℕ) (ends : Ends input place end) (some : place < length input) where
   -- one text fewer is left after a line
   fewer : length (lines (drop place input)) ≡ length (lines (drop (after input end) input)) + 1
@@ -51,7 +52,7 @@ module _ {input : List ℕ} {place at count yes-lines : ℕ} {out : List ℕ} (s
   -- and leaves space for what is to come after it
   pub space-next : (test : Bool) {out′ : List ℕ} {at′ : ℕ}
       → Prints out at (text-line test (count + 1) (yes-lines + 1)) out′ at′
-      → Space input (after input end) at′ (count + 1) (yes-after test yes-lines) out′
+      → Print-space input (after input end) at′ (count + 1) (yes-after test yes-lines) out′
   space-next test p = record {
     inside = omega arith;
     ranked = yes-after-most test count yes-lines (s .ranked);

@@ -25,7 +25,7 @@ use Rattle.picker.specs.Ends.{Ends, after, first-line}
 use Rattle.picker.specs.Limits.{longest-input, most-output}
 use Rattle.picker.specs.Print.{few-pieces, answered, refusal-line, text-lines, reported}
 use Rattle.picker.specs.Printing.{Prints}
-use Rattle.picker.specs.Loop.{Space}
+use Rattle.picker.specs.Loop.{Print-space}
 
 -- reading refused the expression: that is its outcome, by a small number at a small place
 pub record Refusal-read (bytes : List ℕ) (number place : ℕ) : Type 0 where
@@ -34,11 +34,13 @@ pub record Refusal-read (bytes : List ℕ) (number place : ℕ) : Type 0 where
   pub small-place : place < 10000
 
 -- a tree with at most 128 pieces has at most 1,920 nodes, so 15,360 bytes hold its records
-records-fit : (t : Tree Leaf) → ltb most-pieces (piece-count t) ≡ false → record-size * nodes t ≤ record-size * most-records
+records-fit : (t : Tree Leaf) → ltb most-pieces (piece-count t) ≡ false
+    → record-size * nodes t ≤ record-size * most-records
 records-fit t few = omega (arith, nodes-per-piece t, ltb-false most-pieces (piece-count t) few)
 
 -- for a tree: 8 where it has too many pieces, and never 9
-told-tree : (bytes : List ℕ) (room number place : ℕ) → record-size * most-records ≤ room → (t : Tree Leaf) (many short : Bool)
+told-tree : (bytes : List ℕ) (room number place : ℕ) → record-size * most-records ≤ room
+    → (t : Tree Leaf) (many short : Bool)
     → ltb most-pieces (piece-count t) ≡ many → ltb room (record-size * nodes t) ≡ short → few-pieces (scanned bytes)
     ≡ cond many (refused 8 0) (tree t)
     → refusing number place ≡ cond many (refusing 8 0) (cond short (refusing 9 0) (reading t))
@@ -52,7 +54,8 @@ told-tree bytes room number place large t false true m h outcome e =
 told-tree bytes room number place large t false false m h outcome e =
     absurd (omega (arith, nodes-positive t, ap (λ (n : Numbers). n .records) e))
 
-told-outcome : (bytes : List ℕ) (room number place : ℕ) → record-size * most-records ≤ room → (outcome : Outcome) → scanned bytes ≡ outcome
+told-outcome : (bytes : List ℕ) (room number place : ℕ) → record-size * most-records ≤ room → (outcome : Outcome)
+    → scanned bytes ≡ outcome
     → refusing number place ≡ answer-for outcome room → Refusal-read bytes number place
 told-outcome bytes room number place large (refused number′ place′) scans e =
     let bounds = scanned-refusal bytes number′ place′ scans in
@@ -65,10 +68,12 @@ told-outcome bytes room number place large (refused number′ place′) scans e 
           omega (arith, bounds);
     }
 told-outcome bytes room number place large (tree t) scans e =
-    told-tree bytes room number place large t (ltb most-pieces (piece-count t)) (ltb room (record-size * nodes t)) refl refl (rw scans) e
+    told-tree bytes room number place large t (ltb most-pieces (piece-count t)) (ltb room (record-size * nodes t)) refl
+    refl (rw scans) e
 
 -- where reading answers a refusal, that is the expression's outcome
-pub told : (bytes : List ℕ) (room number place : ℕ) → record-size * most-records ≤ room → refusing number place ≡ answers bytes room
+pub told : (bytes : List ℕ) (room number place : ℕ) → record-size * most-records ≤ room
+    → refusing number place ≡ answers bytes room
     → Refusal-read bytes number place
 told bytes room number place large e = told-outcome bytes room number place large (scanned bytes) refl e
 
@@ -95,7 +100,7 @@ module _ (input : List ℕ) (end : ℕ) (ends : Ends input 0 end) where
   -- an expression that is read has a byte, and an end where a text follows: so there are at most 65,534 texts
   pub texts-space : {before after-reading out : List ℕ} {records pieces : ℕ} → length input ≤ longest-input
       → most-output ≤ length out → Kept (part 0 end input) before after-reading records pieces
-      → Space input (after input end) 0 0 0 out
+      → Print-space input (after input end) 0 0 0 out
   texts-space short room k =
       let first = first-line input end ends in
       let long = written-size (scanned-exactly (part 0 end input) (k .read) .0 (k .scans) .1) in

@@ -12,16 +12,16 @@ use Rattle.picker.specs.Digits.{digits, digits-within}
 use Rattle.picker.specs.Print.{text-lines, output, picked}
 
 -- an input, and what is printed for it
-pub record Run : Type 0 where
+pub record Sample-run : Type 0 where
   pub input : List ℕ
   pub printed : List ℕ
 
 -- what a run says
-abbrev pub Prints : Run → Type 0
-Prints run = picked (run .input) ≡ run .printed
+abbrev pub Prints-so : Sample-run → Type 0
+Prints-so run = picked (run .input) ≡ run .printed
 
 -- the sample, and runs at the edges of what a line is
-abbrev pub runs : List Run
+abbrev pub runs : List Sample-run
 runs =
     -- the sample
     record {
@@ -44,6 +44,6 @@ runs =
     ∷ []
 
 -- every run prints so
-pub runs-print : Every Prints runs
+pub runs-print : Every Prints-so runs
 unfolding scan scanned piece-count any-split any-repeat leaf-text matched lines digits digits-within text-lines output
 runs-print = (refl, (refl, (refl, (refl, (refl, (refl, (refl, (refl, tt))))))))

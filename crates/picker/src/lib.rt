@@ -7,7 +7,7 @@ mod texts;
 use line::line_end;
 use line::next_line;
 use print::put;
-use reader::Answer;
+use reader::ReadAnswer;
 use reader::read;
 use report::refusal_line;
 use texts::list_texts;
@@ -48,8 +48,8 @@ fn report_lines(input: &[u8], out: &mut [u8]) -> usize
     let mut list = [0u8; RECORD_SIZE * MOST_RECORDS];
     let answer = read(&input[..end], &mut list);
     match answer {
-        Answer::Refused { number, place } => refusal_line(out, 0, number, place),
-        Answer::Read { records, pieces: _ } => {
+        ReadAnswer::Refused { number, place } => refusal_line(out, 0, number, place),
+        ReadAnswer::Read { records, pieces: _ } => {
             let start = next_line(input, end);
             list_texts(&list[..RECORD_SIZE * records], input, start, out)
         }

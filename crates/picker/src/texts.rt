@@ -19,12 +19,12 @@ ghost use Rattle.finder.specs.Decide.{matches};
 ghost use Rattle.picker.specs.Lines.{lines};
 ghost use Rattle.picker.specs.Print.{text-lines};
 ghost use Rattle.picker.specs.Printing.{Prints};
-ghost use Rattle.picker.specs.Loop.{Space};
+ghost use Rattle.picker.specs.Loop.{Print-space};
 
 // Prints a line for each text from a place of the input on, and the last line.
 pub fn texts(
     reach: &[u64],
-    labels: &[u16],
+    codes: &[u16],
     runs: &[u8],
     stands: &[u8],
     tops: &[u8],
@@ -33,11 +33,11 @@ pub fn texts(
     start: usize,
     out: &mut [u8],
 ) -> usize
-    requires ready { ⌜ Ready (now reach) (now labels) (now runs) (now stands) (now tops) pieces ⌝ }
-    requires space { ⌜ Space (now input) start 0 0 0 (now out) ⌝ }
+    requires ready { ⌜ Ready (now reach) (now codes) (now runs) (now stands) (now tops) pieces ⌝ }
+    requires space { ⌜ Print-space (now input) start 0 0 0 (now out) ⌝ }
     ensures { λ r.
         ⌜ ((t : Tree Leaf)
-        → Prepared t (now (reach .entry)) (now (labels .entry)) (now (runs .entry)) (now (stands .entry))
+        → Prepared t (now (reach .entry)) (now (codes .entry)) (now (runs .entry)) (now (stands .entry))
         (now (tops .entry)) pieces
         → Prints (now (out .entry)) 0 (text-lines matches t 0 0 (lines (drop start (now (input .entry)))))
         (now (out .exit)) r) ⌝ }
@@ -48,15 +48,7 @@ pub fn texts(
     let mut yes = 0;
     while place < input.len() {
         let end = line_end(input, place);
-        let matched = text_matches(
-            reach,
-            labels,
-            runs,
-            stands,
-            tops,
-            pieces,
-            &input[place..end],
-        );
+        let matched = text_matches(reach, codes, runs, stands, tops, pieces, &input[place..end]);
         count += 1;
         at = text_line(out, at, matched, count, yes + 1);
         if matched {
@@ -77,13 +69,13 @@ fn good_texts(
     out: &mut [u8],
 ) -> usize
     requires list { ⌜ Decided-good (now list) (now cuts) pieces ⌝ }
-    requires space { ⌜ Space (now input) start 0 0 0 (now out) ⌝ }
+    requires space { ⌜ Print-space (now input) start 0 0 0 (now out) ⌝ }
     ensures { λ r. ⌜ ((t : Tree Leaf) → Good (now (list .entry)) t
         → Prints (now (out .entry)) 0 (text-lines matches t 0 0 (lines (drop start (now (input .entry)))))
         (now (out .exit)) r) ⌝ }
 {
     let mut reach = [0u64; 8192];
-    let mut labels = [0u16; 8192];
+    let mut codes = [0u16; 8192];
     let mut runs = [0u8; 128];
     let mut stands = [0u8; 128];
     let mut tops = [0u8; 128];
@@ -92,14 +84,14 @@ fn good_texts(
         cuts,
         pieces,
         &mut reach,
-        &mut labels,
+        &mut codes,
         &mut runs,
         &mut stands,
         &mut tops,
     );
     texts(
         &reach,
-        &labels,
+        &codes,
         &runs,
         &stands,
         &tops,
@@ -113,7 +105,7 @@ fn good_texts(
 // Prints a line for each text, by an expression's list, and the last line.
 pub fn list_texts(list: &[u8], input: &[u8], start: usize, out: &mut [u8]) -> usize
     requires list { ⌜ Good-list (now list) ⌝ }
-    requires space { ⌜ Space (now input) start 0 0 0 (now out) ⌝ }
+    requires space { ⌜ Print-space (now input) start 0 0 0 (now out) ⌝ }
     ensures { λ r. ⌜ ((t : Tree Leaf) → Good (now (list .entry)) t
         → Prints (now (out .entry)) 0 (text-lines matches t 0 0 (lines (drop start (now (input .entry)))))
         (now (out .exit)) r) ⌝ }

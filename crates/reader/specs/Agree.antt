@@ -1,6 +1,5 @@
 -- The two descriptions of the syntax agree: the scanner gives the tree that the grammar reads, and there is one at
 -- most.
--- Assumes nothing.
 use Prim.Native.Nat.{ℕ, suc, _+_, _*_, _≤_, _<_}
 use mathlib.Core.Path.{_≡_, refl}
 use mathlib.Core.Logic.{_↔_}

@@ -1,5 +1,4 @@
 -- What `read` answers and what it leaves in the buffer, by the table of refusals.
--- Assumes nothing.
 use Prim.Native.Nat.{ℕ, _*_}
 use mathlib.Core.Bool.{cond}
 use mathlib.Core.List.{List, _++_}
@@ -11,8 +10,8 @@ use Rattle.tree.specs.Layout.{record-size}
 use Rattle.tree.specs.Leaf.{Leaf}
 use Rattle.tree.specs.Records.{encode, piece-count}
 use Rattle.reader.specs.Scanner.{Outcome, tree, refused, scanned}
-use Rattle.reader.specs.declared.answer.Answer.{Answer}
-use Rattle.reader.specs.declared.answer.Answer.the-variants.{Read, Refused}
+use Rattle.reader.specs.declared.answer.ReadAnswer.{ReadAnswer}
+use Rattle.reader.specs.declared.answer.ReadAnswer.the-variants.{Read, Refused}
 
 -- the numbers given back: the refusal's number, 0 for none, and its place; the counts of records and pieces
 pub record Numbers : Type 0 where
@@ -30,7 +29,7 @@ abbrev pub reading : Tree Leaf → Numbers
 reading t = record { refusal = 0; place = 0; records = nodes t; pieces = piece-count t }
 
 -- the numbers that each case of an answer gives back
-abbrev pub numbers : Answer → Numbers
+abbrev pub numbers : ReadAnswer → Numbers
 numbers (Read records pieces) = record { refusal = 0; place = 0; records = records; pieces = pieces }
 numbers (Refused number place) = refusing number place
 

@@ -1,5 +1,4 @@
 -- The bytes of an expression: five are special, every other byte stands for itself.
--- Assumes nothing.
 use Prim.Native.Nat.{ℕ}
 use mathlib.Core.Bool.{Bool, true, false, cond}
 use lib.Dec.{eqb}

@@ -1,6 +1,5 @@
 -- What the grammar reads, the scanner reads: whatever stands around it, the scan passes over a written tree and goes on
 -- after it.
--- Assumes nothing.
 use Prim.Native.Nat.{ℕ, _+_, _<_}
 use mathlib.Core.Path.{_≡_, refl, ap, _∙_}
 use mathlib.Core.Option.{Option, none, some}

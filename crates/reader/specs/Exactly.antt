@@ -1,7 +1,6 @@
 -- When an expression is read: exactly when it is written by the grammar, has at most 1,024 bytes, can be cut into few
 -- enough small
 -- pieces, and the buffer has room for its records.
--- Assumes nothing.
 use Prim.Native.Nat.{ℕ, _*_, _≤_}
 use native.Mathlib.Decide.{decLt}
 use native.Mathlib.Omega.{arith}

@@ -1,5 +1,4 @@
 -- What reading a whole expression gives: its tree's labels, or the first refusal of 1 to 7.
--- Assumes nothing.
 use Prim.Native.Nat.{ℕ, _<_, _≤_}
 use native.Mathlib.Omega.{arith}
 use mathlib.Core.Path.{_≡_, refl, ap, _∙_}

@@ -1,5 +1,4 @@
 -- What the scanner can refuse with: the numbers 3 to 7, at a place up to the end of the bytes.
--- Assumes nothing.
 use Prim.Native.Nat.{ℕ, _+_, _≤_}
 use mathlib.Core.Path.{_≡_, subst}
 use mathlib.Core.Bool.{Bool, true, false, cond}

@@ -1,5 +1,4 @@
 -- The written syntax, as the prose has it: star binds tightest, then catenation, then `|`; both group to the left.
--- Assumes nothing.
 use Prim.Native.Nat.{ℕ, _+_, _<_}
 use mathlib.Core.Path.{_≡_}
 use mathlib.Core.Bool.{true}

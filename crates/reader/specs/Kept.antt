@@ -1,6 +1,5 @@
 -- What follows from the promise of `read`: its answer is one alone; where it says that the records were written they
 -- are a good list of the expression's tree, and where it refuses no byte of the buffer differs.
--- Assumes nothing.
 use Prim.Native.Nat.{ℕ, _*_, _≤_}
 use native.Mathlib.Omega.{arith}
 use mathlib.Core.Path.{_≡_, refl, ap, sym, _∙_}
@@ -28,11 +27,11 @@ use Rattle.reader.specs.Answer.{
   answered,
   records-after,
 }
-use Rattle.reader.specs.declared.answer.Answer.{Answer}
-use Rattle.reader.specs.declared.answer.Answer.the-variants.{Read, Refused}
+use Rattle.reader.specs.declared.answer.ReadAnswer.{ReadAnswer}
+use Rattle.reader.specs.declared.answer.ReadAnswer.the-variants.{Read, Refused}
 
 -- an answer is known from its numbers, where these are neither a refusal nor a record
-numbers-injective : (r s : Answer) → numbers r ≡ numbers s → (numbers r .refusal ≡ 0 → numbers r .records ≡ 0 → ⊥)
+numbers-injective : (r s : ReadAnswer) → numbers r ≡ numbers s → (numbers r .refusal ≡ 0 → numbers r .records ≡ 0 → ⊥)
     → r ≡ s
 numbers-injective (Read records pieces) (Read records′ pieces′) e sure =
     cc (ap (λ (n : Numbers). n .records) e, ap (λ (n : Numbers). n .pieces) e)
@@ -58,7 +57,7 @@ sure-answer bytes room (tree t) scans e f = sure-pick t (ltb most-pieces (piece-
     (record-size * nodes t)) e f
 
 -- two answers that both fit the promise are equal
-pub answer-unique : (bytes : List ℕ) (room : ℕ) (r s : Answer) → numbers r ≡ answered bytes room
+pub answer-unique : (bytes : List ℕ) (room : ℕ) (r s : ReadAnswer) → numbers r ≡ answered bytes room
     → numbers s ≡ answered bytes room → r ≡ s
 answer-unique bytes room r s e f =
     numbers-injective r s (e ∙ sym f) (rw e (sure-answer bytes room (scanned bytes) refl))

@@ -1,6 +1,5 @@
 -- What the readers of an operand, a catenation and a union promise: the tree read, in all surroundings, with its labels
 -- written; or the refusal.
--- Assumes nothing.
 use Prim.Native.Nat.{ℕ, _+_, _*_, _<_, _≤_}
 use native.Mathlib.Omega.{arith}
 use native.Mathlib.Numerals.{add-one}

@@ -1,5 +1,4 @@
 -- The table of refusals, as a scanner that takes one byte after the other and gives the tree or the first fault.
--- Assumes nothing.
 use Prim.Native.Nat.{ℕ, _+_}
 use mathlib.Core.Bool.{Bool, true, false, cond}
 use mathlib.Core.Option.{Option, none, some}

@@ -1,5 +1,4 @@
 -- Which byte has which sign: a sign other than `plain` belongs to one byte alone.
--- Assumes nothing.
 use Prim.Native.Nat.{ℕ}
 use mathlib.Core.Path.{_≡_, refl}
 use mathlib.Core.Bool.{Bool, true, false, cond}

@@ -1,6 +1,5 @@
 -- What the scanner gives, the grammar reads: at every place the scanner's state says what was read from the beginning
 -- up to there.
--- Assumes nothing.
 use Prim.Native.Nat.{ℕ, _+_, _<_}
 use mathlib.Core.Path.{_≡_, refl}
 use mathlib.Core.Bool.{Bool, true, false, cond}

@@ -1,5 +1,4 @@
 -- Where the reading of an operand, a catenation or a union stops, and which bytes begin the next operand.
--- Assumes nothing.
 use Prim.Native.Nat.{ℕ, _<_}
 use native.Mathlib.Omega.{arith}
 use mathlib.Core.Path.{_≡_, refl, ap, _∙_}

@@ -1,5 +1,4 @@
 -- What storing the labels of a tree promises: the answer for that tree, and its records in the buffer.
--- Assumes nothing.
 use Prim.Native.Nat.{ℕ, _*_, _<_, _≤_}
 use native.Mathlib.Omega.{arith}
 use mathlib.Core.Path.{_≡_, ap, _∙_}
@@ -16,11 +15,11 @@ use Rattle.tree.specs.Records.{labels, encode, piece-count}
 use Rattle.tree.specs.Lengths.{length-labels}
 use Rattle.reader.specs.Scanner.{tree}
 use Rattle.reader.specs.Answer.{numbers, answer-for, buffer-for}
-use Rattle.reader.specs.declared.answer.Answer.{Answer}
-use Rattle.reader.specs.declared.answer.Answer.the-variants.{Read, Refused}
+use Rattle.reader.specs.declared.answer.ReadAnswer.{ReadAnswer}
+use Rattle.reader.specs.declared.answer.ReadAnswer.the-variants.{Read, Refused}
 
 -- of whatever tree the labels are, the answer is that tree's, and so is what the buffer holds afterwards
-pub record Store-answer (ls before after : List ℕ) (r : Answer) : Type 0 where
+pub record Store-answer (ls before after : List ℕ) (r : ReadAnswer) : Type 0 where
   pub answer : (t : Tree Leaf) → ls ≡ labels t → numbers r ≡ answer-for (tree t) (length before)
   pub buffer : (t : Tree Leaf) → ls ≡ labels t → after ≡ buffer-for (tree t) before
 

@@ -1,7 +1,6 @@
 -- Part-answer in all surroundings: scanning on from a place with an operand due is scanning on from a later place after
 -- a
 -- tree, or a refusal.
--- Assumes nothing.
 use Prim.Native.Nat.{ℕ, suc, _+_, _<_, _≤_}
 use native.Mathlib.Omega.{arith}
 use native.Mathlib.Numerals.{add-one}

@@ -1,5 +1,4 @@
 -- Written words as bytes, so that an example reads as it is typed.
--- Assumes nothing.
 use Prim.Native.Nat.{ℕ}
 use Prim.Native.Char.{code}
 use Prim.Native.String.{String, [] as no-letters, _∷_ as _and_}

@@ -1,5 +1,4 @@
 -- When an expression is too large: refusal 8 is given exactly when no cut of its tree has few enough pieces.
--- Assumes nothing.
 use Prim.Native.Nat.{ℕ, _*_, _<_, _≤_}
 use native.Mathlib.Omega.{arith}
 use mathlib.Core.Path.{_≡_, refl, ap}

@@ -1,5 +1,5 @@
 // What reading an expression answers.
-pub enum Answer {
+pub enum ReadAnswer {
     // The records were written: how many, and how many pieces they have.
     Read { records: usize, pieces: usize },
     // The refusal: its number and its place.

@@ -9,7 +9,7 @@ mod stars;
 mod store;
 mod union;
 
-pub use answer::Answer;
+pub use answer::ReadAnswer;
 use expression::expression;
 use part::Part;
 use store::store;
@@ -20,14 +20,14 @@ ghost use Rattle.reader.specs.Answer.{numbers, answered, records-after};
 
 // Reads an expression and writes its tree's records. The labels are collected apart, so that nothing is written before
 // the answer is sure.
-pub fn read(expr: &[u8], records: &mut [u8]) -> Answer
+pub fn read(expr: &[u8], records: &mut [u8]) -> ReadAnswer
     ensures answer { λ r. ⌜ numbers r ≡ answered (now (expr .entry)) (length (now (records .entry))) ⌝ }
     ensures buffer { λ r. ⌜ now (records .exit) ≡ records-after (now (expr .entry)) (now (records .entry)) ⌝ }
 {
     let mut labels = [0u16; MOST_LABELS];
     let whole = expression(expr, &mut labels);
     match whole {
-        Part::Refused { number, place } => Answer::Refused { number, place },
+        Part::Refused { number, place } => ReadAnswer::Refused { number, place },
         Part::Read { next: _, count } => store(&labels[..count], records),
     }
 }

@@ -1,5 +1,5 @@
 // From the labels of a tree to its records.
-use crate::answer::Answer;
+use crate::answer::ReadAnswer;
 use tree::layout::RECORD_SIZE;
 use tree::limits::MOST_PIECES;
 use tree::limits::SLOT_COUNT;
@@ -12,7 +12,7 @@ ghost use Rattle.tree.specs.Measured.{Postorder};
 ghost use Rattle.reader.specs.Store.{Store-answer};
 
 // Writes the records of the tree with these labels: 8 where it has too many pieces, then 9 where they do not fit.
-pub fn store(labels: &[u16], records: &mut [u8]) -> Answer
+pub fn store(labels: &[u16], records: &mut [u8]) -> ReadAnswer
     requires tree { ⌜ Postorder (now labels) ⌝ }
     requires few { ⌜ length (now labels) ≤ most-labels ⌝ }
     ensures { λ r. ⌜ Store-answer (now (labels .entry)) (now (records .entry)) (now (records .exit)) r ⌝ }
@@ -22,19 +22,19 @@ pub fn store(labels: &[u16], records: &mut [u8]) -> Answer
     let mut cuts = [0u16; SLOT_COUNT];
     let pieces = piece_count(labels, &mut sizes, &mut opens, &mut cuts);
     if pieces > MOST_PIECES {
-        return Answer::Refused {
+        return ReadAnswer::Refused {
             number: 8,
             place: 0,
         };
     }
     if records.len() < RECORD_SIZE * labels.len() {
-        return Answer::Refused {
+        return ReadAnswer::Refused {
             number: 9,
             place: 0,
         };
     }
     write_records(labels, &sizes, &opens, &cuts, records);
-    Answer::Read {
+    ReadAnswer::Read {
         records: labels.len(),
         pieces,
     }

@@ -82,7 +82,7 @@ pub length-fronts : (x : Nested Leaf) (i : ℕ) → length (fronts x i) + 1 ≡ 
 length-fronts x i = sym (length-append (fronts x i) (0 ∷ [])) ∙ ap length (sym (nexts-fronts x i 0))
     ∙ length-nexts x i 0
 
--- one label for each state
+-- one code for each state
 pub length-takes : (x : Nested Leaf) → length (takes x) ≡ width x
 length-takes (leaf a) = refl
 length-takes (catenation x y) = let e = length-takes x in let g =

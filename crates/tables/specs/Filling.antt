@@ -68,15 +68,15 @@ use Rattle.tables.specs.Standing.{
 -- the tables while they are filled: `roots` has the root's record number of each child piece met so far
 pub record Tables : Type 0 where
   pub nexts : List ℕ
-  pub labels : List ℕ
+  pub codes : List ℕ
   pub stands : List ℕ
   pub roots : List ℕ
 
 -- the tables of these lists
-abbrev pub tables : (nexts labels stands roots : List ℕ) → Tables
-tables a b c d = record { nexts = a; labels = b; stands = c; roots = d }
+abbrev pub tables : (nexts codes stands roots : List ℕ) → Tables
+tables a b c d = record { nexts = a; codes = b; stands = c; roots = d }
 
--- tables with the same words and labels
+-- tables with the same words and codes
 pub tables-same : {a b : List ℕ} {c d : List ℕ} (stands roots : List ℕ) → a ≡ b → c ≡ d
     → tables a c stands roots ≡ tables b d stands roots
 tables-same stands roots p q = λ i. tables (p i) (q i) stands roots
@@ -84,7 +84,7 @@ tables-same stands roots p q = λ i. tables (p i) (q i) stands roots
 -- the tables have room for 128 pieces of 64 states
 pub record Tables-room (t : Tables) : Type 0 where
   pub of-nexts : length (t .nexts) ≡ row-size * most-pieces
-  pub of-labels : length (t .labels) ≡ row-size * most-pieces
+  pub of-codes : length (t .codes) ≡ row-size * most-pieces
   pub of-stands : length (t .stands) ≡ most-pieces
   pub of-roots : length (t .roots) ≡ most-pieces
 
@@ -111,27 +111,27 @@ pub record Filled (s : Site) (t after : Tables) (end : ℕ) : Type 0 where
   pub ended : end ≡ number s + width (tree s)
   pub words : Lies (after .nexts) (row-size * piece s + number s) (fronts (tree s) (number s))
   pub words-before : (j : ℕ) → j < row-size * piece s + number s → getD (after .nexts) j 0 ≡ getD (t .nexts) j 0
-  pub leaves : Lies (after .labels) (row-size * piece s + number s) (takes (tree s))
-  pub leaves-before : (j : ℕ) → j < row-size * piece s + number s → getD (after .labels) j 0 ≡ getD (t .labels) j 0
+  pub leaves : Lies (after .codes) (row-size * piece s + number s) (takes (tree s))
+  pub leaves-before : (j : ℕ) → j < row-size * piece s + number s → getD (after .codes) j 0 ≡ getD (t .codes) j 0
   pub placed : (u : Site) (k : ℕ) → Own-stand-in s u k → Stand-in-placed after u k
   pub others : (k : ℕ) → ((u : Site) → Own-stand-in s u k → ⊥) → Same-place t after k
 
 -- two entries for a leaf or a stand-in, but for the word of its accepting state
-abbrev pub two-entries : Tables → (at label : ℕ) → Tables
-two-entries t at label = tables (set (t .nexts) at 0) (set (set (t .labels) at label) (at + 1) 0) (t .stands) (t .roots)
+abbrev pub two-entries : Tables → (at code : ℕ) → Tables
+two-entries t at code = tables (set (t .nexts) at 0) (set (set (t .codes) at code) (at + 1) 0) (t .stands) (t .roots)
 
--- the two labels of a leaf, and that what comes before them is as it was
-labels-lie : (table : List ℕ) (at label : ℕ) → at + 1 < length table
-    → Lies (set (set table at label) (at + 1) 0) at (label ∷ 0 ∷ [])
-labels-lie table at label fits =
-    entry (getD-set-other (set table at label) (at + 1) at 0 0 (λ e. omega arith)
-    ∙ getD-set-same table at label 0 (omega arith))
-    (entry (getD-set-same (set table at label) (at + 1) 0 0 (simp length-set fits)) ends)
+-- the two codes of a leaf, and that what comes before them is as it was
+codes-lie : (table : List ℕ) (at code : ℕ) → at + 1 < length table
+    → Lies (set (set table at code) (at + 1) 0) at (code ∷ 0 ∷ [])
+codes-lie table at code fits =
+    entry (getD-set-other (set table at code) (at + 1) at 0 0 (λ e. omega arith)
+    ∙ getD-set-same table at code 0 (omega arith))
+    (entry (getD-set-same (set table at code) (at + 1) 0 0 (simp length-set fits)) ends)
 
-labels-before : (table : List ℕ) (at label j : ℕ) → j < at → getD (set (set table at label) (at + 1) 0) j 0
+codes-before : (table : List ℕ) (at code j : ℕ) → j < at → getD (set (set table at code) (at + 1) 0) j 0
     ≡ getD table j 0
-labels-before table at label j low = getD-set-other (set table at label) (at + 1) j 0 0 (λ e. omega arith)
-    ∙ getD-set-other table at j label 0 (λ e. omega arith)
+codes-before table at code j low = getD-set-other (set table at code) (at + 1) j 0 0 (λ e. omega arith)
+    ∙ getD-set-other table at j code 0 (λ e. omega arith)
 
 -- a node is no stand-in
 plain-no-stand-in : {u : Site} {k : ℕ} → Plain (tree u) → Stand-in u k → ⊥
@@ -147,20 +147,20 @@ pub fill-leaf : {list : List ℕ} {a f p n i : ℕ} → Fine list (site (leaf (c
     → Filled (site (leaf (character a)) f p n i) t (two-entries t (row-size * p + i) (a + 1)) (i + 2)
 fill-leaf {a = a} {p = p} {i = i} h t room =
     let r = room .of-nexts in
-    let q = room .of-labels in
+    let q = room .of-codes in
     record {
       ended = refl;
       words = entry (getD-set-same (t .nexts) (row-size * p + i) 0 0 (omega arith)) ends;
       words-before = λ j low. getD-set-other (t .nexts) (row-size * p + i) j 0 0 (λ e. omega arith);
-      leaves = labels-lie (t .labels) (row-size * p + i) (a + 1) (omega arith);
-      leaves-before = λ j low. labels-before (t .labels) (row-size * p + i) (a + 1) j low;
+      leaves = codes-lie (t .codes) (row-size * p + i) (a + 1) (omega arith);
+      leaves-before = λ j low. codes-before (t .codes) (row-size * p + i) (a + 1) j low;
       placed = λ u k m. absurd (no-stand-in-at-leaf (m .inside) (m .stands-for));
       others = λ k none. record { stand = refl; root = refl };
     }
 
 -- two entries for a stand-in, and what is told of its child piece k: the stand-in's number and its root's record
 abbrev pub stand-entries : Tables → (at k i node : ℕ) → Tables
-stand-entries t at k i node = tables (set (t .nexts) at 0) (set (set (t .labels) at 0) (at + 1) 0) (set (t .stands) k i)
+stand-entries t at k i node = tables (set (t .nexts) at 0) (set (set (t .codes) at 0) (at + 1) 0) (set (t .stands) k i)
     (set (t .roots) k node)
 
 -- a stand-in's own child piece is told of
@@ -183,13 +183,13 @@ pub fill-stand : {list : List ℕ} {x : Nested Leaf} {f p n i : ℕ} → Fine li
     → Filled (site (below x) f p n i) t (stand-entries t (row-size * p + i) n i node) (i + 2)
 fill-stand {x = x} {f = f} {p = p} {n = n} {i = i} h t room node at =
     let r = room .of-nexts in
-    let q = room .of-labels in
+    let q = room .of-codes in
     record {
       ended = refl;
       words = entry (getD-set-same (t .nexts) (row-size * p + i) 0 0 (omega arith)) ends;
       words-before = λ j low. getD-set-other (t .nexts) (row-size * p + i) j 0 0 (λ e. omega arith);
-      leaves = labels-lie (t .labels) (row-size * p + i) 0 (omega arith);
-      leaves-before = λ j low. labels-before (t .labels) (row-size * p + i) 0 j low;
+      leaves = codes-lie (t .codes) (row-size * p + i) 0 (omega arith);
+      leaves-before = λ j low. codes-before (t .codes) (row-size * p + i) 0 j low;
       placed = λ u k m. stand-placed h t room node at (m .inside) (m .stands-for) (m .same-piece);
       others = λ k none.
           let other : k ≡ n
@@ -233,7 +233,7 @@ joined t base kind at middle last =
     tables
     (thrice (t .nexts) (base + at) (base + middle - 1) (base + last - 1) (start-word kind at middle)
     (left-exit kind at middle last) (right-exit kind at middle last))
-    (set (set (t .labels) (base + at) 0) (base + last) 0)
+    (set (set (t .codes) (base + at) 0) (base + last) 0)
     (t .stands)
     (t .roots)
 
@@ -302,16 +302,16 @@ module _ {x y : Nested Leaf} {f p n i : ℕ} where
     apart = λ k a b. omega arith;
   }
 
--- two labels set to 0
-labels-other : (table : List ℕ) (a b k : ℕ) → (k ≡ a → ⊥) → (k ≡ b → ⊥) → getD (set (set table a 0) b 0) k 0
+-- two codes set to 0
+codes-other : (table : List ℕ) (a b k : ℕ) → (k ≡ a → ⊥) → (k ≡ b → ⊥) → getD (set (set table a 0) b 0) k 0
     ≡ getD table k 0
-labels-other table a b k not-a not-b = getD-set-other (set table a 0) b k 0 0 not-b ∙ getD-set-other table a k 0 0 not-a
+codes-other table a b k not-a not-b = getD-set-other (set table a 0) b k 0 0 not-b ∙ getD-set-other table a k 0 0 not-a
 
-labels-first : (table : List ℕ) (a b : ℕ) → a < length table → (a ≡ b → ⊥) → getD (set (set table a 0) b 0) a 0 ≡ 0
-labels-first table a b fits not-b = getD-set-other (set table a 0) b a 0 0 not-b ∙ getD-set-same table a 0 0 fits
+codes-first : (table : List ℕ) (a b : ℕ) → a < length table → (a ≡ b → ⊥) → getD (set (set table a 0) b 0) a 0 ≡ 0
+codes-first table a b fits not-b = getD-set-other (set table a 0) b a 0 0 not-b ∙ getD-set-same table a 0 0 fits
 
-labels-last : (table : List ℕ) (a b : ℕ) → b < length table → getD (set (set table a 0) b 0) b 0 ≡ 0
-labels-last table a b fits = getD-set-same (set table a 0) b 0 0 (simp length-set fits)
+codes-last : (table : List ℕ) (a b : ℕ) → b < length table → getD (set (set table a 0) b 0) b 0 ≡ 0
+codes-last table a b fits = getD-set-same (set table a 0) b 0 0 (simp length-set fits)
 
 -- a stand-in of a child's part in the child's piece is one of the parent's
 up : {s l u : Site} {k : ℕ} → Child s l → piece l ≡ piece s → Own-stand-in l u k → Own-stand-in s u k
@@ -408,8 +408,8 @@ module _ {list : List ℕ} {kind : ℕ} {s l r : Site} (j : Joint kind s l r) (h
       ++ Plan.nexts (tree r) (number r) (right-exit kind (number s) (number r) n))) g
       ∙ sym (j .words-as))
 
-  -- the labels, from those of the children's parts
-  two-leaves : Lies (joined after two-base kind (number s) middle last .labels) (two-base + number s) (takes (tree s))
+  -- the codes, from those of the children's parts
+  two-leaves : Lies (joined after two-base kind (number s) middle last .codes) (two-base + number s) (takes (tree s))
   two-leaves =
       let e = middle-is in
       let g = last-is in
@@ -423,12 +423,12 @@ module _ {list : List ℕ} {kind : ℕ} {s l r : Site} (j : Joint kind s l r) (h
       let piece-r = j .piece-right in
       let long-l = length-takes (tree l) in
       let long-r = length-takes (tree r) in
-      let full = room .of-labels in
+      let full = room .of-codes in
       let x = two-base + number s in
       let z = two-base + last in
-      let table = set (set (after .labels) x 0) z 0 in
-      let keeps : (k : ℕ) → (k ≡ x → ⊥) → (k ≡ z → ⊥) → getD table k 0 ≡ getD (after .labels) k 0 =
-      labels-other (after .labels) x z in
+      let table = set (set (after .codes) x 0) z 0 in
+      let keeps : (k : ℕ) → (k ≡ x → ⊥) → (k ≡ z → ⊥) → getD table k 0 ≡ getD (after .codes) k 0 =
+      codes-other (after .codes) x z in
       let part-l : Lies table (x + 1) (takes (tree l)) =
       lies-at (lies-same table (a .leaves) (λ k low high. keeps k (λ same. omega arith) (λ same. omega arith)
       ∙ b .leaves-before k (omega arith))) (omega arith) in
@@ -436,9 +436,9 @@ module _ {list : List ℕ} {kind : ℕ} {s l r : Site} (j : Joint kind s l r) (h
       lies-at (lies-same table (b .leaves) (λ k low high. keeps k (λ same. omega arith) (λ same. omega arith)))
       (omega arith) in
       lies-is
-      (entry (labels-first (after .labels) x z (omega arith) (λ same. omega arith))
+      (entry (codes-first (after .codes) x z (omega arith) (λ same. omega arith))
       (lies-append (lies-append part-l part-r (omega arith))
-      (entry (labels-last (after .labels) x z (omega arith)) ends)
+      (entry (codes-last (after .codes) x z (omega arith)) ends)
       (omega (arith, length-append (takes (tree l)) (takes (tree r))))))
       (sym (j .leaves-as))
 
@@ -463,7 +463,7 @@ module _ {list : List ℕ} {kind : ℕ} {s l r : Site} (j : Joint kind s l r) (h
             (λ same. omega arith) (λ same. omega arith)
             ∙ b .words-before k (omega arith) ∙ a .words-before k (omega arith);
         leaves = two-leaves;
-        leaves-before = λ k low. labels-other (after .labels) x (two-base + last) k (λ same. omega arith)
+        leaves-before = λ k low. codes-other (after .codes) x (two-base + last) k (λ same. omega arith)
             (λ same. omega arith) ∙ b .leaves-before k (omega arith) ∙ a .leaves-before k (omega arith);
         placed = λ u k m. still-placed (two-placed u k m) (record { stand = refl; root = refl });
         others = λ k none. both-same (two-others k none) (record { stand = refl; root = refl });
@@ -501,23 +501,23 @@ module _ {list : List ℕ} {x : Nested Leaf} {f p n i : ℕ} (h : Fine list (sit
       (λ same. omega arith)) part)
       (ap (λ (m : ℕ). (2 ^ (i + 1) + 2 ^ m) ∷ Plan.nexts x (i + 1) (2 ^ (i + 1) + 2 ^ m)) (omega arith))
 
-  -- and its labels
-  star-leaves : Lies (joined after (row-size * p) star-kind i last last .labels) (row-size * p + i) (takes (star x))
+  -- and its codes
+  star-leaves : Lies (joined after (row-size * p) star-kind i last last .codes) (row-size * p + i) (takes (star x))
   star-leaves =
       let few = h .few in
       let later = h .later in
       let narrow = h .narrow in
       let e = a .ended in
       let long = length-takes x in
-      let full = room .of-labels in
-      let table = joined after (row-size * p) star-kind i last last .labels in
+      let full = room .of-codes in
+      let table = joined after (row-size * p) star-kind i last last .codes in
       let part : Lies table (row-size * p + i + 1) (takes x) =
       lies-at (lies-same table (a .leaves)
-      (λ k low high. labels-other (after .labels) (row-size * p + i) (row-size * p + last) k (λ same. omega arith)
+      (λ k low high. codes-other (after .codes) (row-size * p + i) (row-size * p + last) k (λ same. omega arith)
       (λ same. omega arith))) (omega arith) in
-      entry (labels-first (after .labels) (row-size * p + i) (row-size * p + last) (omega arith) (λ same. omega arith))
+      entry (codes-first (after .codes) (row-size * p + i) (row-size * p + last) (omega arith) (λ same. omega arith))
       (lies-append part
-      (entry (labels-last (after .labels) (row-size * p + i) (row-size * p + last) (omega arith)) ends)
+      (entry (codes-last (after .codes) (row-size * p + i) (row-size * p + last) (omega arith)) ends)
       (omega arith))
 
   -- the part of a star
@@ -532,7 +532,7 @@ module _ {list : List ℕ} {x : Nested Leaf} {f p n i : ℕ} (h : Fine list (sit
             thrice-other (after .nexts) (row-size * p + i) (row-size * p + last - 1) (row-size * p + last - 1) _ _ _ k
             (λ same. omega arith) (λ same. omega arith) (λ same. omega arith) ∙ a .words-before k (omega arith);
         leaves = star-leaves;
-        leaves-before = λ k low. labels-other (after .labels) (row-size * p + i) (row-size * p + last) k
+        leaves-before = λ k low. codes-other (after .codes) (row-size * p + i) (row-size * p + last) k
             (λ same. omega arith)
             (λ same. omega arith) ∙ a .leaves-before k (omega arith);
         placed = λ u k m. still-placed (a .placed u k (down refl (operand-only (m .inside) (m .stands-for)) m))

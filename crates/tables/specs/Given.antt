@@ -91,8 +91,8 @@ pub record Decided-good (list cuts : List ℕ) (pieces : ℕ) : Type 0 where
   pub pieces-are : pieces ≡ piece-count some
 
 -- the tables are those of t: of its pieces, the words of the empty transitions, and the number of the pieces
-pub record Laid (t : Tree Leaf) (nexts labels runs stands tops : List ℕ) (count : ℕ) : Type 0 where
-  pub planned : Planned (record { labels = labels; runs = runs; stands = stands; tops = tops }) (cut-up t)
+pub record Laid (t : Tree Leaf) (nexts codes runs stands tops : List ℕ) (count : ℕ) : Type 0 where
+  pub planned : Planned (record { codes = codes; runs = runs; stands = stands; tops = tops }) (cut-up t)
   pub words : Each Nexts nexts (cut-up t)
   pub counted : count ≡ piece-count t
 
@@ -128,9 +128,9 @@ module _ {list cuts : List ℕ} {pieces : ℕ} (known : Decided-good list cuts p
   }
 
 -- before the first piece
-pub making-none : {list cuts nexts labels runs stands tops roots : List ℕ} {pieces : ℕ}
-    → Decided-good list cuts pieces → Roomy nexts labels runs stands tops → length roots ≡ most-pieces
-    → getD roots 0 0 ≡ length list / record-size - 1 → Making list cuts 0 (tables nexts labels stands roots) runs tops
+pub making-none : {list cuts nexts codes runs stands tops roots : List ℕ} {pieces : ℕ}
+    → Decided-good list cuts pieces → Roomy nexts codes runs stands tops → length roots ≡ most-pieces
+    → getD roots 0 0 ≡ length list / record-size - 1 → Making list cuts 0 (tables nexts codes stands roots) runs tops
 making-none {runs = runs} {tops = tops} known roomy roots-room first =
     record {
       listed = record { some = cut-up (known .some); top = good-top (known .good) };
@@ -138,7 +138,7 @@ making-none {runs = runs} {tops = tops} known roomy roots-room first =
       cuts-room = known .cuts-room;
       room = record {
         of-nexts = roomy .reach-room;
-        of-labels = roomy .labels-room;
+        of-codes = roomy .codes-room;
         of-stands = roomy .stands-room;
         of-roots = roots-room;
       };
@@ -148,9 +148,9 @@ making-none {runs = runs} {tops = tops} known roomy roots-room first =
     }
 
 -- after the last
-pub laid : {list cuts nexts labels runs stands tops roots : List ℕ} {total : ℕ}
-    → Making list cuts total (tables nexts labels stands roots) runs tops → Total list total
-    → (t : Tree Leaf) → Good list t → Laid t nexts labels runs stands tops total
+pub laid : {list cuts nexts codes runs stands tops roots : List ℕ} {total : ℕ}
+    → Making list cuts total (tables nexts codes stands roots) runs tops → Total list total
+    → (t : Tree Leaf) → Good list t → Laid t nexts codes runs stands tops total
 laid making all t good =
     let top = good-top good in
     let count = all .counts-all (cut-up t) top in

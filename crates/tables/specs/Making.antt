@@ -58,7 +58,7 @@ use Rattle.tables.specs.Standing.{
   piece-below,
 }
 use Rattle.tables.specs.Filling.{Tables, tables, Tables-room, Stand-in-placed, Same-place, Filled, still-placed}
-use Rattle.tables.specs.Walking.{Sits, sits, Within, bounds, Visited, Visitable, filled-ends, room-kept}
+use Rattle.tables.specs.Walking.{Sits, sits, Piece-bounds, bounds, Visited, Visitable, filled-ends, room-kept}
 use Rattle.tables.specs.Below.{Top, Listed, slot-below}
 
 -- what lies below what lies below a site
@@ -134,7 +134,7 @@ owner {x} m = in-owner m (record { top = x; begin = 0; head = root; inside = her
 -- all entries of the piece n, which is the top piece of y, are there
 pub record Row-made (y : Nested Leaf) (n : ℕ) (t : Tables) (runs tops : List ℕ) : Type 0 where
   pub words : Lies (t .nexts) (row-size * n) (Plan.nexts y 0 0)
-  pub leaves : Lies (t .labels) (row-size * n) (takes y)
+  pub leaves : Lies (t .codes) (row-size * n) (takes y)
   pub ran : getD runs n 0 ≡ 1 + run y
   pub topped : getD tops n 0 ≡ width y - 1
 
@@ -168,7 +168,7 @@ made-none x t runs tops e =
 
 -- the tables when a piece has been walked and its last word set
 abbrev pub closed-row : Tables → (k last : ℕ) → Tables
-closed-row t k last = tables (set (t .nexts) (row-size * k + last - 1) 0) (t .labels) (t .stands) (t .roots)
+closed-row t k last = tables (set (t .nexts) (row-size * k + last - 1) 0) (t .codes) (t .stands) (t .roots)
 
 module _ {list : List ℕ} {x : Nested Leaf} (top : Top list x) (k : ℕ) (inside : k < 1 + run x) {t after : Tables}
     (full : Tables-room after)
@@ -253,12 +253,12 @@ module _ {list : List ℕ} {x : Nested Leaf} (top : Top list x) (k : ℕ) (insid
       let broad = wide (this .top) in
       let small = in-fine (head-in head) (top .fine) .narrow in
       let long = length-nexts y 0 0 in
-      let long-labels = length-takes y in
+      let long-codes = length-takes y in
       record {
         words = lies-same (closed-row after k last .nexts) (row .words)
             (λ j above high. getD-set-other (after .nexts) (row-size * k + last - 1) j 0 0 (λ same. omega arith)
             ∙ part .words-before j (omega arith));
-        leaves = lies-same (after .labels) (row .leaves) (λ j above high. part .leaves-before j (omega arith));
+        leaves = lies-same (after .codes) (row .leaves) (λ j above high. part .leaves-before j (omega arith));
         ran = getD-set-other runs k n (r + 1) 0 (λ same. omega arith) ∙ row .ran;
         topped = getD-set-other tops k n (last - 1) 0 (λ same. omega arith) ∙ row .topped;
       }
@@ -281,7 +281,7 @@ module _ {list : List ℕ} {x : Nested Leaf} (top : Top list x) {t : Tables} (ro
     (made : Pieces-made x (1 + run x) t runs tops) where
   -- the tables without the words
   abbrev told : Plan.Pieces
-  told = record { labels = t .labels; runs = runs; stands = t .stands; tops = tops }
+  told = record { codes = t .codes; runs = runs; stands = t .stands; tops = tops }
 
   -- a piece's number is below their count
   head-low : {y : Nested Leaf} {f n : ℕ} → Head x y f n → n < 1 + run x
@@ -297,8 +297,8 @@ module _ {list : List ℕ} {x : Nested Leaf} (top : Top list x) {t : Tables} (ro
       let long = length-takes y in
       let small = in-fine (head-in head) (top .fine) in
       record {
-        labelled = subst (λ (k : ℕ). take k (drop (row-size * n) (t .labels)) ≡ takes y) long
-            (lies-row (row .leaves) (omega (arith, room .of-labels, small .narrow, small .later, small .few)));
+        coded = subst (λ (k : ℕ). take k (drop (row-size * n) (t .codes)) ≡ takes y) long
+            (lies-row (row .leaves) (omega (arith, room .of-codes, small .narrow, small .later, small .few)));
         ran = row .ran;
         topped = row .topped;
       }
@@ -374,7 +374,7 @@ module _ {list cuts : List ℕ} {k : ℕ} {t : Tables} {runs tops : List ℕ} (m
   pub piece-ready : Visitable list (getD (t .roots) k 0) k 0 t
   piece-ready = record { some = _; sitting = the-sits; room = making .room }
 
-  pub piece-within : Within list (getD (t .roots) k 0) k 0
+  pub piece-within : Piece-bounds list (getD (t .roots) k 0) k 0
   piece-within = bounds the-sits
 
   -- the number of the pieces below it is known
@@ -440,17 +440,17 @@ total-few listed all = omega (arith, all .counts-all _ (listed .top), listed .to
 
 -- from one piece to the next
 pub making-more : {list cuts : List ℕ} {k : ℕ} {t : Tables} {runs tops : List ℕ} → Making list cuts k t runs tops
-    → (nexts labels runs-after stands tops-after roots : List ℕ) → length nexts ≡ length (t .nexts)
-    → length labels ≡ length (t .labels) → length runs-after ≡ length runs
+    → (nexts codes runs-after stands tops-after roots : List ℕ) → length nexts ≡ length (t .nexts)
+    → length codes ≡ length (t .codes) → length runs-after ≡ length runs
     → length stands ≡ length (t .stands) → length tops-after ≡ length tops → length roots ≡ length (t .roots)
-    → ((x : Nested Leaf) → Top list x → Pieces-made x (k + 1) (tables nexts labels stands roots) runs-after tops-after)
-    → Making list cuts (k + 1) (tables nexts labels stands roots) runs-after tops-after
-making-more making nexts labels runs-after stands tops-after roots a b c d e f more =
+    → ((x : Nested Leaf) → Top list x → Pieces-made x (k + 1) (tables nexts codes stands roots) runs-after tops-after)
+    → Making list cuts (k + 1) (tables nexts codes stands roots) runs-after tops-after
+making-more making nexts codes runs-after stands tops-after roots a b c d e f more =
     record {
       listed = making .listed;
       counted = making .counted;
       cuts-room = making .cuts-room;
-      room = room-kept nexts labels stands roots (making .room) a b d f;
+      room = room-kept nexts codes stands roots (making .room) a b d f;
       runs-room = c ∙ making .runs-room;
       tops-room = e ∙ making .tops-room;
       so-far = more;

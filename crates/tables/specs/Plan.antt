@@ -16,7 +16,7 @@ use Rattle.tables.specs.Words.{Bit, width, run, Own, number}
 abbrev pub row-size : ℕ
 row-size = 64
 
--- the entry of a piece's row that is no state's: its word has the bits of the states with a label
+-- the entry of a piece's row that is no state's: its word has the bits of the states with a code
 abbrev pub leaves-entry : ℕ
 leaves-entry = 63
 
@@ -39,13 +39,13 @@ nexts (star x) i exit =
     (2 ^ (i + 1) + 2 ^ (i + (1 + width x))) ∷ (nexts x (i + 1) (2 ^ (i + 1) + 2 ^ (i + (1 + width x))) ++ (exit ∷ []))
 nexts (below x) i exit = 0 ∷ exit ∷ []
 
--- the label of a leaf's start: one more than its character
-abbrev pub start-label : Leaf → ℕ
-start-label (character c) = c + 1
+-- the code of a leaf's start: one more than its character
+abbrev pub start-code : Leaf → ℕ
+start-code (character c) = c + 1
 
--- the labels of the states: a leaf's at its start, else 0, which equals no byte's label: a stand-in reads no byte
+-- the codes of the states: a leaf's at its start, else 0, which equals no byte's code: a stand-in reads no byte
 abbrev pub takes : Nested Leaf → List ℕ
-takes (leaf a) = start-label a ∷ 0 ∷ []
+takes (leaf a) = start-code a ∷ 0 ∷ []
 takes (catenation x y) = 0 ∷ (takes x ++ takes y ++ (0 ∷ []))
 takes (union x y) = 0 ∷ (takes x ++ takes y ++ (0 ∷ []))
 takes (star x) = 0 ∷ (takes x ++ (0 ∷ []))
@@ -55,17 +55,17 @@ takes (below x) = 0 ∷ 0 ∷ []
 abbrev pub row : List ℕ → ℕ → ℕ → List ℕ
 row table k n = take n (drop (row-size * k) table)
 
--- the tables of the pieces: labels; for each piece how many pieces it and those below it are, the number of its
+-- the tables of the pieces: codes; for each piece how many pieces it and those below it are, the number of its
 -- stand-in's start in its parent, and the number of its last state
 pub record Pieces : Type 0 where
-  pub labels : List ℕ
+  pub codes : List ℕ
   pub runs : List ℕ
   pub stands : List ℕ
   pub tops : List ℕ
 
 -- the tables speak of the piece k, which is the top piece of x
 pub record Piece-at (tables : Pieces) (x : Nested Leaf) (k : ℕ) : Type 0 where
-  pub labelled : row (tables .labels) k (width x) ≡ takes x
+  pub coded : row (tables .codes) k (width x) ≡ takes x
   pub ran : getD (tables .runs) k 0 ≡ 1 + run x
   pub topped : getD (tables .tops) k 0 ≡ width x - 1
 

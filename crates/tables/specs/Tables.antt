@@ -15,31 +15,31 @@ use Rattle.tree.specs.Pieces.{cut-up}
 use Rattle.tables.specs.Words.{Bit, Holds, Clean}
 use Rattle.tables.specs.Plan.{row-size, leaves-entry, Planned, Each, Reaches}
 
--- the entry of the piece k that is no state's has the bits of the states with a label
-pub record Noted (reach labels : List ℕ) (k : ℕ) : Type 0 where
-  pub leaves : (i : ℕ) → i < most-states → (getD labels (row-size * k + i) 0 ≡ 0 → ⊥)
+-- the entry of the piece k that is no state's has the bits of the states with a code
+pub record Noted (reach codes : List ℕ) (k : ℕ) : Type 0 where
+  pub leaves : (i : ℕ) → i < most-states → (getD codes (row-size * k + i) 0 ≡ 0 → ⊥)
       → Bit (getD reach (row-size * k + leaves-entry) 0) i
 
 -- the tables are those of t: of its pieces, and the closing table of each, with its leaves noted
-pub record Prepared (t : Tree Leaf) (reach labels runs stands tops : List ℕ) (count : ℕ) : Type 0 where
-  pub planned : Planned (record { labels = labels; runs = runs; stands = stands; tops = tops }) (cut-up t)
+pub record Prepared (t : Tree Leaf) (reach codes runs stands tops : List ℕ) (count : ℕ) : Type 0 where
+  pub planned : Planned (record { codes = codes; runs = runs; stands = stands; tops = tops }) (cut-up t)
   pub reached : Each Reaches reach (cut-up t)
-  pub noted : (k : ℕ) → k < count → Noted reach labels k
+  pub noted : (k : ℕ) → k < count → Noted reach codes k
   pub counted : count ≡ piece-count t
   pub few : piece-count t ≤ most-pieces
 
 -- the tables have room for 128 pieces of 64 states
-pub record Roomy (reach labels runs stands tops : List ℕ) : Type 0 where
+pub record Roomy (reach codes runs stands tops : List ℕ) : Type 0 where
   pub reach-room : length reach ≡ row-size * most-pieces
-  pub labels-room : length labels ≡ row-size * most-pieces
+  pub codes-room : length codes ≡ row-size * most-pieces
   pub runs-room : length runs ≡ most-pieces
   pub stands-room : length stands ≡ most-pieces
   pub tops-room : length tops ≡ most-pieces
 
 -- the tables are those of some tree
-pub record Ready (reach labels runs stands tops : List ℕ) (count : ℕ) : Type 0 where
-  pub roomy : Roomy reach labels runs stands tops
-  pub of-tree : (t : Tree Leaf) × Prepared t reach labels runs stands tops count
+pub record Ready (reach codes runs stands tops : List ℕ) (count : ℕ) : Type 0 where
+  pub roomy : Roomy reach codes runs stands tops
+  pub of-tree : (t : Tree Leaf) × Prepared t reach codes runs stands tops count
 
 -- the words hold the marks of the plain simulation after the text w, and no bit past a last state
 pub record Holding (t : Tree Leaf) (w words : List ℕ) : Type 0 where

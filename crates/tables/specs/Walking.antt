@@ -67,14 +67,15 @@ pub data Sits (list : List ℕ) (node : ℕ) : (piece at : ℕ) → Site → Typ
       → Sits list node p i (site x f p n i)
 
 -- how far the numbers at a site go
-pub record Within (list : List ℕ) (node piece at : ℕ) : Type 0 where
+pub record Piece-bounds (list : List ℕ) (node piece at : ℕ) : Type 0 where
   pub listed : record-size * node + record-size ≤ length list
   pub few-nodes : node < most-records
   pub few-pieces : piece < most-pieces
   pub narrow : at + 2 ≤ most-states
 
 -- the numbers of a site that sits in the list are within bounds
-pub bounds : {list : List ℕ} {node piece at : ℕ} {s : Site} → Sits list node piece at s → Within list node piece at
+pub bounds : {list : List ℕ} {node piece at : ℕ} {s : Site} → Sits list node piece at s
+    → Piece-bounds list node piece at
 bounds (sits {x = x} h e) = record {
   listed = omega (arith, within h);
   few-nodes = omega (arith, h .short);
@@ -262,13 +263,13 @@ pub filled-ends : {list : List ℕ} {node piece at end : ℕ} {s : Site} {t afte
     → Filled s t after end → (at + 2 ≤ end) × (end ≤ most-states)
 filled-ends (sits {x = x} h e) filled = omega (arith, wide x, h .narrow, filled .ended)
 
--- the tables of words and of labels have room for 128 pieces of 64 states
-pub record Wide (nexts labels : List ℕ) : Type 0 where
+-- the tables of words and of codes have room for 128 pieces of 64 states
+pub record Wide (nexts codes : List ℕ) : Type 0 where
   pub of-nexts : length nexts ≡ row-size * most-pieces
-  pub of-labels : length labels ≡ row-size * most-pieces
+  pub of-codes : length codes ≡ row-size * most-pieces
 
-pub wide-enough : {t : Tables} → Tables-room t → Wide (t .nexts) (t .labels)
-wide-enough room = record { of-nexts = room .of-nexts; of-labels = room .of-labels }
+pub wide-enough : {t : Tables} → Tables-room t → Wide (t .nexts) (t .codes)
+wide-enough room = record { of-nexts = room .of-nexts; of-codes = room .of-codes }
 
 -- some site sits there, and the tables have room
 pub record Visitable (list : List ℕ) (node piece at : ℕ) (t : Tables) : Type 0 where
@@ -277,13 +278,13 @@ pub record Visitable (list : List ℕ) (node piece at : ℕ) (t : Tables) : Type
   pub room : Tables-room t
 
 -- tables of the same lengths have the same room
-pub room-kept : {a b c d : List ℕ} (nexts labels stands roots : List ℕ) → Tables-room (tables a b c d)
-    → length nexts ≡ length a → length labels ≡ length b → length stands ≡ length c → length roots ≡ length d
-    → Tables-room (tables nexts labels stands roots)
-room-kept nexts labels stands roots room e f g h =
+pub room-kept : {a b c d : List ℕ} (nexts codes stands roots : List ℕ) → Tables-room (tables a b c d)
+    → length nexts ≡ length a → length codes ≡ length b → length stands ≡ length c → length roots ≡ length d
+    → Tables-room (tables nexts codes stands roots)
+room-kept nexts codes stands roots room e f g h =
     record {
       of-nexts = e ∙ room .of-nexts;
-      of-labels = f ∙ room .of-labels;
+      of-codes = f ∙ room .of-codes;
       of-stands = g ∙ room .of-stands;
       of-roots =
           h ∙ room .of-roots;
@@ -322,11 +323,11 @@ module _ {list : List ℕ} {node piece own kind : ℕ} (met : Of-piece list node
   met-other k other e = other (met .of-kind ∙ e)
 
   -- a leaf's record was visited
-  pub visited-leaf : {at end : ℕ} {nexts labels words leaves stands roots : List ℕ}
-      → Tables-room (tables nexts labels stands roots) → kind ≡ character-kind → end ≡ at + 2
+  pub visited-leaf : {at end : ℕ} {nexts codes words leaves stands roots : List ℕ}
+      → Tables-room (tables nexts codes stands roots) → kind ≡ character-kind → end ≡ at + 2
       → words ≡ set nexts (row-size * piece + at) 0
-      → leaves ≡ set (set labels (row-size * piece + at) (character-at list node + 1)) (row-size * piece + at + 1) 0
-      → Visited list node piece at (tables nexts labels stands roots) (tables words leaves stands roots) end
+      → leaves ≡ set (set codes (row-size * piece + at) (character-at list node + 1)) (row-size * piece + at + 1) 0
+      → Visited list node piece at (tables nexts codes stands roots) (tables words leaves stands roots) end
   visited-leaf room e g f h s here = filled-as (visit-leaf here met-own (met-kind character-kind e) _ room)
       (tables-same _ _ f h) g
 
@@ -402,7 +403,7 @@ module _ {list : List ℕ} {node piece own kind : ℕ} (met : Of-piece list node
           → words
           ≡ thrice (after .nexts) (row-size * piece + at) (row-size * piece + middle - 1) (row-size * piece + last - 1)
           (start-word kind at middle) (left-exit kind at middle last) (right-exit kind at middle last)
-          → leaves ≡ set (set (after .labels) (row-size * piece + at) 0) (row-size * piece + last) 0
+          → leaves ≡ set (set (after .codes) (row-size * piece + at) 0) (row-size * piece + last) 0
           → tables words leaves (after .stands) (after .roots)
           ≡ joined after (row-size * piece) (kind-at list node) at middle
           last
@@ -414,7 +415,7 @@ module _ {list : List ℕ} {node piece own kind : ℕ} (met : Of-piece list node
           → words
           ≡ thrice (mid .nexts) (row-size * piece + at) (row-size * piece + middle - 1) (row-size * piece + middle - 1)
           (start-word kind at middle) (left-exit kind at middle middle) (right-exit kind at middle middle)
-          → leaves ≡ set (set (mid .labels) (row-size * piece + at) 0) (row-size * piece + middle) 0
+          → leaves ≡ set (set (mid .codes) (row-size * piece + at) 0) (row-size * piece + middle) 0
           → Visited list node piece at t (tables words leaves (mid .stands) (mid .roots)) end
       visited-star e g f h s here = filled-as
           (visit-star here met-own (met-kind star-kind e) t mid room middle done-left)
@@ -426,7 +427,7 @@ module _ {list : List ℕ} {node piece own kind : ℕ} (met : Of-piece list node
           → words
           ≡ thrice (after .nexts) (row-size * piece + at) (row-size * piece + middle - 1) (row-size * piece + last - 1)
           (start-word kind at middle) (left-exit kind at middle last) (right-exit kind at middle last)
-          → leaves ≡ set (set (after .labels) (row-size * piece + at) 0) (row-size * piece + last) 0
+          → leaves ≡ set (set (after .codes) (row-size * piece + at) 0) (row-size * piece + last) 0
           → Visited list node piece at t (tables words leaves (after .stands) (after .roots)) end
       visited-two {last = last} {after = after} right-is other full done-right g f h s here =
           let moved : Visited list (right-at list node) piece middle mid after last =

@@ -1,4 +1,4 @@
-// A piece's row of entries, filled by a walk of the piece's own tree: the words of the empty transitions and the labels
+// A piece's row of entries, filled by a walk of the piece's own tree: the words of the empty transitions and the codes
 // of the states.
 use crate::ROW_SIZE;
 use tree::layout::CATENATION;
@@ -17,7 +17,7 @@ ghost use Rattle.tree.specs.Layout.{character-at};
 ghost use Rattle.tables.specs.Plan.{row-size};
 ghost use Rattle.tables.specs.Entries.{thrice};
 ghost use Rattle.tables.specs.Filling.{start-word, left-exit, right-exit, tables, Tables-room, stand-entries};
-ghost use Rattle.tables.specs.Walking.{Within, Wide, Visited, Visitable};
+ghost use Rattle.tables.specs.Walking.{Piece-bounds, Wide, Visited, Visitable};
 
 // The word with bit i alone.
 fn bit(i: usize) -> u64
@@ -72,18 +72,18 @@ fn left_exit(kind: u8, at: usize, middle: usize, last: usize) -> u64
 }
 
 // Two entries for a leaf or a stand-in, but for the word of its accepting state.
-fn pair(nexts: &mut [u64], labels: &mut [u16], at: usize, label: u16)
-    requires { ⌜ (at < length (now nexts)) × (at + 1 < length (now labels)) ⌝ }
+fn pair(nexts: &mut [u64], codes: &mut [u16], at: usize, code: u16)
+    requires { ⌜ (at < length (now nexts)) × (at + 1 < length (now codes)) ⌝ }
     ensures { λ _. ⌜ now (nexts .exit) ≡ set (now (nexts .entry)) at 0 ⌝ }
-    ensures { λ _. ⌜ now (labels .exit) ≡ set (set (now (labels .entry)) at label) (at + 1) 0 ⌝ }
+    ensures { λ _. ⌜ now (codes .exit) ≡ set (set (now (codes .entry)) at code) (at + 1) 0 ⌝ }
 {
     nexts[at] = 0;
-    labels[at] = label;
-    labels[at + 1] = 0;
+    codes[at] = code;
+    codes[at + 1] = 0;
 }
 
-// The label of a character: one more than its byte.
-fn label(character: u8) -> u16
+// The code of a character: one more than its byte.
+fn code(character: u8) -> u16
     ensures { λ r. ⌜ r ≡ character + 1 ⌝ }
 {
     character as u16 + 1
@@ -96,21 +96,21 @@ fn leaf(
     piece: usize,
     at: usize,
     nexts: &mut [u64],
-    labels: &mut [u16],
+    codes: &mut [u16],
 ) -> usize
-    requires { ⌜ Within (now list) node piece at ⌝ }
-    requires { ⌜ Wide (now nexts) (now labels) ⌝ }
+    requires { ⌜ Piece-bounds (now list) node piece at ⌝ }
+    requires { ⌜ Wide (now nexts) (now codes) ⌝ }
     ensures { λ r. ⌜ r ≡ at + 2 ⌝ }
     ensures { λ _. ⌜ now (nexts .exit) ≡ set (now (nexts .entry)) (row-size * piece + at) 0 ⌝ }
-    ensures { λ _. ⌜ now (labels .exit)
-        ≡ set (set (now (labels .entry)) (row-size * piece + at) (character-at (now (list .entry)) node + 1))
+    ensures { λ _. ⌜ now (codes .exit)
+        ≡ set (set (now (codes .entry)) (row-size * piece + at) (character-at (now (list .entry)) node + 1))
         (row-size * piece + at + 1) 0 ⌝ }
 {
     pair(
         nexts,
-        labels,
+        codes,
         ROW_SIZE * piece + at,
-        label(character_at(list, node)),
+        code(character_at(list, node)),
     );
     at + 2
 }
@@ -122,24 +122,24 @@ fn stand(
     piece: usize,
     at: usize,
     nexts: &mut [u64],
-    labels: &mut [u16],
+    codes: &mut [u16],
     stands: &mut [u8],
     roots: &mut [u16],
 ) -> usize
     requires { ⌜ (child < most-pieces) × (node < most-records) × (piece < most-pieces) × (at + 2 ≤ most-states) ⌝ }
-    requires { ⌜ Tables-room (tables (now nexts) (now labels) (now stands) (now roots)) ⌝ }
+    requires { ⌜ Tables-room (tables (now nexts) (now codes) (now stands) (now roots)) ⌝ }
     ensures { λ r. ⌜ r ≡ at + 2 ⌝ }
-    ensures { λ _. ⌜ tables (now (nexts .exit)) (now (labels .exit)) (now (stands .exit)) (now (roots .exit))
-        ≡ stand-entries (tables (now (nexts .entry)) (now (labels .entry)) (now (stands .entry)) (now (roots .entry)))
+    ensures { λ _. ⌜ tables (now (nexts .exit)) (now (codes .exit)) (now (stands .exit)) (now (roots .exit))
+        ≡ stand-entries (tables (now (nexts .entry)) (now (codes .entry)) (now (stands .entry)) (now (roots .entry)))
         (row-size * piece + at) child at node ⌝ }
 {
-    pair(nexts, labels, ROW_SIZE * piece + at, 0);
+    pair(nexts, codes, ROW_SIZE * piece + at, 0);
     stands[child] = at as u8;
     roots[child] = node as u16;
     at + 2
 }
 
-// The entries of a node whose children's are there: its start's, its children's accepting states', and its labels.
+// The entries of a node whose children's are there: its start's, its children's accepting states', and its codes.
 fn join(
     kind: u8,
     piece: usize,
@@ -147,17 +147,17 @@ fn join(
     middle: usize,
     last: usize,
     nexts: &mut [u64],
-    labels: &mut [u16],
+    codes: &mut [u16],
 ) -> usize
     requires { ⌜ (piece < most-pieces) × (at < middle) × (middle ≤ last) × (last < most-states) ⌝ }
-    requires { ⌜ Wide (now nexts) (now labels) ⌝ }
+    requires { ⌜ Wide (now nexts) (now codes) ⌝ }
     ensures { λ r. ⌜ r ≡ last + 1 ⌝ }
     ensures { λ _. ⌜ now (nexts .exit)
         ≡ thrice (now (nexts .entry)) (row-size * piece + at) (row-size * piece + middle - 1)
         (row-size * piece + last - 1) (start-word kind at middle) (left-exit kind at middle last)
         (right-exit kind at middle last) ⌝ }
-    ensures { λ _. ⌜ now (labels .exit)
-        ≡ set (set (now (labels .entry)) (row-size * piece + at) 0) (row-size * piece + last) 0 ⌝ }
+    ensures { λ _. ⌜ now (codes .exit)
+        ≡ set (set (now (codes .entry)) (row-size * piece + at) 0) (row-size * piece + last) 0 ⌝ }
 {
     let base = ROW_SIZE * piece;
     let start = start_word(kind, at, middle);
@@ -166,8 +166,8 @@ fn join(
     nexts[base + at] = start;
     nexts[base + middle - 1] = left;
     nexts[base + last - 1] = right;
-    labels[base + at] = 0;
-    labels[base + last] = 0;
+    codes[base + at] = 0;
+    codes[base + last] = 0;
     last + 1
 }
 
@@ -180,29 +180,29 @@ pub fn fill(
     piece: usize,
     at: usize,
     nexts: &mut [u64],
-    labels: &mut [u16],
+    codes: &mut [u16],
     stands: &mut [u8],
     roots: &mut [u16],
 ) -> usize
-    requires { ⌜ Visitable (now list) node piece at (tables (now nexts) (now labels) (now stands) (now roots)) ⌝ }
+    requires { ⌜ Visitable (now list) node piece at (tables (now nexts) (now codes) (now stands) (now roots)) ⌝ }
     ensures { λ r. ⌜ Visited (now (list .entry)) node piece at
-        (tables (now (nexts .entry)) (now (labels .entry)) (now (stands .entry)) (now (roots .entry)))
-        (tables (now (nexts .exit)) (now (labels .exit)) (now (stands .exit)) (now (roots .exit))) r ⌝ }
+        (tables (now (nexts .entry)) (now (codes .entry)) (now (stands .entry)) (now (roots .entry)))
+        (tables (now (nexts .exit)) (now (codes .exit)) (now (stands .exit)) (now (roots .exit))) r ⌝ }
 {
     let own = piece_at(list, node);
     if own != piece {
-        return stand(own, node, piece, at, nexts, labels, stands, roots);
+        return stand(own, node, piece, at, nexts, codes, stands, roots);
     }
     let kind = kind_at(list, node);
     if kind == CHARACTER {
-        return leaf(list, node, piece, at, nexts, labels);
+        return leaf(list, node, piece, at, nexts, codes);
     }
     let left = left_at(list, node);
-    let middle = fill(list, left, piece, at + 1, nexts, labels, stands, roots);
+    let middle = fill(list, left, piece, at + 1, nexts, codes, stands, roots);
     if kind == STAR {
-        return join(kind, piece, at, middle, middle, nexts, labels);
+        return join(kind, piece, at, middle, middle, nexts, codes);
     }
     let right = right_at(list, node);
-    let last = fill(list, right, piece, middle, nexts, labels, stands, roots);
-    join(kind, piece, at, middle, last, nexts, labels)
+    let last = fill(list, right, piece, middle, nexts, codes, stands, roots);
+    join(kind, piece, at, middle, last, nexts, codes)
 }

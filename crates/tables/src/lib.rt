@@ -1,4 +1,4 @@
-// The tables of a good list, made once before any byte is read: the words of the empty transitions, the labels of the
+// The tables of a good list, made once before any byte is read: the words of the empty transitions, the codes of the
 // states, and where each piece stands.
 mod fill;
 pub mod plan;

@@ -21,22 +21,22 @@ fn piece(
     cuts: &[u16],
     k: usize,
     nexts: &mut [u64],
-    labels: &mut [u16],
+    codes: &mut [u16],
     runs: &mut [u8],
     stands: &mut [u8],
     tops: &mut [u8],
     roots: &mut [u16],
 )
-    requires { ⌜ Making (now list) (now cuts) k (tables (now nexts) (now labels) (now stands) (now roots)) (now runs)
+    requires { ⌜ Making (now list) (now cuts) k (tables (now nexts) (now codes) (now stands) (now roots)) (now runs)
         (now tops) ⌝ }
     requires { ⌜ Piece-number (now list) k ⌝ }
     ensures { λ _. ⌜ ((x : Nested Leaf) → Top (now (list .entry)) x
         → Pieces-made x (k + 1)
-        (tables (now (nexts .exit)) (now (labels .exit)) (now (stands .exit)) (now (roots .exit)))
+        (tables (now (nexts .exit)) (now (codes .exit)) (now (stands .exit)) (now (roots .exit)))
         (now (runs .exit)) (now (tops .exit))) ⌝ }
 {
     let node = roots[k] as usize;
-    let last = fill(list, node, k, 0, nexts, labels, stands, roots);
+    let last = fill(list, node, k, 0, nexts, codes, stands, roots);
     let below = cuts[node + 1];
     nexts[ROW_SIZE * k + last - 1] = 0;
     runs[k] = (below + 1) as u8;
@@ -49,22 +49,22 @@ fn pieces(
     cuts: &[u16],
     total: usize,
     nexts: &mut [u64],
-    labels: &mut [u16],
+    codes: &mut [u16],
     runs: &mut [u8],
     stands: &mut [u8],
     tops: &mut [u8],
     roots: &mut [u16],
 )
-    requires { ⌜ Making (now list) (now cuts) 0 (tables (now nexts) (now labels) (now stands) (now roots)) (now runs)
+    requires { ⌜ Making (now list) (now cuts) 0 (tables (now nexts) (now codes) (now stands) (now roots)) (now runs)
         (now tops) ⌝ }
     requires { ⌜ Total (now list) total ⌝ }
     ensures { λ _. ⌜ Making (now (list .entry)) (now (cuts .entry)) total
-        (tables (now (nexts .exit)) (now (labels .exit)) (now (stands .exit)) (now (roots .exit))) (now (runs .exit))
+        (tables (now (nexts .exit)) (now (codes .exit)) (now (stands .exit)) (now (roots .exit))) (now (runs .exit))
         (now (tops .exit)) ⌝ }
 {
     let mut k: usize = 0;
     while k < total {
-        piece(list, cuts, k, nexts, labels, runs, stands, tops, roots);
+        piece(list, cuts, k, nexts, codes, runs, stands, tops, roots);
         k += 1;
     }
 }
@@ -76,15 +76,15 @@ pub fn plan(
     cuts: &[u16],
     total: usize,
     nexts: &mut [u64],
-    labels: &mut [u16],
+    codes: &mut [u16],
     runs: &mut [u8],
     stands: &mut [u8],
     tops: &mut [u8],
 )
     requires { ⌜ Decided-good (now list) (now cuts) total ⌝ }
-    requires { ⌜ Roomy (now nexts) (now labels) (now runs) (now stands) (now tops) ⌝ }
+    requires { ⌜ Roomy (now nexts) (now codes) (now runs) (now stands) (now tops) ⌝ }
     ensures { λ _. ⌜ ((t : Tree Leaf) → Good (now (list .entry)) t
-        → Laid t (now (nexts .exit)) (now (labels .exit)) (now (runs .exit)) (now (stands .exit)) (now (tops .exit))
+        → Laid t (now (nexts .exit)) (now (codes .exit)) (now (runs .exit)) (now (stands .exit)) (now (tops .exit))
         total) ⌝ }
 {
     let mut roots = [0u16; MOST_PIECES];
@@ -95,7 +95,7 @@ pub fn plan(
         cuts,
         total,
         nexts,
-        labels,
+        codes,
         runs,
         stands,
         tops,

@@ -55,13 +55,13 @@ depth-pushed a-star (s ∷ stack) = refl
 depth-pushed nothing stack = refl
 
 -- the machine has read the first i labels, and its stack is that deep
-pub record Reads (ls : List ℕ) (i depth : ℕ) : Type 0 where
+pub record Trees-waiting (ls : List ℕ) (i depth : ℕ) : Type 0 where
   pub stack : List (Tree Leaf)
   pub so-far : built (take i ls) [] ≡ some stack
   pub deep : length stack ≡ depth
 
 -- nothing is read at first
-pub reads-none : (ls : List ℕ) → Reads ls 0 0
+pub reads-none : (ls : List ℕ) → Trees-waiting ls 0 0
 reads-none ls = record { stack = []; so-far = refl; deep = refl }
 
 -- the stack after one label more
@@ -78,15 +78,15 @@ next-built ls i stack h e =
     last (some s) = refl
 
 -- one label more, where the count is not 0
-pub reads-more : (ls : List ℕ) (i depth : ℕ) → i < length ls → Reads ls i depth
-    → 0 < depth-after (asked (getD ls i 0)) depth → Reads ls (i + 1) (depth-after (asked (getD ls i 0)) depth)
+pub reads-more : (ls : List ℕ) (i depth : ℕ) → i < length ls → Trees-waiting ls i depth
+    → 0 < depth-after (asked (getD ls i 0)) depth → Trees-waiting ls (i + 1) (depth-after (asked (getD ls i 0)) depth)
 reads-more ls i depth h r positive =
     by-stack (pushed (asked (getD ls i 0)) (r .stack)) (next-built ls i (r .stack) h (r .so-far))
     (depth-pushed (asked (getD ls i 0)) (r .stack) ∙ ap (depth-after (asked (getD ls i 0))) (r .deep))
   where
     by-stack : (o : Option (List (Tree Leaf))) → built (take (i + 1) ls) [] ≡ o
         → depth-of o ≡ depth-after (asked (getD ls i 0)) depth
-        → Reads ls (i + 1) (depth-after (asked (getD ls i 0)) depth)
+        → Trees-waiting ls (i + 1) (depth-after (asked (getD ls i 0)) depth)
     by-stack none e d = absurd (omega arith)
     by-stack (some stack) e d = record { stack = stack; so-far = e; deep = d }
 
@@ -108,7 +108,7 @@ never-both : (o : Option (List (Tree Leaf))) (stack : List (Tree Leaf)) → o �
 never-both o stack p q = let z : _≡_ {A = ℕ} 0 1 = cc in omega arith
 
 -- then the labels are those of no tree
-pub reads-stuck : (ls : List ℕ) (i depth : ℕ) → i < length ls → Reads ls i depth
+pub reads-stuck : (ls : List ℕ) (i depth : ℕ) → i < length ls → Trees-waiting ls i depth
     → depth-after (asked (getD ls i 0)) depth ≡ 0 → Postorder ls → ⊥
 reads-stuck ls i depth h r stuck o =
     let no-stack : built (take (i + 1) ls) [] ≡ none =
@@ -121,11 +121,11 @@ reads-stuck ls i depth h r stuck o =
     never-both (built ls []) (o .tree ∷ []) whole (one-tree-exactly ls (o .tree) .1 (o .same))
 
 -- what the machine ends with
-ended : (ls : List ℕ) (depth : ℕ) (r : Reads ls (length ls) depth) → built ls [] ≡ some (r .stack)
+ended : (ls : List ℕ) (depth : ℕ) (r : Trees-waiting ls (length ls) depth) → built ls [] ≡ some (r .stack)
 ended ls depth r = rw take-length at (r .so-far)
 
 -- at the end the count is 1 for one tree
-pub reads-tree : (ls : List ℕ) (depth : ℕ) → Reads ls (length ls) depth → depth ≡ 1 → Postorder ls
+pub reads-tree : (ls : List ℕ) (depth : ℕ) → Trees-waiting ls (length ls) depth → depth ≡ 1 → Postorder ls
 reads-tree ls depth r e = by-stack (r .stack) (ended ls depth r) (r .deep ∙ e)
   where
     by-stack : (stack : List (Tree Leaf)) → built ls [] ≡ some stack → length stack ≡ 1 → Postorder ls
@@ -134,7 +134,7 @@ reads-tree ls depth r e = by-stack (r .stack) (ended ls depth r) (r .deep ∙ e)
     by-stack (t ∷ (s ∷ stack)) b l = absurd (omega arith)
 
 -- and for one tree only
-pub reads-other : (ls : List ℕ) (depth : ℕ) → Reads ls (length ls) depth → (depth ≡ 1 → ⊥) → Postorder ls → ⊥
+pub reads-other : (ls : List ℕ) (depth : ℕ) → Trees-waiting ls (length ls) depth → (depth ≡ 1 → ⊥) → Postorder ls → ⊥
 reads-other ls depth r other o =
     let same : r .stack ≡ o .tree ∷ [] = cc (ended ls depth r, one-tree-exactly ls (o .tree) .1 (o .same)) in
     other (sym (r .deep) ∙ ap length same)
@@ -145,7 +145,7 @@ pub record One-tree (ls : List ℕ) (b : Bool) : Type 0 where
   pub if-not : b ≡ false → Postorder ls → ⊥
 
 -- stuck on the way
-pub stuck-tree : (ls : List ℕ) (i depth : ℕ) → i < length ls → Reads ls i depth
+pub stuck-tree : (ls : List ℕ) (i depth : ℕ) → i < length ls → Trees-waiting ls i depth
     → depth-after (asked (getD ls i 0)) depth ≡ 0 → One-tree ls false
 stuck-tree ls i depth h r stuck =
     record { if-so = λ e. absurd (never e); if-not = λ e o. reads-stuck ls i depth h r stuck o }
@@ -154,7 +154,7 @@ stuck-tree ls i depth h r stuck =
     never e = let z : _≡_ {A = ℕ} 0 1 = cc in omega arith
 
 -- read to the end
-pub read-tree : (ls : List ℕ) (depth : ℕ) (b : Bool) → Reads ls (length ls) depth → (b ≡ true → depth ≡ 1)
+pub read-tree : (ls : List ℕ) (depth : ℕ) (b : Bool) → Trees-waiting ls (length ls) depth → (b ≡ true → depth ≡ 1)
     → (b ≡ false → depth ≡ 1 → ⊥) → One-tree ls b
 read-tree ls depth b r one other =
     record { if-so = λ e. reads-tree ls depth r (one e); if-not = λ e. reads-other ls depth r (other e) }

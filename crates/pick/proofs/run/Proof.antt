@@ -3,7 +3,7 @@ use Prim.Native.Nat.{_≤_}
 use mathlib.Core.Path.{sym, subst}
 use lib.ListN.{length}
 use lib.Seq.{length-take-le}
-use Rattle.pick.specs.Within.{Within}
+use Rattle.pick.specs.ReadWithin.{Read-within}
 use borrow.Author.Needs.{needs}
 use Rattle.pick.proofs.run.Statement.{statement}
 use Rattle.pick.proofs.run.Tie as tie
@@ -12,7 +12,7 @@ use Rattle.pick.proofs.run.Tie as tie
 within : (c : tie.After-read) → c .read .given .0 .0 ≤ length (c .before .before .before .before .read-input .last .0)
 within c =
     let call = c .before .before .before .before .read-input in
-    subst (Within (call .last .0)) (c .read .given .1) (call .ensures)
+    subst (Read-within (call .last .0)) (c .read .given .1) (call .ensures)
 
 read-input-requires : tie.Need-read-input-requires
 read-input-requires c κs = search needs

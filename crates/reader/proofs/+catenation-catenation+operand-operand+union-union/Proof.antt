@@ -1,5 +1,4 @@
 -- The proof of the cycle of the readers of an operand, a catenation and a union, which call each other.
--- Assumes nothing.
 use Rattle.reader.proofs.catenation.catenation.Reads as catenation
 use Rattle.reader.proofs.operand.operand.Reads as operand
 use Rattle.reader.proofs.union.union.Reads as union

@@ -1,7 +1,6 @@
 -- `reader::read` meets its contract: the scratch holds the labels of the expression's tree, and they are records-after;
 -- or the
 -- refusal is handed on.
--- Assumes nothing.
 use Prim.Native.Nat.{_≤_}
 use mathlib.Core.Path.{_≡_, sym}
 use native.Mathlib.Omega.{arith}

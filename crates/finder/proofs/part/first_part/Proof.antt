@@ -30,13 +30,13 @@ nowhere (At e) other = absurd (omega arith)
 nowhere Nowhere other = refl
 
 abbrev Inv-loop : tie.InvT-loop
-Inv-loop reach labels runs stands tops count text first empty start₀ start = (start ≤ length text + 1)
-    × Ready reach labels runs stands tops count × ((t : Tree Leaf) → Prepared t reach labels runs stands tops count
+Inv-loop reach codes runs stands tops count text first empty start₀ start = (start ≤ length text + 1)
+    × Ready reach codes runs stands tops count × ((t : Tree Leaf) → Prepared t reach codes runs stands tops count
     → None-before (Matches t) text start) × (length first ≡ 128)
-    × ((t : Tree Leaf) → Prepared t reach labels runs stands tops count → Answered t [] first empty)
+    × ((t : Tree Leaf) → Prepared t reach codes runs stands tops count → Answered t [] first empty)
 
 abbrev μ-loop : tie.MeasureT-loop
-μ-loop reach labels runs stands tops count text first empty start₀ start = length text + 1 - start
+μ-loop reach codes runs stands tops count text first empty start₀ start = length text + 1 - start
 
 slice-aggregate-begin : tie.Need-slice-aggregate-begin Inv-loop μ-loop
 slice-aggregate-begin c = search needs

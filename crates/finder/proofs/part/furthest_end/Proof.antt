@@ -22,12 +22,12 @@ use Rattle.marks.proofs.inner.nothing_left.Reads as nothing-left-reads
 use Rattle.finder.proofs.part.with_end.Reads as with-end-reads
 
 abbrev Inv-loop : tie.InvT-loop
-Inv-loop reach labels runs stands tops count first empty text start words₀ best₀ end₀ words best end = (start ≤ end)
-    × (end ≤ length text) × (length words ≡ 128) × Ready reach labels runs stands tops count
-    × ((t : Tree Leaf) → Prepared t reach labels runs stands tops count → Looking t text start end words (end-of best))
+Inv-loop reach codes runs stands tops count first empty text start words₀ best₀ end₀ words best end = (start ≤ end)
+    × (end ≤ length text) × (length words ≡ 128) × Ready reach codes runs stands tops count
+    × ((t : Tree Leaf) → Prepared t reach codes runs stands tops count → Looking t text start end words (end-of best))
 
 abbrev μ-loop : tie.MeasureT-loop
-μ-loop reach labels runs stands tops count first empty text start words₀ best₀ end₀ words best end = length text - end
+μ-loop reach codes runs stands tops count first empty text start words₀ best₀ end₀ words best end = length text - end
 
 -- where the call began, seen from the copy of the first marks
 abbrev entry : tie.After-copy Inv-loop μ-loop → tie.Start Inv-loop μ-loop

@@ -29,12 +29,12 @@ never-matches t text i none =
     (λ e. absurd (false≢true e), λ m. absurd (none (drop i text) (subst (Matches t) (sym (take-append-drop i text)) m)))
 
 abbrev Inv-loop : tie.InvT-loop
-Inv-loop reach labels runs stands tops count text words₀ yes₀ i₀ words yes' i = (i ≤ length text) × (length words ≡ 128)
-    × Ready reach labels runs stands tops count × ((t : Tree Leaf) → Prepared t reach labels runs stands tops count
+Inv-loop reach codes runs stands tops count text words₀ yes₀ i₀ words yes' i = (i ≤ length text) × (length words ≡ 128)
+    × Ready reach codes runs stands tops count × ((t : Tree Leaf) → Prepared t reach codes runs stands tops count
     → Answered t (take i text) words yes')
 
 abbrev μ-loop : tie.MeasureT-loop
-μ-loop reach labels runs stands tops count text words₀ yes₀ i₀ words yes' i = length text - i
+μ-loop reach codes runs stands tops count text words₀ yes₀ i₀ words yes' i = length text - i
 
 -- where the call began, seen from the loop, and the loop, seen from a byte that was taken
 abbrev entry : tie.At-loop Inv-loop μ-loop → tie.Start Inv-loop μ-loop

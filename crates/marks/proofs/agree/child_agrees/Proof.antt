@@ -1,6 +1,6 @@
 -- `marks::agree::child_agrees` meets its contract: it hangs below one piece alone.
 use native.Mathlib.Omega.{arith}
-use Rattle.marks.specs.Checked.{told-child}
+use Rattle.marks.specs.SharedStates.Checked.{told-child}
 use borrow.Author.Needs.{needs}
 use Rattle.marks.proofs.agree.child_agrees.Statement.{statement}
 use Rattle.marks.proofs.agree.child_agrees.Tie as tie

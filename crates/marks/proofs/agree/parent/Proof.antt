@@ -4,7 +4,7 @@
 use Prim.Native.Nat.{ℕ, _+_, _≤_, _<_}
 use native.Mathlib.Omega.{arith}
 use lib.ListN.{getD}
-use Rattle.marks.specs.Parents.{not-the-first, passed}
+use Rattle.marks.specs.SharedStates.Parents.{not-the-first, passed}
 use Rattle.marks.proofs.agree.parent.Statement.{statement}
 use Rattle.marks.proofs.agree.parent.Tie as tie
 

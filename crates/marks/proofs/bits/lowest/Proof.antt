@@ -1,7 +1,7 @@
 -- `marks::bits::lowest` meets its contract: the trailing zeros stand below the lowest bit that is set.
 use native.Mathlib.Omega.{arith}
 use lib.Count.{trailing-le}
-use Rattle.marks.specs.LowestBit.{lowest-bit, lowest-below}
+use Rattle.marks.specs.BitsOfWords.LowestBit.{lowest-bit, lowest-below}
 use Rattle.marks.proofs.bits.lowest.Statement.{statement}
 use Rattle.marks.proofs.bits.lowest.Tie as tie
 

@@ -3,7 +3,7 @@ use mathlib.Core.Path.{ap}
 use borrow.Author.Needs.{needs}
 use lib.Bits.{bitOr}
 use native.Mathlib.Omega.{arith}
-use Rattle.marks.specs.Bits.{one-shifted}
+use Rattle.marks.specs.BitsOfWords.Bits.{one-shifted}
 use Rattle.marks.proofs.bits.with_bit.Statement.{statement}
 use Rattle.marks.proofs.bits.with_bit.Tie as tie
 

@@ -4,7 +4,7 @@ use native.Mathlib.Omega.{arith}
 use borrow.Author.Needs.{needs}
 use borrow.Author.Count.{below-more}
 use lib.ListN.{length}
-use Rattle.marks.specs.AllZero.{All-zero}
+use Rattle.marks.specs.BitsOfWords.AllZero.{All-zero}
 use Rattle.marks.proofs.inner.marked_from.Statement.{statement}
 use Rattle.marks.proofs.inner.marked_from.Tie as tie
 

@@ -4,8 +4,8 @@ use native.Mathlib.Omega.{arith}
 use borrow.Author.Needs.{needs}
 use borrow.Author.Count.{below-more}
 use lib.ListN.{length}
-use Rattle.marks.specs.Bits.{told-yes, told-no}
-use Rattle.marks.specs.AllZero.{All-zero}
+use Rattle.marks.specs.BitsOfWords.Bits.{told-yes, told-no}
+use Rattle.marks.specs.BitsOfWords.AllZero.{All-zero}
 use Rattle.marks.proofs.inner.nothing_left.Statement.{statement}
 use Rattle.marks.proofs.inner.nothing_left.Tie as tie
 use Rattle.marks.proofs.inner.nothing_left.Reads as reads

@@ -48,7 +48,7 @@ note-leaves-requires c κs =
         kept .0,
         closed .close-all .ensures .same-length,
       ),
-      omega (arith, made .counted, known .good .few, roomy .labels-room, kept .1 .0),
+      omega (arith, made .counted, known .good .few, roomy .codes-room, kept .1 .0),
     )
 
 same-length : tie.Need-same-length
@@ -76,7 +76,7 @@ returns c =
       record {
         reach-room = noted .note-leaves .ensures .same-length ∙ closed .close-all .ensures .same-length ∙ kept .0
             ∙ roomy .reach-room;
-        labels-room = kept .1 .0 ∙ roomy .labels-room;
+        codes-room = kept .1 .0 ∙ roomy .codes-room;
         runs-room = kept .1 .1 .0 ∙ roomy .runs-room;
         stands-room = kept .1 .1 .1 .0 ∙ roomy .stands-room;
         tops-room = kept .1 .1 .1 .1 .0 ∙ roomy .tops-room;

@@ -1,18 +1,18 @@
--- `marks::leaves::leaves` meets its contract. The loop's invariant: the bits of the states passed that have a label are
+-- `marks::leaves::leaves` meets its contract. The loop's invariant: the bits of the states passed that have a code are
 -- set.
 use Prim.Native.Nat.{_≤_, _-_}
 use mathlib.Core.Path.{_∙_}
 use mathlib.Core.Logic.{⊎-elim}
 use native.Mathlib.Omega.{arith}
-use Rattle.marks.specs.Leaves.{Leaves, leaves-none, leaves-more, leaves-same, leaves-all}
+use Rattle.marks.specs.Moving.Leaves.{Leaves, leaves-none, leaves-more, leaves-same, leaves-all}
 use Rattle.marks.proofs.leaves.leaves.Statement.{statement}
 use Rattle.marks.proofs.leaves.leaves.Tie as tie
 
 abbrev Inv-loop : tie.InvT-loop
-Inv-loop labels piece base state₀ word₀ state word = (state ≤ 62) × Leaves labels piece state word
+Inv-loop codes piece base state₀ word₀ state word = (state ≤ 62) × Leaves codes piece state word
 
 abbrev μ-loop : tie.MeasureT-loop
-μ-loop labels piece base state₀ word₀ state word = 62 - state
+μ-loop codes piece base state₀ word₀ state word = 62 - state
 
 mul-base : tie.Need-mul-base Inv-loop μ-loop
 mul-base c = omega arith

@@ -1,15 +1,15 @@
 -- `marks::leaves::note_leaves` meets its contract. The loop's invariant: the leaves of the pieces passed are noted.
 use Prim.Native.Nat.{_≤_, _-_}
 use native.Mathlib.Omega.{arith}
-use Rattle.marks.specs.Leaves.{Leaves-noted, noted-none, noted-more, noted-all}
+use Rattle.marks.specs.Moving.Leaves.{Leaves-noted, noted-none, noted-more, noted-all}
 use Rattle.marks.proofs.leaves.note_leaves.Statement.{statement}
 use Rattle.marks.proofs.leaves.note_leaves.Tie as tie
 
 abbrev Inv-loop : tie.InvT-loop
-Inv-loop reach₀ labels pieces piece₀ reach piece = (piece ≤ pieces) × Leaves-noted labels reach₀ reach piece
+Inv-loop reach₀ codes pieces piece₀ reach piece = (piece ≤ pieces) × Leaves-noted codes reach₀ reach piece
 
 abbrev μ-loop : tie.MeasureT-loop
-μ-loop reach₀ labels pieces piece₀ reach piece = pieces - piece
+μ-loop reach₀ codes pieces piece₀ reach piece = pieces - piece
 
 loop-holds : tie.Need-loop-holds Inv-loop μ-loop
 loop-holds c = (omega arith, noted-none _ _)

@@ -1,16 +1,16 @@
 -- `marks::moves::move_all` meets its contract. The loop's invariant: the words passed are moved and closed.
 use Prim.Native.Nat.{_≤_, _-_}
 use native.Mathlib.Omega.{arith}
-use Rattle.marks.specs.WordsMovedClosed.{Moving-closing, moving-none, moving-more, moving-all}
+use Rattle.marks.specs.Moving.WordsMovedClosed.{Moving-closing, moving-none, moving-more, moving-all}
 use Rattle.marks.proofs.moves.move_all.Statement.{statement}
 use Rattle.marks.proofs.moves.move_all.Tie as tie
 
 abbrev Inv-loop : tie.InvT-loop
-Inv-loop reach labels words₀ byte pieces piece₀ words piece = (piece ≤ pieces)
-    × Moving-closing reach labels words₀ words byte piece
+Inv-loop reach codes words₀ byte pieces piece₀ words piece = (piece ≤ pieces)
+    × Moving-closing reach codes words₀ words byte piece
 
 abbrev μ-loop : tie.MeasureT-loop
-μ-loop reach labels words₀ byte pieces piece₀ words piece = pieces - piece
+μ-loop reach codes words₀ byte pieces piece₀ words piece = pieces - piece
 
 loop-holds : tie.Need-loop-holds Inv-loop μ-loop
 loop-holds c = (omega arith, moving-none _ _ _ _)

@@ -1,25 +1,25 @@
 -- `marks::moves::moved` meets its contract. The loop's invariant: of the leaves in the word that are no longer in
 -- `rest`, the ones with
--- the byte's label are picked. The measure is `rest`, which loses its lowest bit.
+-- the byte's code are picked. The measure is `rest`, which loses its lowest bit.
 use mathlib.Core.Path.{refl, _∙_}
 use mathlib.Core.Logic.{⊎-elim}
 use native.Mathlib.Omega.{arith}
-use Rattle.marks.specs.LowestBit.{left-smaller}
-use Rattle.marks.specs.WordMoved.{Picked, picked-none, picked-more, picked-same, moves-by-leaves}
+use Rattle.marks.specs.BitsOfWords.LowestBit.{left-smaller}
+use Rattle.marks.specs.Moving.WordMoved.{Picked, picked-none, picked-more, picked-same, moves-by-leaves}
 use Rattle.marks.proofs.moves.moved.Statement.{statement}
 use Rattle.marks.proofs.moves.moved.Tie as tie
 
 abbrev Inv-loop : tie.InvT-loop
-Inv-loop reach labels piece word byte base label rest₀ picked₀ rest picked = Picked labels base label rest₀ rest picked
+Inv-loop reach codes piece word byte base code rest₀ picked₀ rest picked = Picked codes base code rest₀ rest picked
 
 abbrev μ-loop : tie.MeasureT-loop
-μ-loop reach labels piece word byte base label rest₀ picked₀ rest picked = rest
+μ-loop reach codes piece word byte base code rest₀ picked₀ rest picked = rest
 
 mul-base : tie.Need-mul-base Inv-loop μ-loop
 mul-base c = omega arith
 
-add-label : tie.Need-add-label Inv-loop μ-loop
-add-label c = omega arith
+add-code : tie.Need-add-code Inv-loop μ-loop
+add-code c = omega arith
 
 add-rest : tie.Need-add-rest Inv-loop μ-loop
 add-rest c = omega arith
@@ -74,7 +74,7 @@ moved-spec =
     Inv-loop
     μ-loop
     mul-base
-    add-label
+    add-code
     add-rest
     mul-rest
     shared-slice-read-rest

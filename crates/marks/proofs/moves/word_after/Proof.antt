@@ -1,6 +1,6 @@
 -- `marks::moves::word_after` meets its contract: the word is moved and closed, and 0 stays 0.
 use borrow.Author.Needs.{needs}
-use Rattle.marks.specs.WordsMovedClosed.{none-after}
+use Rattle.marks.specs.Moving.WordsMovedClosed.{none-after}
 use Rattle.marks.proofs.moves.word_after.Statement.{statement}
 use Rattle.marks.proofs.moves.word_after.Tie as tie
 

@@ -1,7 +1,7 @@
 -- `marks::reach::close_all` meets its contract. The loop's invariant: the pieces passed are closed.
 use Prim.Native.Nat.{_≤_, _-_}
 use native.Mathlib.Omega.{arith}
-use Rattle.marks.specs.Table.{Closing-pieces, closing-none, closing-more, closing-all}
+use Rattle.marks.specs.ClosingTable.Table.{Closing-pieces, closing-none, closing-more, closing-all}
 use Rattle.marks.proofs.reach.close_all.Statement.{statement}
 use Rattle.marks.proofs.reach.close_all.Tie as tie
 

@@ -5,7 +5,7 @@ use Prim.Native.Nat.{_≤_}
 use mathlib.Core.Logic.{⊎-elim}
 use native.Mathlib.Omega.{arith}
 use lib.ListN.{length-set}
-use Rattle.marks.specs.Reached.{Closing-rows, closing-begun, closing-at, closing-on, closing-skip, closing-ended}
+use Rattle.marks.specs.ClosingTable.Reached.{Closing-rows, closing-begun, closing-at, closing-on, closing-skip, closing-ended}
 use Rattle.marks.proofs.reach.close_rows.Statement.{statement}
 use Rattle.marks.proofs.reach.close_rows.Tie as tie
 

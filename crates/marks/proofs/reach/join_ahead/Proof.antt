@@ -6,8 +6,8 @@ use native.Mathlib.Nat.{lt-of-le-of-lt}
 use native.Mathlib.Omega.{arith}
 use borrow.Author.Needs.{needs}
 use lib.Pow.{shr-le}
-use Rattle.marks.specs.LowestBit.{left-smaller}
-use Rattle.marks.specs.Ahead.{Joined-ahead, joined-none, joined-more, joined-below, joined-ended}
+use Rattle.marks.specs.BitsOfWords.LowestBit.{left-smaller}
+use Rattle.marks.specs.ClosingTable.Ahead.{Joined-ahead, joined-none, joined-more, joined-below, joined-ended}
 use Rattle.marks.proofs.reach.join_ahead.Statement.{statement}
 use Rattle.marks.proofs.reach.join_ahead.Tie as tie
 

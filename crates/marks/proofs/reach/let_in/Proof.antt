@@ -3,8 +3,8 @@
 use Prim.Native.Nat.{_≤_, _<_, _-_}
 use mathlib.Core.Logic.{⊎-elim}
 use native.Mathlib.Omega.{arith}
-use Rattle.marks.specs.Rows.{Rows, rows-all}
-use Rattle.marks.specs.Reaching.{Let-in, let-in-begun, let-in-joined, let-in-kept}
+use Rattle.marks.specs.ClosingTable.Rows.{Rows, rows-all}
+use Rattle.marks.specs.ClosingTable.Reaching.{Let-in, let-in-begun, let-in-joined, let-in-kept}
 use Rattle.marks.proofs.reach.let_in.Statement.{statement}
 use Rattle.marks.proofs.reach.let_in.Tie as tie
 

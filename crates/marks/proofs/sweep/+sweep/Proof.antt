@@ -14,9 +14,9 @@ use Rattle.language.specs.Settled.{Settled}
 use Rattle.tree.specs.Leaf.{meaning}
 use Rattle.tables.specs.Words.{Holds}
 use Rattle.tables.specs.Plan.{Closes}
-use Rattle.marks.specs.Swept.{Sweepable, Tables-sized}
-use Rattle.marks.specs.RunOfChildren.{Waiting}
-use Rattle.marks.specs.Sweeping.{
+use Rattle.marks.specs.Sweep.Swept.{Sweepable, Tables-sized}
+use Rattle.marks.specs.Sweep.RunOfChildren.{Waiting}
+use Rattle.marks.specs.Sweep.Sweeping.{
   Sweeping,
   Sweep-room,
   sweeping-begins,

@@ -1,6 +1,6 @@
 -- `marks::sweep::apart` meets its contract: words whose common bits are none have no bit in common.
 use borrow.Author.Tests.{eqb-true}
-use Rattle.marks.specs.Bits.{none-common}
+use Rattle.marks.specs.BitsOfWords.Bits.{none-common}
 use Rattle.marks.proofs.sweep.apart.Statement.{statement}
 use Rattle.marks.proofs.sweep.apart.Tie as tie
 

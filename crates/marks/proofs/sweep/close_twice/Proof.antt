@@ -6,7 +6,7 @@ use mathlib.Core.Path.{sym}
 use mathlib.Core.List.{_++_}
 use lib.ListN.{drop}
 use lib.Seq.{length-take-le}
-use Rattle.marks.specs.Twice.{Closable, run-ready, closable-again, closed-once, closed-twice}
+use Rattle.marks.specs.Sweep.Twice.{Closable, run-ready, closable-again, closed-once, closed-twice}
 use Rattle.marks.proofs.sweep.close_twice.Statement.{statement}
 use Rattle.marks.proofs.sweep.close_twice.Tie as tie
 

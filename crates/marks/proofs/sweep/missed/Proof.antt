@@ -1,8 +1,8 @@
 -- `marks::sweep::missed` meets its contract: the bit is set where the other's is not.
 use mathlib.Core.Path.{sym, subst}
 use borrow.Author.Needs.{needs}
-use Rattle.marks.specs.Swept.{Missed}
-use Rattle.marks.specs.Passing.{missed-with}
+use Rattle.marks.specs.Sweep.Swept.{Missed}
+use Rattle.marks.specs.Sweep.Passing.{missed-with}
 use Rattle.marks.proofs.sweep.missed.Statement.{statement}
 use Rattle.marks.proofs.sweep.missed.Tie as tie
 

@@ -7,7 +7,7 @@ use native.Mathlib.Nat.{mod-lt}
 use native.Mathlib.Omega.{arith}
 use lib.Bits.{bitAnd, bitOr, and-mask}
 use lib.Pow.{shl-exact}
-use Rattle.marks.specs.Swept.{passed}
+use Rattle.marks.specs.Sweep.Swept.{passed}
 use Rattle.marks.proofs.sweep.pass.Statement.{statement}
 use Rattle.marks.proofs.sweep.pass.Tie as tie
 

@@ -14,7 +14,7 @@ use Rattle.tables.specs.Tables.{Prepared}
 use Rattle.finder.specs.Decide.{matches}
 use Rattle.picker.specs.Print.{yes-after}
 use Rattle.picker.specs.Loop.{
-  Space,
+  Print-space,
   space-line,
   space-next,
   space-total,
@@ -28,13 +28,13 @@ use Rattle.picker.proofs.texts.texts.Statement.{statement}
 use Rattle.picker.proofs.texts.texts.Tie as tie
 
 abbrev Inv-loop : tie.InvT-loop
-Inv-loop reach labels runs stands tops pieces input start out₀ place₀ at₀ count₀ yes₀ out place at count yes' =
-    Space input place at count yes' out × (length out ≡ length out₀)
-    × ((t : Tree Leaf) → Prepared t reach labels runs stands tops pieces
+Inv-loop reach codes runs stands tops pieces input start out₀ place₀ at₀ count₀ yes₀ out place at count yes' =
+    Print-space input place at count yes' out × (length out ≡ length out₀)
+    × ((t : Tree Leaf) → Prepared t reach codes runs stands tops pieces
     → So-far matches t input start out₀ place at count yes' out)
 
 abbrev μ-loop : tie.MeasureT-loop
-μ-loop reach labels runs stands tops pieces input start out₀ place₀ at₀ count₀ yes₀ out place at count yes' =
+μ-loop reach codes runs stands tops pieces input start out₀ place₀ at₀ count₀ yes₀ out place at count yes' =
     length input - place
 
 abbrev begun : tie.At-loop Inv-loop μ-loop → tie.Start Inv-loop μ-loop

@@ -1,7 +1,6 @@
 -- The measures of the cycle of readers, and what each is given and asks of the others.
 -- The bytes left fall: three for each, and one more for a catenation, two more for a union, since these read their
 -- first part at the same place.
--- Assumes nothing.
 use Prim.Native.Nat.{ℕ, _+_, _*_, _-_, _<_}
 use lib.ListN.{length}
 use borrow.Fn.Kinds.{In}

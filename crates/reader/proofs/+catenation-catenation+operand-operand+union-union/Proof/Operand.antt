@@ -1,5 +1,4 @@
 -- `reader::operand::operand`: a `(` with the union in it, or a character, and then the stars.
--- Assumes nothing.
 use Prim.Native.Nat.{ℕ, _+_}
 use native.Mathlib.Omega.{arith}
 use borrow.Author.Needs.{needs}

@@ -1,6 +1,5 @@
 -- `reader::union::union`. The loop's invariant: what was read where the loop begins is read on up to `place`, and a
 -- catenation ends there.
--- Assumes nothing.
 use Prim.Native.Nat.{ℕ, _+_, _-_}
 use mathlib.Core.Path.{_≡_, refl, _∙_}
 use native.Mathlib.Omega.{arith}

@@ -1,5 +1,4 @@
 -- `reader::character::character` meets its contract: each answer is one step of the scanner, or two after a `\`.
--- Assumes nothing.
 use mathlib.Core.Path.{sym, _∙_}
 use native.Mathlib.Omega.{arith}
 use Rattle.reader.specs.Stopping.{not-special}

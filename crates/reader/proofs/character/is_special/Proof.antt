@@ -1,6 +1,5 @@
 -- `reader::character::is_special` meets its contract: it asks for each of the five special bytes, as the sign of a byte
 -- does.
--- Assumes nothing.
 use Prim.Native.Nat.{ℕ}
 use mathlib.Core.Path.{_≡_, refl}
 use mathlib.Core.Bool.{Bool, true, false, cond}

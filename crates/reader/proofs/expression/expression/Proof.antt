@@ -1,6 +1,5 @@
 -- `reader::expression::expression` meets its contract: after 1 and 2 it is the union read from the start, with no group
 -- open.
--- Assumes nothing.
 use Prim.Native.Nat.{_≤_}
 use mathlib.Core.Path.{_≡_}
 use native.Mathlib.Omega.{arith}

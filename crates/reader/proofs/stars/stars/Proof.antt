@@ -1,6 +1,6 @@
 -- `reader::stars::stars` meets its contract. The loop's invariant: what was read where the loop begins is read on up to
 -- `place`,
--- and a label was written for each byte passed. The measure is what is left of the expression. Assumes nothing.
+-- and a label was written for each byte passed. The measure is what is left of the expression.
 use Prim.Native.Nat.{ℕ, _+_, _-_, _≤_}
 use mathlib.Core.Path.{_≡_, refl}
 use native.Mathlib.Omega.{arith}

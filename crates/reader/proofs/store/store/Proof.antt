@@ -1,5 +1,4 @@
 -- `reader::store::store` meets its contract: each answer is the table's for the tree that the labels are of.
--- Assumes nothing.
 use native.Mathlib.Omega.{arith}
 use borrow.Author.Needs.{needs}
 use Rattle.reader.specs.Store.{stored-many, stored-short, stored-whole}

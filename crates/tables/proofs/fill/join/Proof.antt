@@ -51,23 +51,23 @@ mul-nexts-3 c = search needs
 slice-write-nexts-3 : tie.Need-slice-write-nexts-3
 slice-write-nexts-3 c = simp length-set (omega arith)
 
-add-labels : tie.Need-add-labels
-add-labels c = search needs
+add-codes : tie.Need-add-codes
+add-codes c = search needs
 
-mul-labels : tie.Need-mul-labels
-mul-labels c = search needs
+mul-codes : tie.Need-mul-codes
+mul-codes c = search needs
 
-slice-write-labels : tie.Need-slice-write-labels
-slice-write-labels c = search needs
+slice-write-codes : tie.Need-slice-write-codes
+slice-write-codes c = search needs
 
-add-labels-2 : tie.Need-add-labels-2
-add-labels-2 c = search needs
+add-codes-2 : tie.Need-add-codes-2
+add-codes-2 c = search needs
 
-mul-labels-2 : tie.Need-mul-labels-2
-mul-labels-2 c = search needs
+mul-codes-2 : tie.Need-mul-codes-2
+mul-codes-2 c = search needs
 
-slice-write-labels-2 : tie.Need-slice-write-labels-2
-slice-write-labels-2 c = simp length-set (omega arith)
+slice-write-codes-2 : tie.Need-slice-write-codes-2
+slice-write-codes-2 c = simp length-set (omega arith)
 
 add-result : tie.Need-add-result
 add-result c = search needs
@@ -106,12 +106,12 @@ join-spec =
     sub-nexts-2
     mul-nexts-3
     slice-write-nexts-3
-    add-labels
-    mul-labels
-    slice-write-labels
-    add-labels-2
-    mul-labels-2
-    slice-write-labels-2
+    add-codes
+    mul-codes
+    slice-write-codes
+    add-codes-2
+    mul-codes-2
+    slice-write-codes-2
     add-result
     same-length
     same-length-2

@@ -13,8 +13,8 @@ add-pair c = search needs
 character-at-requires : tie.Need-character-at-requires
 character-at-requires c κs = search needs
 
-label-requires : tie.Need-label-requires
-label-requires c κs = search needs
+code-requires : tie.Need-code-requires
+code-requires c κs = search needs
 
 pair-requires : tie.Need-pair-requires
 pair-requires c κs = search needs
@@ -41,7 +41,7 @@ leaf-spec =
     mul-pair
     add-pair
     character-at-requires
-    label-requires
+    code-requires
     pair-requires
     add-result
     same-length

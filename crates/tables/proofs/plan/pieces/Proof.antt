@@ -8,11 +8,11 @@ use Rattle.tables.proofs.plan.pieces.Statement.{statement}
 use Rattle.tables.proofs.plan.pieces.Tie as tie
 
 abbrev Inv-loop : tie.InvT-loop
-Inv-loop list cuts total nexts₀ labels₀ runs₀ stands₀ tops₀ roots₀ k₀ nexts labels runs stands tops roots k =
-    (k ≤ total) × Making list cuts k (tables nexts labels stands roots) runs tops
+Inv-loop list cuts total nexts₀ codes₀ runs₀ stands₀ tops₀ roots₀ k₀ nexts codes runs stands tops roots k =
+    (k ≤ total) × Making list cuts k (tables nexts codes stands roots) runs tops
 
 abbrev μ-loop : tie.MeasureT-loop
-μ-loop list cuts total nexts₀ labels₀ runs₀ stands₀ tops₀ roots₀ k₀ nexts labels runs stands tops roots k =
+μ-loop list cuts total nexts₀ codes₀ runs₀ stands₀ tops₀ roots₀ k₀ nexts codes runs stands tops roots k =
     total - k
 
 -- where the call began, where a round began, and where its piece was made

@@ -6,7 +6,7 @@ use native.Mathlib.Omega.{arith}
 use lib.ListN.{length, getD}
 use borrow.Author.Tests.{eqb-true, eqb-false, leb-true, leb-false}
 use Rattle.tree.specs.Postorder.{asked}
-use Rattle.tree.specs.Depth.{Reads, reads-none, reads-more, stuck-tree, read-tree, depth-grows}
+use Rattle.tree.specs.Depth.{Trees-waiting, reads-none, reads-more, stuck-tree, read-tree, depth-grows}
 use Rattle.tree.proofs.order.one_tree.Statement.{statement}
 use Rattle.tree.proofs.order.one_tree.Tie as tie
 use Rattle.tree.proofs.order.one_tree.Reads as reads
@@ -14,7 +14,7 @@ use Rattle.tree.proofs.order.one_tree.Lts as lts
 use Rattle.tree.proofs.order.depth_with.Reads as depth-with-reads
 
 abbrev Inv-loop : tie.InvT-loop
-Inv-loop labels depth₀ i₀ depth i = (i ≤ length labels) × (depth ≤ i) × Reads labels i depth
+Inv-loop labels depth₀ i₀ depth i = (i ≤ length labels) × (depth ≤ i) × Trees-waiting labels i depth
 
 abbrev μ-loop : tie.MeasureT-loop
 μ-loop labels depth₀ i₀ depth i = length labels - i

@@ -1,0 +1,183 @@
+-- Moving the word of one piece along a byte: the bits of the states with the byte's code, each one place up.
+use Prim.Native.Nat.{ℕ, zero, suc, _+_, _-_, _*_, _/_, _%_, _^_, _≤_, _<_}
+use mathlib.Core.Path.{_≡_, refl, sym, ap, _∙_, subst, subst₂}
+use mathlib.Core.Logic.{inl, inr, _↔_, ⊎-elim}
+use mathlib.Core.List.{List}
+use native.Mathlib.Decide.{ℕ-discrete}
+use native.Mathlib.Nat.{mod-eq-of-lt, lt-of-lt-of-le}
+use native.Mathlib.Omega.{arith}
+use lib.Bits.{bitOr, bitAnd}
+use lib.Pow.{pow-mono}
+use lib.ListN.{getD}
+use Rattle.language.specs.Automaton.{State}
+use Rattle.language.specs.Nested.{Nested, Own-reads}
+use Rattle.tree.specs.Leaf.{Leaf, meaning}
+use Rattle.tables.specs.Words.{Bit, width, Own, number}
+use Rattle.tables.specs.Plan.{row, takes, Moves}
+use Rattle.tables.specs.Tables.{Noted}
+use Rattle.marks.specs.BitsOfWords.Bits.{bit-zero, bit-and, bit-with, bit-below, bit-low, bit-suc, below-of-bits}
+use Rattle.marks.specs.BitsOfWords.LowestBit.{Lowest}
+use Rattle.marks.specs.BitsOfWords.Numbers.{number-below, number-onto, number-injective}
+use Rattle.marks.specs.ClosingTable.Rows.{row-at}
+use Rattle.marks.specs.Moving.Codes.{reads-on, reads-from}
+
+-- of the bits of w that are no longer in rest, those whose states have the code are the bits of r
+pub record Picked (codes : List ℕ) (base code w rest r : ℕ) : Type 0 where
+  pub among : (i : ℕ) → Bit rest i → Bit w i
+  pub exactly : (j : ℕ) → Bit r j ↔ (Bit w j × (Bit rest j → ⊥) × (getD codes (base + j) 0 ≡ code))
+
+-- at first none are picked
+pub picked-none : (codes : List ℕ) (base code w : ℕ) → Picked codes base code w w 0
+picked-none codes base code w =
+    record { among = λ i b. b; exactly = λ j. (λ b. absurd (bit-zero j b), λ (b, gone, _). absurd (gone b)) }
+
+module _ {codes : List ℕ} {base code w rest r s : ℕ} (so-far : Picked codes base code w rest r)
+    (lowest : Lowest rest s) where
+  -- the lowest bit that is left is picked where its state has the code
+  pub picked-more : {rest′ r′ : ℕ} → getD codes (base + s) 0 ≡ code → r′ ≡ bitOr r (2 ^ s)
+      → rest′ ≡ bitAnd rest (rest - 1) → Picked codes base code w rest′ r′
+  picked-more has picks takes = subst₂ (λ (m v : ℕ). Picked codes base code w m v) (sym takes) (sym picks) record {
+    among = λ i b. so-far .among i (lowest .left i .0 b .0);
+    exactly = λ j. (
+      λ c. ⊎-elim
+          (λ d. let (b, gone, at) = so-far .exactly j .0 d in (b, λ l. gone (lowest .left j .0 l .0), at))
+          (λ e. (
+            subst (λ (i : ℕ). Bit w i) (sym e) (so-far .among s (lowest .is-set)),
+            λ l. lowest .left j .0 l .1 e,
+            ap (λ (i : ℕ). getD codes (base + i) 0) e ∙ has,
+          ))
+          (bit-with r s j .0 c),
+      λ (b, gone, at). bit-with r s j .1 (elim (ℕ-discrete j s) [
+        | yes e ↦ inr e
+        | no other ↦ inl (so-far .exactly j .1 (b, λ l. gone (lowest .left j .1 (l, other)), at))
+      ]),
+    );
+  }
+
+  -- and is not where it has another
+  pub picked-same : {rest′ r′ : ℕ} → (getD codes (base + s) 0 ≡ code → ⊥) → r′ ≡ r → rest′ ≡ bitAnd rest (rest - 1)
+      → Picked codes base code w rest′ r′
+  picked-same lacks keeps takes = subst₂ (λ (m v : ℕ). Picked codes base code w m v) (sym takes) (sym keeps) record {
+    among = λ i b. so-far .among i (lowest .left i .0 b .0);
+    exactly = λ j. (
+      λ c. let (b, gone, at) = so-far .exactly j .0 c in (b, λ l. gone (lowest .left j .0 l .0), at),
+      λ (b, gone, at). elim (ℕ-discrete j s) [
+        | yes e ↦ absurd (lacks (ap (λ (i : ℕ). getD codes (base + i) 0) (sym e) ∙ at))
+        | no other ↦ so-far .exactly j .1 (b, λ l. gone (lowest .left j .1 (l, other)), at)
+      ],
+    );
+  }
+
+-- where the picked ones are those among the leaves, they are those of the whole word: a state with the code of a byte
+-- is a leaf
+picked-leaves : (reach codes : List ℕ) (k b w : ℕ) {rest r : ℕ} → Noted reach codes k → w < 2 ^ 62 → rest ≡ 0
+    → Picked codes (64 * k) (b + 1) (bitAnd w (getD reach (64 * k + 63) 0)) rest r
+    → Picked codes (64 * k) (b + 1) w 0 r
+picked-leaves reach codes k b w noted small nothing picked = record {
+  among = λ i c. absurd (bit-zero i c);
+  exactly = λ j. (
+    λ c. let (m, _, at) = picked .exactly j .0 c in (bit-and w (getD reach (64 * k + 63) 0) j .0 m .0, bit-zero j, at),
+    λ (m, _, at). picked .exactly j .1 (
+      bit-and w (getD reach (64 * k + 63) 0) j .1
+          (m, noted .leaves j (bit-below small m) (λ none. omega (arith, at, none))),
+      λ l. bit-zero j (subst (λ (v : ℕ). Bit v j) nothing l),
+      at,
+    ),
+  );
+}
+
+-- a word one place up
+bit-up : (w j : ℕ) → Bit (w * 2) (suc j) ↔ Bit w j
+bit-up w j = (
+  λ b. subst (λ (v : ℕ). Bit v j) half (bit-suc (w * 2) j .0 b),
+  λ b. bit-suc (w * 2) j .1 (subst (λ (v : ℕ). Bit v j) (sym half) b),
+)
+  where
+    half : w * 2 / 2 ≡ w
+    half = omega arith
+
+-- the low bit is then clear
+no-bit-up : (w : ℕ) → Bit (w * 2) 0 → ⊥
+no-bit-up w b = omega (arith, bit-low (w * 2), b)
+
+-- from a state of w a transition that reads b leads to the state numbered j
+record Comes (x : Nested Leaf) (b w j : ℕ) : Type 0 where
+  from : State
+  to : State
+  from-own : Own x from
+  marked : Bit w (number x from)
+  numbered : number x to ≡ j
+  reads : Own-reads meaning b x from to
+
+-- that state is one of the piece
+comes-below : {x : Nested Leaf} {b w j : ℕ} → Comes x b w j → j < width x
+comes-below {x} {b} m = omega (arith, number-below x (m .to) (reads-on b x (m .reads) .to-own), m .numbered)
+
+-- so one leads to the state of that number
+comes-to : {x : Nested Leaf} {b w : ℕ} (q : State) → Own x q → Comes x b w (number x q)
+    → (p : State) × Own x p × Bit w (number x p) × Own-reads meaning b x p q
+comes-to {x} {b} q o m = (
+  m .from,
+  m .from-own,
+  m .marked,
+  subst (λ (s : State). Own-reads meaning b x (m .from) s)
+      (number-injective x (m .to) q (reads-on b x (m .reads) .to-own) o (m .numbered)) (m .reads),
+)
+
+-- the picked bits, one place up, are the word moved
+moves-by-picking : (codes : List ℕ) (piece b w r : ℕ) (x : Nested Leaf) → width x ≤ 62 → row codes piece (width x)
+    ≡ takes x → w < 2 ^ width x
+    → Picked codes (64 * piece) (b + 1) w 0 r → Moves x b w (r * 2 % 2 ^ 64)
+moves-by-picking codes piece b w r x narrow coded small picked =
+    subst (λ (v : ℕ). Moves x b w v) (sym (mod-eq-of-lt fits)) record {
+      exactly = λ q o. (λ c. comes-to q o (up (number x q) c), forth q o);
+      clean = below-of-bits (width x) (r * 2) (λ j c. comes-below (up j c));
+    }
+  where
+    picked-small : r < 2 ^ 62
+    picked-small = lt-of-lt-of-le (below-of-bits (width x) r (λ j c. bit-below small (picked .exactly j .0 c .0)))
+        (pow-mono narrow)
+
+    fits : r * 2 < 2 ^ 64
+    fits = omega (arith, picked-small)
+
+    code-at : (p : State) (j : ℕ) → number x p ≡ j → j < width x → getD (takes x) (number x p) 0
+        ≡ getD codes (64 * piece + j) 0
+    code-at p j e h =
+        ap (λ (i : ℕ). getD (takes x) i 0) e ∙ ap (λ (l : List ℕ). getD l j 0) (sym coded)
+        ∙ row-at codes piece (width x) j h
+
+    up : (j : ℕ) → Bit (r * 2) j → Comes x b w j
+    up zero c = absurd (no-bit-up r c)
+    up (suc j) c =
+        let m = picked .exactly j .0 (bit-up r j .0 c) in
+        let s = number-onto x j (bit-below small (m .0)) in
+        let t = reads-from b x (s .0) (s .1) (code-at (s .0) j (s .2) (bit-below small (m .0)) ∙ m .2) in
+        record {
+          from = s .0;
+          to = t .0;
+          from-own = s .1;
+          marked = subst (λ (i : ℕ). Bit w i) (sym (s .2)) (m .0);
+          numbered = omega (arith, reads-on b x (t .1) .next, s .2);
+          reads = t .1;
+        }
+
+    forth : (q : State) → Own x q → (p : State) × Own x p × Bit w (number x p) × Own-reads meaning b x p q
+        → Bit (r * 2) (number x q)
+    forth q o m =
+        let s = reads-on b x (m .3) in
+        subst (λ (i : ℕ). Bit (r * 2) i) (omega (arith, s .next))
+        (bit-up r (number x (m .0)) .1 (picked .exactly (number x (m .0)) .1 (
+          m .2,
+          bit-zero (number x (m .0)),
+          sym (code-at (m .0) (number x (m .0)) refl (number-below x (m .0) (m .1))) ∙ s .code,
+        )))
+
+-- so are those among the leaves
+pub moves-by-leaves : (reach codes : List ℕ) (piece b w rest r : ℕ) → Noted reach codes piece → rest ≡ 0
+    → Picked codes (64 * piece) (b + 1) (bitAnd w (getD reach (64 * piece + 63) 0)) rest r
+    → (x : Nested Leaf) → width x ≤ 62 → row codes piece (width x) ≡ takes x → w < 2 ^ width x
+    → Moves x b w (r * 2 % 2 ^ 64)
+moves-by-leaves reach codes piece b w rest r noted nothing picked x narrow coded small =
+    moves-by-picking codes piece b w r x narrow coded small
+    (picked-leaves reach codes piece b w noted (lt-of-lt-of-le small (pow-mono narrow)) nothing picked)
