@@ -3,6 +3,8 @@ use crate::part::Span;
 use crate::part::first_part;
 use crate::text::text_matches;
 use marks::inner::prepare;
+use tables::TABLE_SIZE;
+use tree::limits::MOST_PIECES;
 ghost use Prim.Native.Nat.{ℕ};
 ghost use mathlib.Core.Path.{_≡_};
 ghost use mathlib.Core.Bool.{true, false};
@@ -22,11 +24,11 @@ pub fn find_good(list: &[u8], cuts: &[u16], count: usize, text: &[u8], whole: bo
     ensures { λ r. ⌜ (whole ≡ false → (t : Tree Leaf) → Good (now (list .entry)) t
         → Answers (Matches t) (now (text .entry)) (answer-of r)) ⌝ }
 {
-    let mut reach = [0u64; 8192];
-    let mut codes = [0u16; 8192];
-    let mut runs = [0u8; 128];
-    let mut stands = [0u8; 128];
-    let mut tops = [0u8; 128];
+    let mut reach = [0u64; TABLE_SIZE];
+    let mut codes = [0u16; TABLE_SIZE];
+    let mut runs = [0u8; MOST_PIECES];
+    let mut stands = [0u8; MOST_PIECES];
+    let mut tops = [0u8; MOST_PIECES];
     prepare(
         list,
         cuts,

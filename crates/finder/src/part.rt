@@ -3,6 +3,7 @@ use marks::inner::advance;
 use marks::inner::begin;
 use marks::inner::copy;
 use marks::inner::nothing_left;
+use tree::limits::MOST_PIECES;
 ghost use Prim.Native.Nat.{ℕ, _≤_};
 ghost use mathlib.Core.Path.{_≡_};
 ghost use mathlib.Core.Logic.{_↔_};
@@ -57,7 +58,7 @@ fn furthest_end(
         → Prepared t (now (reach .entry)) (now (codes .entry)) (now (runs .entry)) (now (stands .entry))
         (now (tops .entry)) count → Furthest (Matches t) (now (text .entry)) start (end-of r)) ⌝ }
 {
-    let mut words = [0u64; 128];
+    let mut words = [0u64; MOST_PIECES];
     copy(first, count, &mut words);
     let mut best = with_end(empty, start, End::Nowhere);
     let mut end = start;
@@ -99,7 +100,7 @@ pub fn first_part(
         → Prepared t (now (reach .entry)) (now (codes .entry)) (now (runs .entry)) (now (stands .entry))
         (now (tops .entry)) count → Answers (Matches t) (now (text .entry)) (answer-of r)) ⌝ }
 {
-    let mut first = [0u64; 128];
+    let mut first = [0u64; MOST_PIECES];
     let empty = begin(reach, codes, runs, stands, tops, count, &mut first);
     let mut start = 0;
     while start <= text.len() {

@@ -2,6 +2,7 @@
 use marks::inner::advance;
 use marks::inner::begin;
 use marks::inner::nothing_left;
+use tree::limits::MOST_PIECES;
 ghost use Prim.Native.Nat.{ℕ};
 ghost use mathlib.Core.Path.{_≡_};
 ghost use mathlib.Core.Bool.{true};
@@ -27,7 +28,7 @@ pub fn text_matches(
         → Prepared t (now (reach .entry)) (now (codes .entry)) (now (runs .entry)) (now (stands .entry))
         (now (tops .entry)) count → (r ≡ true) ↔ Matches t (now (text .entry))) ⌝ }
 {
-    let mut words = [0u64; 128];
+    let mut words = [0u64; MOST_PIECES];
     let mut yes = begin(reach, codes, runs, stands, tops, count, &mut words);
     let mut i = 0;
     while i < text.len() {

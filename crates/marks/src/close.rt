@@ -1,5 +1,6 @@
 // Closing inside one piece, by the table of the states that empty transitions reach.
 use crate::bits::lowest;
+use tables::ROW_SIZE;
 ghost use Prim.Native.Nat.{ℕ, _+_, _*_, _^_, _≤_, _<_};
 ghost use lib.ListN.{length};
 ghost use Rattle.language.specs.Nested.{Nested};
@@ -13,7 +14,7 @@ pub fn close(reach: &[u64], piece: usize, word: u64) -> u64
     ensures { λ r. ⌜ ((x : Nested Leaf) → width x ≤ 62 → Reaches x (row (now (reach .entry)) piece (width x))
         → word < 2 ^ width x → Closes x word r) ⌝ }
 {
-    let base = 64 * piece;
+    let base = ROW_SIZE * piece;
     let mut rest = word;
     let mut closed: u64 = 0;
     while rest != 0 {

@@ -1,6 +1,8 @@
 // Which states take a byte, noted once, so that a move looks at no others. A piece has at most 62 states: entry 63 of
 // its 64 is free for it.
 use crate::bits::with_bit;
+use tables::ROW_SIZE;
+use tree::limits::MOST_STATES;
 ghost use Prim.Native.Nat.{_+_, _*_, _≤_};
 ghost use lib.ListN.{length};
 ghost use Rattle.marks.specs.Moving.Leaves.{Leaves, Leaves-noted};
@@ -10,10 +12,10 @@ fn leaves(codes: &[u16], piece: usize) -> u64
     requires { ⌜ 64 * piece + 64 ≤ length (now codes) ⌝ }
     ensures { λ r. ⌜ Leaves (now (codes .entry)) piece 62 r ⌝ }
 {
-    let base = 64 * piece;
+    let base = ROW_SIZE * piece;
     let mut state = 0;
     let mut word: u64 = 0;
-    while state < 62 {
+    while state < MOST_STATES {
         if codes[base + state] != 0 {
             word = with_bit(word, state);
         }
@@ -29,7 +31,7 @@ pub fn note_leaves(reach: &mut [u64], codes: &[u16], pieces: usize)
 {
     let mut piece = 0;
     while piece < pieces {
-        let at = 64 * piece + 63;
+        let at = ROW_SIZE * piece + 63;
         reach[at] = leaves(codes, piece);
         piece += 1;
     }

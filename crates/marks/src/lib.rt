@@ -13,8 +13,10 @@ use crate::agree::agreeing;
 use crate::inner::advance;
 use crate::inner::begin;
 use crate::inner::prepare;
+use tables::TABLE_SIZE;
 use tree::good::Decided;
 use tree::good::decide_with;
+use tree::limits::MOST_PIECES;
 use tree::limits::SLOT_COUNT;
 ghost use mathlib.Core.Path.{_≡_};
 ghost use mathlib.Core.Bool.{true, false};
@@ -49,11 +51,11 @@ fn mark_good(
     ensures { λ r. ⌜ (stepping ≡ true
         → Steps (now (list .entry)) byte (now (words .entry)) (now (words .exit)) (numbers r)) ⌝ }
 {
-    let mut reach = [0u64; 8192];
-    let mut codes = [0u16; 8192];
-    let mut runs = [0u8; 128];
-    let mut stands = [0u8; 128];
-    let mut tops = [0u8; 128];
+    let mut reach = [0u64; TABLE_SIZE];
+    let mut codes = [0u16; TABLE_SIZE];
+    let mut runs = [0u8; MOST_PIECES];
+    let mut stands = [0u8; MOST_PIECES];
+    let mut tops = [0u8; MOST_PIECES];
     prepare(
         list,
         cuts,

@@ -3,6 +3,7 @@
 use crate::bits::lowest;
 use crate::bits::with_bit;
 use crate::close::close;
+use tables::ROW_SIZE;
 ghost use mathlib.Core.Path.{_≡_};
 ghost use Prim.Native.Nat.{ℕ, _+_, _*_, _^_, _≤_, _<_};
 ghost use lib.ListN.{length};
@@ -22,7 +23,7 @@ pub fn moved(reach: &[u64], codes: &[u16], piece: usize, word: u64, byte: u8) ->
     ensures { λ r. ⌜ ((x : Nested Leaf) → width x ≤ 62 → row (now (codes .entry)) piece (width x) ≡ takes x
         → word < 2 ^ width x → Moves x byte word r) ⌝ }
 {
-    let base = 64 * piece;
+    let base = ROW_SIZE * piece;
     let code = byte as u16 + 1;
     let mut rest = word & reach[base + 63];
     let mut picked: u64 = 0;

@@ -5,6 +5,7 @@
 use crate::bits::has_bit;
 use crate::bits::lowest;
 use crate::bits::with_bit;
+use tables::ROW_SIZE;
 ghost use Prim.Native.Nat.{ℕ, _+_, _*_, _≤_, _<_};
 ghost use lib.ListN.{length, getD};
 ghost use Rattle.marks.specs.ClosingTable.Rows.{Rows};
@@ -53,7 +54,7 @@ fn close_rows(reach: &mut [u64], piece: usize, states: usize)
     requires { ⌜ (64 * piece + 64 ≤ length (now reach)) × (states ≤ 64) ⌝ }
     ensures { λ _. ⌜ Closed-rows (now (reach .entry)) (now (reach .exit)) piece states ⌝ }
 {
-    let base = 64 * piece;
+    let base = ROW_SIZE * piece;
     let mut state = states;
     let mut seen: u64 = 0;
     while state > 0 {

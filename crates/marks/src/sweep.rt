@@ -1,6 +1,7 @@
 // A sweep: the piece itself is closed, and its child pieces are gone through from left to right.
 use crate::bits::has_bit;
 use crate::bits::with_bit;
+use tables::ROW_SIZE;
 ghost use mathlib.Core.Path.{_≡_};
 ghost use mathlib.Core.Bool.{true};
 ghost use Prim.Native.Nat.{ℕ, _+_, _*_, _≤_, _<_};
@@ -29,7 +30,7 @@ fn close_from(reach: &[u64], piece: usize, word: u64, state: usize) -> u64
     ensures { λ r. ⌜ Closes-from (now (reach .entry)) piece word state r ⌝ }
 {
     if has_bit(word, state) {
-        word | reach[64 * piece + state]
+        word | reach[ROW_SIZE * piece + state]
     } else {
         word
     }

@@ -5,8 +5,10 @@ use crate::report::text_line;
 use crate::report::total_line;
 use finder::text_matches;
 use marks::inner::prepare;
+use tables::TABLE_SIZE;
 use tree::good::Decided;
 use tree::good::decide_with;
+use tree::limits::MOST_PIECES;
 use tree::limits::SLOT_COUNT;
 ghost use Prim.Native.Nat.{ℕ};
 ghost use lib.ListN.{drop};
@@ -74,11 +76,11 @@ fn good_texts(
         → Prints (now (out .entry)) 0 (text-lines matches t 0 0 (lines (drop start (now (input .entry)))))
         (now (out .exit)) r) ⌝ }
 {
-    let mut reach = [0u64; 8192];
-    let mut codes = [0u16; 8192];
-    let mut runs = [0u8; 128];
-    let mut stands = [0u8; 128];
-    let mut tops = [0u8; 128];
+    let mut reach = [0u64; TABLE_SIZE];
+    let mut codes = [0u16; TABLE_SIZE];
+    let mut runs = [0u8; MOST_PIECES];
+    let mut stands = [0u8; MOST_PIECES];
+    let mut tops = [0u8; MOST_PIECES];
     prepare(
         list,
         cuts,

@@ -5,3 +5,5 @@ pub mod plan;
 
 // How many entries a piece has in a table: one for each bit of a word.
 pub const ROW_SIZE: usize = 64;
+// How many entries a table has: those of as many pieces as a good list may have.
+pub const TABLE_SIZE: usize = 8192;
