@@ -1,8 +1,8 @@
 /* Foamlattice: a proved matcher for regular expressions.
  *
  * Every function takes slices as a pointer and a length, ends and answers on all bytes and words that it can be
- * handed, and keeps nothing between calls. It allocates nothing; what it needs it takes from the stack: 25 KB in
- * foam_read, 125 KB in foam_match, foam_search, foam_start and foam_step, 131 KB in foam_pick, as measured.
+ * handed, and keeps nothing between calls. It allocates nothing; what it needs it takes from the stack: 39 KB in
+ * foam_read, 120 KB in foam_match, foam_search, foam_start and foam_step, 142 KB in foam_pick, as measured.
  *
  * What a caller must see to, since it cannot be checked: no pointer is null, also where its length is 0; each points to
  * as many bytes or words as its length says, words aligned as uint64_t; what is written through overlaps nothing else
