@@ -63,7 +63,7 @@ uint64_t foam_start(const uint8_t *records, size_t records_length, uint64_t *wor
 uint64_t foam_step(const uint8_t *records, size_t records_length, uint64_t *words, size_t words_length, uint8_t byte);
 
 /* Writes what the program `pick` prints for an input of any length: its first line is an expression, each later one a text,
- * and a line ends at byte 10. For each text stand its number, `yes` and its rank among the yes lines or `no -`,
+ * and a line ends at byte 10, or at 13 and 10. For each text stand its number, `yes` and its rank among the yes lines or `no -`,
  * and in the last line the counts; for an expression that is refused only `refused N at P`, and for more than 65,536 bytes
  * only `input too long`. The expression is read once for all texts, so this is the call for many short ones. Bytes past the
  * output are not written. Nothing is refused by number: with a buffer shorter than FOAM_MOST_OUTPUT, whatever the input, the

@@ -1,8 +1,9 @@
-//! The date expressions of the desk: each matches all 366 dates, and each but the first needs one top bit for 29 February.
+//! The date expressions of the desk: each matches all 366 dates, whichever end the lines have, and each but the first needs
+//! one top bit for 29 February.
 
 use crate::calls;
 use crate::expected::{self, Automaton, Tree};
-use crate::wrapper::foamlattice::MOST_RECORD_BYTES;
+use crate::wrapper::foamlattice::{MOST_OUTPUT, MOST_RECORD_BYTES};
 
 const EXPRESSIONS: &str = include_str!("../../crates/desk/stdin");
 const LEAP_DAY: &str = "02-29";
@@ -29,6 +30,15 @@ fn loses_leap_day(tree: &Tree, bit: usize, alone: bool) -> bool {
     })
 }
 
+/// The date table in one call, with this end at each line: every date is a yes line, 29 February the 60th and 1 March the
+/// 61st.
+fn compare_table(e: &str, end: &str) {
+    let lines: Vec<String> = std::iter::once(e.into()).chain(dates()).map(|line| line + end).collect();
+    assert_eq!((&lines[60], &lines[61]), (&format!("{LEAP_DAY}{end}"), &format!("03-01{end}")));
+    let output: String = (1..=366).map(|rank| format!("{rank} yes {rank}\n")).collect();
+    calls::pick(lines.concat().as_bytes(), MOST_OUTPUT, (output + "total 366 yes 366 no 0\n").as_bytes());
+}
+
 /// The date with one bit changed, in each of its bytes.
 fn changed(date: &str, bit: u8) -> impl Iterator<Item = Vec<u8>> + '_ {
     (0..date.len()).map(move |at| {
@@ -51,6 +61,9 @@ pub fn compare() -> usize {
             list.compare_text(date.as_bytes());
             changed(&date, 1).for_each(|text| list.compare_text(&text));
             count += 6;
+        }
+        for end in ["\n", "\r\n"] {
+            compare_table(e, end);
         }
         for text in NO_DATES {
             assert!(line > 0 || !is_match(list.automaton(), text), "the plain expression matches {text}");

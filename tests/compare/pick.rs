@@ -6,12 +6,13 @@ use crate::{calls, expected, growing, program};
 use std::process::Output;
 use std::time::Duration;
 
-/// The lines of an input: each ends at byte 10; last bytes without an end are a line if there is at least one.
+/// The lines of an input: cut at each byte 10, and then a byte 13 taken from the end of each that had a 10; what follows the
+/// last 10 is a line as it stands, if there is a byte.
 fn lines(input: &[u8]) -> Vec<&[u8]> {
     let mut lines: Vec<&[u8]> = input.split(|&b| b == b'\n').collect();
-    if lines.last() == Some(&&b""[..]) {
-        lines.pop();
-    }
+    let last = lines.pop().filter(|line| !line.is_empty());
+    lines.iter_mut().for_each(|line| *line = line.strip_suffix(b"\r").unwrap_or(line));
+    lines.extend(last);
     lines
 }
 
@@ -79,21 +80,29 @@ fn random_expression(r: &mut Random, size: usize, letters: &[u8]) -> Vec<u8> {
     e
 }
 
+/// The ends of an input's lines: all 10, all 13 and 10, or mixed, with a 13 to spare too.
+const ENDS: [&[&[u8]]; 3] = [&[b"\n"], &[b"\r\n"], &[b"\n", b"\r\n", b"\r\r\n"]];
+
+fn add_end(r: &mut Random, ends: &[&[u8]], input: &mut Vec<u8>) {
+    input.extend(ends[r.below(ends.len())]);
+}
+
 /// Adds a line that is in or near the language of an expression, or one of any letters, after the end of the line before.
-fn add_line(r: &mut Random, e: &[u8], letters: &[u8], input: &mut Vec<u8>) {
-    input.push(b'\n');
+fn add_line(r: &mut Random, e: &[u8], letters: &[u8], ends: &[&[u8]], input: &mut Vec<u8>) {
+    add_end(r, ends, input);
     input.extend(if r.one_in(2) { generate::text(r, e, 20) } else { r.bytes(4, letters) });
 }
 
 /// An expression and some lines, with and without a last end.
 fn random_input(r: &mut Random, size: usize, letters: &[u8]) -> Vec<u8> {
     let e = random_expression(r, size, letters);
+    let ends = ENDS[r.below(ENDS.len())];
     let mut input = e.clone();
     for _ in 0..r.below(20) {
-        add_line(r, &e, letters, &mut input);
+        add_line(r, &e, letters, ends, &mut input);
     }
     if r.one_in(2) {
-        input.push(b'\n');
+        add_end(r, ends, &mut input);
     }
     input
 }
@@ -101,19 +110,49 @@ fn random_input(r: &mut Random, size: usize, letters: &[u8]) -> Vec<u8> {
 /// An expression and lines, so many that the input has just this length.
 fn long_input(r: &mut Random, length: usize) -> Vec<u8> {
     let e = random_expression(r, 12, b"ab\r");
+    let ends = ENDS[r.below(ENDS.len())];
     let mut input = e.clone();
     while input.len() < length {
-        add_line(r, &e, b"ab\r", &mut input);
+        add_line(r, &e, b"ab\r", ends, &mut input);
     }
     input.truncate(length);
     input
 }
 
-/// The sample of the reference, inputs with no line or one, expressions refused for their size, and both sides of 65,536
-/// bytes.
+/// Inputs with bytes 13: before a 10, before another 13, before another byte, last of all, alone; in the expression's line
+/// and in those of texts.
+fn edges_of_ends() -> Vec<Vec<u8>> {
+    let mut inputs = [
+        &b"02-2(8|9)\r\n02-28\r\n02-29\n03-01\r\n"[..],
+        b"a\r\na\r\n",
+        b"a\r\na\r\r\na\rb\na\r",
+        b"a\r\r\na\r\r\na\r",
+        b"a\rb\r\na\rb\n",
+        b"\r*\n\r\r\r\n\n\r",
+        b"\r\n\r\n",
+        b"\r\r\n\r",
+    ]
+    .map(<[u8]>::to_vec)
+    .to_vec();
+    // 1,023 to 1,026 bytes of an expression that is not too large, with each end and with a last 13 that is none
+    let most = "\\(".repeat(512);
+    for e in [&most[1..], &most, &format!("{most}a"), &format!("{most}\\(")] {
+        inputs.extend(["\n", "\r\n", "\r\r\n", "\r"].map(|end| format!("{e}{end}").into_bytes()));
+    }
+    for length in 65_533..=65_539 {
+        let mut one_line = b"(a|b|\r)*\r\n".to_vec();
+        one_line.resize(length, b'a');
+        let pairs = b"\r*\n".iter().chain(b"\r\n".iter().cycle()).copied().take(length).collect();
+        inputs.extend([[&one_line[..length - 2], b"\r\n"].concat(), [&one_line[..length - 1], b"\r"].concat(), pairs]);
+    }
+    inputs
+}
+
+/// The sample of the reference, inputs with no line or one, expressions refused for their size, both sides of 65,536 bytes,
+/// and all kinds of ends.
 fn edges() -> Vec<Vec<u8>> {
     let mut inputs: Vec<Vec<u8>> = vec![b"02-2(8|9)\n02-28\n02-29\n03-01\n".to_vec()];
-    inputs.extend([&b""[..], b"\n", b"\n\n", b"a", b"a\n", b"a\n\n", b"a*\n\n", b"a\r\na\r\n", b"a)\na\n"].map(<[u8]>::to_vec));
+    inputs.extend([&b""[..], b"\n", b"\n\n", b"a", b"a\n", b"a\n\n", b"a*\n\n", b"a)\na\n"].map(<[u8]>::to_vec));
     let (groups, letters) = (["(".repeat(33), "a".into(), ")".repeat(33)].concat(), "a".repeat(898));
     inputs.extend([groups, letters].map(|e| format!("{e}\na\n").into_bytes()));
     for length in [65_535, 65_536, 65_537, 200_000] {
@@ -123,6 +162,7 @@ fn edges() -> Vec<Vec<u8>> {
         empty_lines.resize(length, b'\n');
         inputs.extend([one_line, empty_lines, vec![b'a'; length]]);
     }
+    inputs.extend(edges_of_ends());
     inputs
 }
 
@@ -169,7 +209,8 @@ fn cuttings(r: &mut Random, length: usize) -> Vec<Vec<usize>> {
 /// bytes, with and without a last end; others of 4,096, 65,536 and 65,537 bytes and those beside them, in several cuttings.
 pub fn compare_runs_in_parts(r: &mut Random) -> usize {
     let mut count = 0;
-    for input in [&b"02-2(8|9)\n02-28\n02-29\n03-01\n"[..], b"a*b\naab\nb\nba", b"a|\na", b"(a|b)*\n\n\nab"] {
+    let sample = b"02-2(8|9)\n02-28\n02-29\n03-01\n";
+    for input in [&sample[..], b"a*b\naab\nb\nba", b"a|\na", b"(a|b)*\n\n\nab", b"a*b\r\nab\r\n\r\nb\r\r\nb\r"] {
         let bytes: Vec<&[u8]> = input.chunks(1).collect();
         for pause in [0, 1, 20] {
             compare_parts(&bytes, Duration::from_millis(pause));

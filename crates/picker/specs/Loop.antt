@@ -12,7 +12,8 @@ use Rattle.finder.specs.Found.{part}
 use Rattle.finder.specs.Decide.{matches}
 use Rattle.finder.specs.DecideExactly.{matches-answer}
 use Rattle.picker.specs.Lines.{lines}
-use Rattle.picker.specs.Ends.{Ends, after, line-at, lines-none, lent-part}
+use Rattle.picker.specs.Ends.{Ends, after}
+use Rattle.picker.specs.EndLaws.{after-inside, line-at, lines-none, lent-part}
 use Rattle.picker.specs.Print.{text-line, total-line, yes-after, text-lines}
 use Rattle.picker.specs.Room.{text-line-length, total-line-length, yes-after-most}
 use Rattle.picker.specs.Printing.{Prints, prints-none, prints-join}
@@ -54,7 +55,7 @@ module _ {input : List ℕ} {place at count yes-lines : ℕ} {out : List ℕ}
       → Prints out at (text-line test (count + 1) (yes-lines + 1)) out′ at′
       → Print-space input (after input end) at′ (count + 1) (yes-after test yes-lines) out′
   space-next test p = record {
-    inside = omega arith;
+    inside = after-inside input end (ends .inside);
     ranked = yes-after-most test count yes-lines (s .ranked);
     few = omega (arith, s, fewer);
     enough = omega (

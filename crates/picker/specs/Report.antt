@@ -20,8 +20,10 @@ use Rattle.reader.specs.Answer.{Numbers, refusing, reading, answer-for, answere
 use Rattle.reader.specs.Kept.{Kept}
 use Rattle.finder.specs.Found.{part}
 use Rattle.finder.specs.Decide.{matches}
-use Rattle.picker.specs.Lines.{lines, expression, texts, texts-count}
-use Rattle.picker.specs.Ends.{Ends, after, first-line}
+use Rattle.picker.specs.Lines.{lines, expression, texts}
+use Rattle.picker.specs.LineLaws.{texts-count}
+use Rattle.picker.specs.Ends.{Ends, after}
+use Rattle.picker.specs.EndLaws.{after-inside, first-line}
 use Rattle.picker.specs.Limits.{longest-input, most-output}
 use Rattle.picker.specs.Print.{few-pieces, answered, refusal-line, text-lines, reported}
 use Rattle.picker.specs.Printing.{Prints}
@@ -107,7 +109,7 @@ module _ (input : List ℕ) (end : ℕ) (ends : Ends input 0 end) where
       let count : length (lines (drop (after input end) input)) ≤ length input - (length (part 0 end input) + 1) =
       rw (first .is-expression, first .are-texts) at (texts-count input) in
       record {
-        inside = omega arith;
+        inside = after-inside input end (ends .inside);
         ranked = omega arith;
         few = omega arith;
         enough =

@@ -13,7 +13,8 @@ use Rattle.tree.specs.Limits.{most-pieces}
 use Rattle.tree.specs.Records.{piece-count}
 use Rattle.reader.specs.Scanner.{Outcome, tree, refused, scanned}
 use Rattle.reader.specs.Agree.{scanned-exactly, scanned-refusal, written-size}
-use Rattle.picker.specs.Lines.{lines, expression, texts, texts-count}
+use Rattle.picker.specs.Lines.{lines, expression, texts}
+use Rattle.picker.specs.LineLaws.{texts-count}
 use Rattle.picker.specs.DigitLaws.{digits-length}
 use Rattle.picker.specs.Limits.{longest-input, most-output}
 use Rattle.picker.specs.Print.{

@@ -12,6 +12,7 @@ use Rattle.language.specs.Tree.{Tree}
 use Rattle.tree.specs.Leaf.{Leaf}
 use Rattle.tables.specs.Tables.{Prepared}
 use Rattle.finder.specs.Decide.{matches}
+use Rattle.picker.specs.EndLaws.{after-start}
 use Rattle.picker.specs.Print.{yes-after}
 use Rattle.picker.specs.Loop.{
   Print-space,
@@ -93,7 +94,9 @@ next-line-requires : tie.Need-next-line-requires Inv-loop μ-loop
 next-line-requires c κs = search needs
 
 loop-less : tie.Need-loop-less Inv-loop μ-loop
-loop-less c = search needs
+loop-less c =
+    let line = turn c .before .before .before .line-end .ensures in
+    omega (arith, c .next-line .ensures, after-start _ _ _ line (omega arith))
 
 loop-again : tie.Need-loop-again Inv-loop μ-loop
 loop-again c =
