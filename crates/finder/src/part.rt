@@ -11,6 +11,7 @@ ghost use lib.ListN.{length};
 ghost use Rattle.language.specs.Tree.{Tree};
 ghost use Rattle.tree.specs.Leaf.{Leaf, Matches};
 ghost use mathlib.Core.List.{[]};
+ghost use Rattle.tree.specs.Limits.{most-pieces};
 ghost use Rattle.tables.specs.Tables.{Prepared, Ready, Answered};
 ghost use Rattle.finder.specs.Progress.{Furthest, better};
 ghost use Rattle.finder.specs.Found.{Answers};
@@ -50,7 +51,7 @@ fn furthest_end(
     start: usize,
 ) -> End
     requires { ⌜ Ready (now reach) (now codes) (now runs) (now stands) (now tops) count ⌝ }
-    requires { ⌜ (start ≤ length (now text)) × (length (now first) ≡ 128) ⌝ }
+    requires { ⌜ (start ≤ length (now text)) × (length (now first) ≡ most-pieces) ⌝ }
     requires { ⌜ ((t : Tree Leaf) → Prepared t (now reach) (now codes) (now runs) (now stands) (now tops) count
         → Answered t [] (now first) empty) ⌝ }
     ensures { λ r.

@@ -16,11 +16,12 @@ use Rattle.language.specs.Simulation.{_⊆_, stepped-more}
 use Rattle.language.specs.Acceptance.{accepts-exactly}
 use Rattle.language.specs.Models.{State-of, alike-models, models-alike, models-origins}
 use Rattle.language.specs.Along.{reached-state}
+use Rattle.tree.specs.Limits.{most-pieces, most-states}
 use Rattle.tree.specs.Leaf.{Leaf, meaning}
 use Rattle.tree.specs.Records.{Good}
 use Rattle.tree.specs.Nesting.{every-below}
 use Rattle.tree.specs.Pieces.{cut-up, stated}
-use Rattle.tables.specs.Words.{Bit, width, run, Holds, Clean, Agreeing, Set-of}
+use Rattle.tables.specs.Words.{word-bits, Bit, width, run, Holds, Clean, Agreeing, Set-of}
 use Rattle.tables.specs.Plan.{Pieces, Planned}
 use Rattle.marks.specs.BitsOfWords.Bits.{Tells}
 use Rattle.tables.specs.Tables.{Prepared, Roomy, Ready, Holding, Answered}
@@ -86,7 +87,7 @@ ext-drop n v w long same =
 pub all-narrow : (t : Tree Leaf) → Narrow-below (cut-up t)
 all-narrow t = every-below small-narrow (cut-up t) (stated t .every-small .1)
 
-pub narrow : (t : Tree Leaf) → width (cut-up t) ≤ 62
+pub narrow : (t : Tree Leaf) → width (cut-up t) ≤ most-states
 narrow t = small-narrow (cut-up t) (stated t .every-small .0)
 
 -- the marks to start with, and whether the accepting state is among them
@@ -107,7 +108,7 @@ pub record Running (reach codes runs stands tops : List ℕ) (count : ℕ) (word
 
 -- 128 words that are clean for every tree that the tables are of can be stepped
 pub running : {reach codes runs stands tops words : List ℕ} {count : ℕ} → Ready reach codes runs stands tops count
-    → length words ≡ 128
+    → length words ≡ most-pieces
     → ((t : Tree Leaf) → Prepared t reach codes runs stands tops count → Clean (cut-up t) words)
     → Running reach codes runs stands tops count words
 running ready long clean =
@@ -162,7 +163,7 @@ module _ {t : Tree Leaf} {reach codes runs stands tops : List ℕ} {count : ℕ}
   }
 
   -- the last state of the top piece is its accepting state, and its bit is one of the word
-  pub top-low : getD tops 0 0 < 64
+  pub top-low : getD tops 0 0 < word-bits
   top-low = omega (arith, prepared .planned .0 .topped, narrow t)
 
   -- the bit of the last state of the top piece tells whether the accepting state is marked
@@ -339,7 +340,7 @@ moved-closable {count = count} {moved = moved} running went none-before none-aft
 
 -- 128 words of zero, then the root's start marked
 abbrev pub begins : List ℕ
-begins = set (replicate 128 0) 0 1
+begins = set (replicate most-pieces 0) 0 1
 
 zeros : (n o : ℕ) → _≡_ {A = ℕ} (getD (replicate n 0) o 0) 0
 zeros zero o = refl
@@ -355,7 +356,7 @@ pub start-closable : {reach codes runs stands tops : List ℕ} {count : ℕ} →
 start-closable {count = count} ready =
     let x = cut-up (ready .of-tree .0) in
     let prepared = ready .of-tree .1 in
-    let enough : count ≤ 128 = omega (arith, prepared .counted, prepared .few) in
+    let enough : count ≤ most-pieces = omega (arith, prepared .counted, prepared .few) in
     prepared-closable prepared (ready .roomy) enough
     (prepared-run prepared (start-clean x begins (begins-marked x)) (start-nearly x begins (begins-marked x))
     (start-closed x begins (begins-marked x)))
@@ -382,7 +383,7 @@ prepared-of t good made closes notes = record {
 
 -- every top is a number of a state
 pub tops-low : {nexts codes runs stands tops : List ℕ} {count : ℕ} (t : Tree Leaf)
-    → Given.Laid t nexts codes runs stands tops count → (k : ℕ) → k < count → getD tops k 0 < 64
+    → Given.Laid t nexts codes runs stands tops count → (k : ℕ) → k < count → getD tops k 0 < word-bits
 tops-low {count = count} t made k inside =
     omega (
       arith,

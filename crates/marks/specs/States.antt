@@ -8,6 +8,7 @@ use mathlib.Core.List.{List}
 use lib.ListN.{getD}
 use Rattle.language.specs.Tree.{Tree}
 use Rattle.language.specs.Automaton.{States, accepting}
+use Rattle.tree.specs.Limits.{most-states}
 use Rattle.tree.specs.Leaf.{Leaf}
 use Rattle.tree.specs.Records.{Good}
 use Rattle.tree.specs.Readback.{good-unique}
@@ -32,7 +33,7 @@ use Rattle.marks.specs.Sweep.Visiting.{accepting-holds}
 use Rattle.marks.specs.Inner.{narrow, all-narrow}
 
 -- every piece of a good list's tree has at most 62 states
-pub few-states : {list : List ℕ} {t : Tree Leaf} → Good list t → Every-piece (λ x. width x ≤ 62) (cut-up t)
+pub few-states : {list : List ℕ} {t : Tree Leaf} → Good list t → Every-piece (λ x. width x ≤ most-states) (cut-up t)
 few-states {t = t} good = (narrow t, all-narrow t)
 
 -- nothing is refused, and in the words the root's accepting state, the last of piece 0, is marked

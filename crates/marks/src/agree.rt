@@ -5,15 +5,15 @@ ghost use mathlib.Core.Path.{_≡_};
 ghost use lib.ListN.{length, getD};
 ghost use Rattle.language.specs.Nested.{Nested};
 ghost use Rattle.tree.specs.Leaf.{Leaf};
-ghost use Rattle.tables.specs.Words.{Bit, run, Clean, Agreeing};
-ghost use Rattle.tables.specs.Plan.{Pieces, Planned};
+ghost use Rattle.tables.specs.Words.{word-bits, Bit, run, Clean, Agreeing};
+ghost use Rattle.tables.specs.Plan.{leaves-entry, Pieces, Planned};
 ghost use Rattle.marks.specs.BitsOfWords.Bits.{Tells};
 ghost use Rattle.marks.specs.SharedStates.Parents.{Parent};
 ghost use Rattle.marks.specs.SharedStates.Checked.{Pair-agrees, Child-agrees, Checkable};
 
 // Whether bit i of one word is as bit j of another.
 fn same_bit(one: u64, i: usize, other: u64, j: usize) -> bool
-    requires { ⌜ (i < 64) × (j < 64) ⌝ }
+    requires { ⌜ (i < word-bits) × (j < word-bits) ⌝ }
     ensures { λ r. ⌜ Tells (Bit one i ↔ Bit other j) r ⌝ }
 {
     (one >> i) % 2 == (other >> j) % 2
@@ -21,7 +21,7 @@ fn same_bit(one: u64, i: usize, other: u64, j: usize) -> bool
 
 // Whether no bit past the one numbered `top` is set.
 fn none_past(word: u64, top: usize) -> bool
-    requires { ⌜ top < 63 ⌝ }
+    requires { ⌜ top < leaves-entry ⌝ }
     ensures { λ r. ⌜ Tells (word < 2 ^ (top + 1)) r ⌝ }
 {
     word >> (top + 1) == 0
@@ -43,7 +43,7 @@ fn parent(runs: &[u8], child: usize) -> usize
 // the bits of their
 // stand-in, which are numbered from `stand` in the word above.
 fn pair_agrees(above: u64, stand: usize, word: u64, top: usize) -> bool
-    requires { ⌜ (stand < 63) × (top < 63) ⌝ }
+    requires { ⌜ (stand < leaves-entry) × (top < leaves-entry) ⌝ }
     ensures { λ r. ⌜ Tells (Pair-agrees above stand word top) r ⌝ }
 {
     if none_past(word, top) {

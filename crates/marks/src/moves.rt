@@ -3,14 +3,16 @@
 use crate::bits::lowest;
 use crate::bits::with_bit;
 use crate::close::close;
+use tables::LEAVES_ENTRY;
 use tables::ROW_SIZE;
 ghost use mathlib.Core.Path.{_≡_};
 ghost use Prim.Native.Nat.{ℕ, _+_, _*_, _^_, _≤_, _<_};
 ghost use lib.ListN.{length};
 ghost use Rattle.language.specs.Nested.{Nested};
+ghost use Rattle.tree.specs.Limits.{most-states};
 ghost use Rattle.tree.specs.Leaf.{Leaf};
 ghost use Rattle.tables.specs.Words.{width};
-ghost use Rattle.tables.specs.Plan.{row, takes, Moves};
+ghost use Rattle.tables.specs.Plan.{row-size, row, takes, Moves};
 ghost use Rattle.tables.specs.Tables.{Noted};
 ghost use Rattle.marks.specs.Moving.WordsMovedClosed.{Word-after, Moved-closed};
 
@@ -18,14 +20,14 @@ ghost use Rattle.marks.specs.Moving.WordsMovedClosed.{Word-after, Moved-
 // state. Only leaves are
 // looked at.
 pub fn moved(reach: &[u64], codes: &[u16], piece: usize, word: u64, byte: u8) -> u64
-    requires { ⌜ (64 * piece + 64 ≤ length (now reach)) × (64 * piece + 64 ≤ length (now codes))
+    requires { ⌜ (row-size * piece + row-size ≤ length (now reach)) × (row-size * piece + row-size ≤ length (now codes))
         × Noted (now reach) (now codes) piece ⌝ }
-    ensures { λ r. ⌜ ((x : Nested Leaf) → width x ≤ 62 → row (now (codes .entry)) piece (width x) ≡ takes x
+    ensures { λ r. ⌜ ((x : Nested Leaf) → width x ≤ most-states → row (now (codes .entry)) piece (width x) ≡ takes x
         → word < 2 ^ width x → Moves x byte word r) ⌝ }
 {
     let base = ROW_SIZE * piece;
     let code = byte as u16 + 1;
-    let mut rest = word & reach[base + 63];
+    let mut rest = word & reach[base + LEAVES_ENTRY];
     let mut picked: u64 = 0;
     while rest != 0 {
         let state = lowest(rest);
@@ -40,7 +42,7 @@ pub fn moved(reach: &[u64], codes: &[u16], piece: usize, word: u64, byte: u8) ->
 // The word of a piece after the byte: moved, and closed in the piece. A word of no marks stays one, and its tables are
 // not looked at.
 fn word_after(reach: &[u64], codes: &[u16], piece: usize, word: u64, byte: u8) -> u64
-    requires { ⌜ (64 * piece + 64 ≤ length (now reach)) × (64 * piece + 64 ≤ length (now codes))
+    requires { ⌜ (row-size * piece + row-size ≤ length (now reach)) × (row-size * piece + row-size ≤ length (now codes))
         × Noted (now reach) (now codes) piece ⌝ }
     ensures { λ r. ⌜ Word-after (now (reach .entry)) (now (codes .entry)) piece word byte r ⌝ }
 {
@@ -53,7 +55,7 @@ fn word_after(reach: &[u64], codes: &[u16], piece: usize, word: u64, byte: u8) -
 
 // Moves the words of all pieces along the byte, and closes each piece in itself.
 pub fn move_all(reach: &[u64], codes: &[u16], words: &mut [u64], byte: u8, pieces: usize)
-    requires { ⌜ (64 * pieces ≤ length (now reach)) × (64 * pieces ≤ length (now codes))
+    requires { ⌜ (row-size * pieces ≤ length (now reach)) × (row-size * pieces ≤ length (now codes))
         × (pieces ≤ length (now words)) ⌝ }
     requires { ⌜ ((k : ℕ) → k < pieces → Noted (now reach) (now codes) k) ⌝ }
     ensures { λ _. ⌜ Moved-closed (now (reach .entry)) (now (codes .entry)) (now (words .entry)) (now (words .exit))

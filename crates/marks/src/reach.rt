@@ -8,6 +8,8 @@ use crate::bits::with_bit;
 use tables::ROW_SIZE;
 ghost use Prim.Native.Nat.{ℕ, _+_, _*_, _≤_, _<_};
 ghost use lib.ListN.{length, getD};
+ghost use Rattle.tables.specs.Plan.{row-size};
+ghost use Rattle.tables.specs.Words.{word-bits};
 ghost use Rattle.marks.specs.ClosingTable.Rows.{Rows};
 ghost use Rattle.marks.specs.ClosingTable.Ahead.{Joined-ahead};
 ghost use Rattle.marks.specs.ClosingTable.Reaching.{Let-in};
@@ -16,7 +18,7 @@ ghost use Rattle.marks.specs.ClosingTable.Table.{Closed-all};
 
 // The row of a state: its word and its own bit, and the rows of the states ahead that its transitions lead to.
 fn join_ahead(reach: &[u64], base: usize, state: usize) -> u64
-    requires { ⌜ (base + 64 ≤ length (now reach)) × (state < 64) ⌝ }
+    requires { ⌜ (base + row-size ≤ length (now reach)) × (state < word-bits) ⌝ }
     ensures { λ r. ⌜ Joined-ahead (now (reach .entry)) base state 0 r ⌝ }
 {
     let at = base + state;
@@ -33,7 +35,7 @@ fn join_ahead(reach: &[u64], base: usize, state: usize) -> u64
 
 // Lets the state `via` in between: where a row after its own has its bit, its row is joined to that row.
 fn let_in(reach: &mut [u64], base: usize, states: usize, via: usize)
-    requires { ⌜ (base + states ≤ length (now reach)) × (states ≤ 64) × (via < states) ⌝ }
+    requires { ⌜ (base + states ≤ length (now reach)) × (states ≤ row-size) × (via < states) ⌝ }
     ensures { λ _.
         ⌜ Rows (Let-in (now (reach .entry)) base via) (now (reach .entry)) (now (reach .exit)) base states ⌝ }
 {
@@ -51,7 +53,7 @@ fn let_in(reach: &mut [u64], base: usize, states: usize, via: usize)
 
 // From the transitions of one piece to what they reach. Other entries of the table stay.
 fn close_rows(reach: &mut [u64], piece: usize, states: usize)
-    requires { ⌜ (64 * piece + 64 ≤ length (now reach)) × (states ≤ 64) ⌝ }
+    requires { ⌜ (row-size * piece + row-size ≤ length (now reach)) × (states ≤ row-size) ⌝ }
     ensures { λ _. ⌜ Closed-rows (now (reach .entry)) (now (reach .exit)) piece states ⌝ }
 {
     let base = ROW_SIZE * piece;
@@ -72,8 +74,8 @@ fn close_rows(reach: &mut [u64], piece: usize, states: usize)
 
 // From the transitions of every piece to what they reach.
 pub fn close_all(reach: &mut [u64], tops: &[u8], pieces: usize)
-    requires { ⌜ (64 * pieces ≤ length (now reach)) × (pieces ≤ length (now tops))
-        × ((k : ℕ) → k < pieces → getD (now tops) k 0 < 64) ⌝ }
+    requires { ⌜ (row-size * pieces ≤ length (now reach)) × (pieces ≤ length (now tops))
+        × ((k : ℕ) → k < pieces → getD (now tops) k 0 < word-bits) ⌝ }
     ensures { λ _. ⌜ Closed-all (now (tops .entry)) (now (reach .entry)) (now (reach .exit)) pieces ⌝ }
 {
     let mut piece = 0;

@@ -8,8 +8,10 @@ ghost use Prim.Native.Nat.{ℕ, _+_, _*_, _≤_, _<_};
 ghost use lib.ListN.{length};
 ghost use Rattle.language.specs.Nested.{Nested};
 ghost use Rattle.language.specs.Settled.{Settled};
+ghost use Rattle.tree.specs.Limits.{most-pieces};
 ghost use Rattle.tree.specs.Leaf.{Leaf, meaning};
-ghost use Rattle.tables.specs.Words.{Bit, Holds};
+ghost use Rattle.tables.specs.Plan.{row-size};
+ghost use Rattle.tables.specs.Words.{word-bits, Bit, Holds};
 ghost use Rattle.marks.specs.BitsOfWords.Bits.{Tells};
 ghost use Rattle.marks.specs.Sweep.Swept.{passed, Sweep-ready, Sweepable, Swept, At-rest, Missed, Apart};
 ghost use Rattle.marks.specs.ClosingPieces.ClosedFromState.{Closes-from};
@@ -17,7 +19,7 @@ ghost use Rattle.marks.specs.Sweep.Twice.{Closable, Closed-twice};
 
 // The word with bit `to` set where bit `from` of the other is.
 fn pass(other: u64, from: usize, word: u64, to: usize) -> u64
-    requires { ⌜ (from < 64) × (to < 64) ⌝ }
+    requires { ⌜ (from < word-bits) × (to < word-bits) ⌝ }
     ensures { λ r. ⌜ r ≡ passed other from word to ⌝ }
 {
     word | (((other >> from) & 1) << to)
@@ -26,7 +28,7 @@ fn pass(other: u64, from: usize, word: u64, to: usize) -> u64
 // The word of a piece, closed: it was closed but for what one state reaches, so the row of that state is all there is
 // to join.
 fn close_from(reach: &[u64], piece: usize, word: u64, state: usize) -> u64
-    requires { ⌜ (64 * piece + 64 ≤ length (now reach)) × (state < 64) ⌝ }
+    requires { ⌜ (row-size * piece + row-size ≤ length (now reach)) × (state < word-bits) ⌝ }
     ensures { λ r. ⌜ Closes-from (now (reach .entry)) piece word state r ⌝ }
 {
     if has_bit(word, state) {
@@ -38,7 +40,7 @@ fn close_from(reach: &[u64], piece: usize, word: u64, state: usize) -> u64
 
 // The word with bit i set where that of the other is not.
 fn missed(other: u64, i: usize, word: u64) -> u64
-    requires { ⌜ i < 64 ⌝ }
+    requires { ⌜ i < word-bits ⌝ }
     ensures { λ r. ⌜ Missed other i word r ⌝ }
 {
     if has_bit(other, i) {
@@ -67,7 +69,7 @@ fn at_rest(
     from: usize,
     to: usize,
 ) -> bool
-    requires { ⌜ (stand < 64) × (child < 128) ⌝ }
+    requires { ⌜ (stand < word-bits) × (child < most-pieces) ⌝ }
     ensures { λ r. ⌜ (r ≡ true → At-rest word stand first child end from to) ⌝ }
 {
     if has_bit(word, stand) {

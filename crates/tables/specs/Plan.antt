@@ -10,11 +10,11 @@ use lib.ListN.{getD, take, drop}
 use Rattle.language.specs.Automaton.{State, Path-of}
 use Rattle.language.specs.Nested.{Nested, leaf, catenation, union, star, below, Own-empty, Own-reads}
 use Rattle.tree.specs.Leaf.{Leaf, character, has-empty, meaning}
-use Rattle.tables.specs.Words.{Bit, width, run, Own, number}
+use Rattle.tables.specs.Words.{word-bits, Bit, width, run, Own, number}
 
 -- how many entries a piece has in a table: one for each bit of a word, of which those of its states come first
 abbrev pub row-size : ℕ
-row-size = 64
+row-size = word-bits
 
 -- the entry of a piece's row that is no state's: its word has the bits of the states with a code
 abbrev pub leaves-entry : ℕ

@@ -8,6 +8,10 @@ use Rattle.language.specs.Nested.{Nested, leaf, catenation, union, star, below,
 -- how long the run of words below the top piece's word is: one word for each piece
 pub use Rattle.tree.specs.Parts.{pieces-below as run}
 
+-- how many bits a word has
+abbrev pub word-bits : ℕ
+word-bits = 64
+
 -- bit i of w, counted from the low end, is set
 abbrev pub Bit : ℕ → ℕ → Type 0
 Bit w i = w / 2 ^ i % 2 ≡ 1

@@ -14,14 +14,15 @@ ghost use Prim.Native.Nat.{_+_, _*_, _-_, _<_, _≤_, _^_};
 ghost use lib.ListN.{length, set};
 ghost use Rattle.tree.specs.Limits.{most-pieces, most-records, most-states};
 ghost use Rattle.tree.specs.Layout.{character-at};
-ghost use Rattle.tables.specs.Plan.{row-size};
+ghost use Rattle.tables.specs.Words.{word-bits};
+ghost use Rattle.tables.specs.Plan.{leaves-entry, row-size};
 ghost use Rattle.tables.specs.Entries.{thrice};
 ghost use Rattle.tables.specs.Filling.{start-word, left-exit, right-exit, tables, Tables-room, stand-entries};
 ghost use Rattle.tables.specs.Walking.{Piece-bounds, Wide, Visited, Visitable};
 
 // The word with bit i alone.
 fn bit(i: usize) -> u64
-    requires { ⌜ i < 64 ⌝ }
+    requires { ⌜ i < word-bits ⌝ }
     ensures { λ r. ⌜ r ≡ 2 ^ i ⌝ }
 {
     1 << i
@@ -29,7 +30,7 @@ fn bit(i: usize) -> u64
 
 // The word with the bits i and j, which differ.
 fn two_bits(i: usize, j: usize) -> u64
-    requires { ⌜ (i < 63) × (j < 63) ⌝ }
+    requires { ⌜ (i < leaves-entry) × (j < leaves-entry) ⌝ }
     ensures { λ r. ⌜ r ≡ 2 ^ i + 2 ^ j ⌝ }
 {
     bit(i) + bit(j)
@@ -37,7 +38,7 @@ fn two_bits(i: usize, j: usize) -> u64
 
 // The word of a node's start, by its kind.
 fn start_word(kind: u8, at: usize, middle: usize) -> u64
-    requires { ⌜ (at < most-states) × (middle < 63) ⌝ }
+    requires { ⌜ (at < most-states) × (middle < leaves-entry) ⌝ }
     ensures { λ r. ⌜ r ≡ start-word kind at middle ⌝ }
 {
     if kind == CATENATION {
@@ -49,7 +50,7 @@ fn start_word(kind: u8, at: usize, middle: usize) -> u64
 
 // The word of its right or only child's accepting state.
 fn right_exit(kind: u8, at: usize, middle: usize, last: usize) -> u64
-    requires { ⌜ (at < most-states) × (middle < 63) × (last < 63) ⌝ }
+    requires { ⌜ (at < most-states) × (middle < leaves-entry) × (last < leaves-entry) ⌝ }
     ensures { λ r. ⌜ r ≡ right-exit kind at middle last ⌝ }
 {
     if kind == STAR {
@@ -61,7 +62,7 @@ fn right_exit(kind: u8, at: usize, middle: usize, last: usize) -> u64
 
 // The word of its left or only child's accepting state.
 fn left_exit(kind: u8, at: usize, middle: usize, last: usize) -> u64
-    requires { ⌜ (at < most-states) × (middle < 63) × (last < 63) ⌝ }
+    requires { ⌜ (at < most-states) × (middle < leaves-entry) × (last < leaves-entry) ⌝ }
     ensures { λ r. ⌜ r ≡ left-exit kind at middle last ⌝ }
 {
     if kind == CATENATION {

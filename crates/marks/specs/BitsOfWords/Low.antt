@@ -7,6 +7,7 @@ use native.Mathlib.Decide.{ℕ-discrete, decLt}
 use native.Mathlib.Omega.{arith}
 use lib.ListN.{length, getD}
 use Rattle.language.specs.Nested.{Nested, leaf, catenation, union, star, below}
+use Rattle.tree.specs.Limits.{most-states}
 use Rattle.tree.specs.Leaf.{Leaf}
 use Rattle.tables.specs.Words.{width, run}
 use Rattle.tables.specs.Plan.{Pieces, Children-at, Planned}
@@ -17,12 +18,12 @@ use Rattle.marks.specs.SharedStates.Checked.{Checkable}
 module _ (tables : Pieces) where
   -- the numbers of the child piece c are low
   pub record Low (c : ℕ) : Type 0 where
-    pub stand : getD (tables .stands) c 0 < 62
-    pub top : getD (tables .tops) c 0 < 62
+    pub stand : getD (tables .stands) c 0 < most-states
+    pub top : getD (tables .tops) c 0 < most-states
 
   -- those of each child piece below x, a part of a piece of at most 62 states
-  low-below : (x : Nested Leaf) (i new : ℕ) → Children-at tables x i new → i + width x ≤ 62 → Narrow-below x → (c : ℕ)
-      → new ≤ c → c < new + run x → Low c
+  low-below : (x : Nested Leaf) (i new : ℕ) → Children-at tables x i new → i + width x ≤ most-states → Narrow-below x
+      → (c : ℕ) → new ≤ c → c < new + run x → Low c
   low-below (leaf a) i new at narrow low c h l = absurd (omega arith)
   low-below (catenation x y) i new at narrow low c h l = elim (decLt c (new + run x)) [
     | yes s ↦ low-below x (i + 1) new (at .0) (omega arith) (low .0) c h s
@@ -42,14 +43,14 @@ module _ (tables : Pieces) where
     | no s ↦ low-below x 0 (new + 1) (at .2) (omega (arith, low .0)) (low .1) c (omega arith) (omega arith)
   ]
 
-  module _ (x : Nested Leaf) (n : ℕ) (planned : Planned tables x) (size : 1 + run x ≡ n) (narrow : width x ≤ 62)
-      (narrow-below : Narrow-below x) where
+  module _ (x : Nested Leaf) (n : ℕ) (planned : Planned tables x) (size : 1 + run x ≡ n)
+      (narrow : width x ≤ most-states) (narrow-below : Narrow-below x) where
     -- those of each child piece
     pub low-children : (c : ℕ) → 0 < c → c < n → Low c
     low-children c h l = low-below x 0 1 (planned .1) (omega arith) narrow-below c h (omega arith)
 
     -- the numbers of all last states
-    pub low-tops : (c : ℕ) → c < n → getD (tables .tops) c 0 < 62
+    pub low-tops : (c : ℕ) → c < n → getD (tables .tops) c 0 < most-states
     low-tops zero l = omega (arith, planned .0 .topped, width-two x)
     low-tops (suc c) l = low-children (suc c) (omega arith) l .top
 

@@ -7,9 +7,10 @@ use lib.Bits.{bitOr}
 use lib.ListN.{getD}
 use Rattle.language.specs.Automaton.{State, Path-of, here}
 use Rattle.language.specs.Nested.{Nested, Own-empty}
+use Rattle.tree.specs.Limits.{most-states}
 use Rattle.tree.specs.Leaf.{Leaf, meaning}
 use Rattle.tables.specs.Words.{Bit, width, Own, number}
-use Rattle.tables.specs.Plan.{row, Reaches, Closes}
+use Rattle.tables.specs.Plan.{row-size, row, Reaches, Closes}
 use Rattle.marks.specs.BitsOfWords.Bits.{bit-or, bit-below, below-of-bits}
 use Rattle.marks.specs.ClosingTable.Rows.{row-at}
 use Rattle.marks.specs.BitsOfWords.Numbers.{number-below, number-onto, number-injective}
@@ -18,8 +19,8 @@ use Rattle.marks.specs.Sweep.Passing.{bit-passed}
 
 -- r closes the word, for every tree in which it is closed but for what its state of that number reaches
 pub record Closes-from (reach : List ℕ) (piece word state r : ℕ) : Type 0 where
-  pub closes : (x : Nested Leaf) (s : State) → width x ≤ 62 → Reaches x (row reach piece (width x)) → word < 2 ^ width x
-      → Own x s → number x s ≡ state → Nearly-closed x s word → Closes x word r
+  pub closes : (x : Nested Leaf) (s : State) → width x ≤ most-states → Reaches x (row reach piece (width x))
+      → word < 2 ^ width x → Own x s → number x s ≡ state → Nearly-closed x s word → Closes x word r
 
 module _ {x : Nested Leaf} {s : State} {word : ℕ} (small : word < 2 ^ width x) (nearly : Nearly-closed x s word) where
   -- where the state is not marked, the word is closed
@@ -34,7 +35,7 @@ module _ {x : Nested Leaf} {s : State} {word : ℕ} (small : word < 2 ^ width x)
 
   -- where it is marked, its row is joined to it
   row-closes : (reach : List ℕ) (k : ℕ) → Reaches x (row reach k (width x)) → Own x s → Bit word (number x s)
-      → Closes x word (bitOr word (getD reach (64 * k + number x s) 0))
+      → Closes x word (bitOr word (getD reach (row-size * k + number x s) 0))
   row-closes reach k reaches own-s marked = record {
     exactly = λ q o. (
       λ b. ⊎-elim (λ c. (q, o, c, here))
@@ -44,19 +45,19 @@ module _ {x : Nested Leaf} {s : State} {word : ℕ} (small : word < 2 ^ width x)
             marked,
             reaches .exactly s q own-s o .0 (subst (λ (v : ℕ). Bit v (number x q)) (sym entry) c),
           ))
-          (bit-or word (getD reach (64 * k + number x s) 0) (number x q) .0 b),
-      λ (p, o', b, way). bit-or word (getD reach (64 * k + number x s) 0) (number x q) .1 (⊎-elim inl
+          (bit-or word (getD reach (row-size * k + number x s) 0) (number x q) .0 b),
+      λ (p, o', b, way). bit-or word (getD reach (row-size * k + number x s) 0) (number x q) .1 (⊎-elim inl
           (λ c. inr (subst (λ (v : ℕ). Bit v (number x q)) entry (reaches .exactly s q own-s o .1 (c .1))))
           (nearly .reached p q o' o b way)),
     );
-    clean = below-of-bits (width x) (bitOr word (getD reach (64 * k + number x s) 0)) (λ j b. ⊎-elim
+    clean = below-of-bits (width x) (bitOr word (getD reach (row-size * k + number x s) 0)) (λ j b. ⊎-elim
         (λ c. bit-below small c)
         (λ c. bit-below
         (subst (λ (v : ℕ). v < 2 ^ width x) entry (reaches .clean (number x s) (number-below x s own-s))) c)
-        (bit-or word (getD reach (64 * k + number x s) 0) j .0 b));
+        (bit-or word (getD reach (row-size * k + number x s) 0) j .0 b));
   }
     where
-      entry : getD (row reach k (width x)) (number x s) 0 ≡ getD reach (64 * k + number x s) 0
+      entry : getD (row reach k (width x)) (number x s) 0 ≡ getD reach (row-size * k + number x s) 0
       entry = row-at reach k (width x) (number x s) (number-below x s own-s)
 
 -- the two cases, for the state of a number
@@ -66,10 +67,10 @@ closes-unmarked reach k word state none = record {
 }
 
 pub closes-marked : (reach : List ℕ) (k word state : ℕ) → Bit word state
-    → Closes-from reach k word state (bitOr word (getD reach (64 * k + state) 0))
+    → Closes-from reach k word state (bitOr word (getD reach (row-size * k + state) 0))
 closes-marked reach k word state marked = record {
   closes = λ x s narrow reaches small own-s at nearly.
-      subst (λ (i : ℕ). Closes x word (bitOr word (getD reach (64 * k + i) 0))) at
+      subst (λ (i : ℕ). Closes x word (bitOr word (getD reach (row-size * k + i) 0))) at
       (row-closes small nearly reach k reaches own-s (subst (Bit word) (sym at) marked));
 }
 

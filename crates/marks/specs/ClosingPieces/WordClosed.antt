@@ -9,7 +9,7 @@ use Rattle.language.specs.Nested.{Nested}
 use Rattle.language.specs.Simulation.{then}
 use Rattle.tree.specs.Leaf.{Leaf}
 use Rattle.tables.specs.Words.{Bit, width, number}
-use Rattle.tables.specs.Plan.{row, Reaches, Closes}
+use Rattle.tables.specs.Plan.{row-size, row, Reaches, Closes}
 use Rattle.marks.specs.BitsOfWords.Bits.{bit-zero, bit-below, below-of-bits}
 use Rattle.marks.specs.ClosingTable.Rows.{row-at}
 use Rattle.marks.specs.ClosingTable.Joining.{Rows-joined}
@@ -18,7 +18,7 @@ use Rattle.marks.specs.BitsOfWords.Numbers.{number-below, number-onto}
 -- joining the rows of the states in w closes it: a path from one of them is a bit of its row
 pub closed-by-joining : (reach : List ℕ) (piece w rest r : ℕ) (x : Nested Leaf) → Reaches x (row reach piece (width x))
     → w < 2 ^ width x
-    → rest ≡ 0 → Rows-joined reach (64 * piece) w rest r → Closes x w r
+    → rest ≡ 0 → Rows-joined reach (row-size * piece) w rest r → Closes x w r
 closed-by-joining reach piece w rest r x reaches small nothing joined = record {
   exactly = λ q o. (
     λ b. let (i, c, _, at) = joined .exactly (number x q) .0 b in

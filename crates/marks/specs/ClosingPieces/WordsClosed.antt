@@ -14,6 +14,7 @@ use Rattle.language.specs.Nested.{Nested, leaf, catenation, union, star, below,
 use Rattle.language.specs.Simulation.{along}
 use Rattle.language.specs.Settled.{Settled, settled-own}
 use Rattle.language.specs.Same.{More-in}
+use Rattle.tree.specs.Limits.{most-states}
 use Rattle.tree.specs.Leaf.{Leaf, meaning}
 use Rattle.tables.specs.Words.{Bit, width, run, Own, number, Marked, Holds, Clean-below, Clean}
 use Rattle.tables.specs.Plan.{row, Reaches, Each-below, Each, Closes}
@@ -29,7 +30,7 @@ use Rattle.marks.specs.Moving.WordsMoved.{first-left}
 -- each of the first n words is closed in itself, by the table's row of its piece; the others are as before
 pub record Closed-words (reach before after : List ℕ) (n : ℕ) : Type 0 where
   pub same-length : length after ≡ length before
-  pub words : (k : ℕ) → k < n → (x : Nested Leaf) → width x ≤ 62 → Reaches x (row reach k (width x))
+  pub words : (k : ℕ) → k < n → (x : Nested Leaf) → width x ≤ most-states → Reaches x (row reach k (width x))
       → getD before k 0 < 2 ^ width x
       → Closes x (getD before k 0) (getD after k 0)
   pub others : (k : ℕ) → n ≤ k → getD after k 0 ≡ getD before k 0
@@ -40,7 +41,7 @@ closed-none reach words = record { same-length = refl; words = λ k h. absurd (o
 
 -- one more, whose word is v before its closing
 pub closed-more : {reach before after : List ℕ} {n v w : ℕ} → n < length before → Closed-words reach before after n
-    → ((x : Nested Leaf) → width x ≤ 62 → Reaches x (row reach n (width x)) → v < 2 ^ width x → Closes x v w)
+    → ((x : Nested Leaf) → width x ≤ most-states → Reaches x (row reach n (width x)) → v < 2 ^ width x → Closes x v w)
     → Closed-words reach (set before n v) (set after n w) (n + 1)
 closed-more {reach} {before} {after} {n} {v} {w} inside so-far closes = record {
   same-length = simp length-set (so-far .same-length);
@@ -56,7 +57,8 @@ closed-more {reach} {before} {after} {n} {v} {w} inside so-far closes = record {
 }
   where
     At : ℕ → ℕ → ℕ → Type 0
-    At k a c = (x : Nested Leaf) → width x ≤ 62 → Reaches x (row reach k (width x)) → a < 2 ^ width x → Closes x a c
+    At k a c = (x : Nested Leaf) → width x ≤ most-states → Reaches x (row reach k (width x)) → a < 2 ^ width x
+        → Closes x a c
 
 -- the word w of a piece x has no bit past the last state, and r is w closed
 record Piece-closed (x : Nested Leaf) (w r : ℕ) : Type 0 where
@@ -171,7 +173,7 @@ each-closed-clean x words closed = (closed .0 .clean, clean-closed x (drop 1 wor
 
 module _ {reach before after : List ℕ} {n : ℕ} (closed : Closed-words reach before after n) where
   -- the word of piece k is closed
-  piece-closed : (x : Nested Leaf) (k : ℕ) → k < n → Reaches x (row reach k (width x)) → width x ≤ 62
+  piece-closed : (x : Nested Leaf) (k : ℕ) → k < n → Reaches x (row reach k (width x)) → width x ≤ most-states
       → getD (drop k before) 0 0 < 2 ^ width x
       → Piece-closed x (getD (drop k before) 0 0) (getD (drop k after) 0 0)
   piece-closed x k h reaches narrow small = record {
@@ -207,7 +209,7 @@ module _ {reach before after : List ℕ} {n : ℕ} (closed : Closed-words reach 
         (subst (Clean-below x) (drop-drop 1 new before) (clean .1))),
   )
 
-  module _ (x : Nested Leaf) (reached : Each Reaches reach x) (room : 1 + run x ≤ n) (narrow : width x ≤ 62)
+  module _ (x : Nested Leaf) (reached : Each Reaches reach x) (room : 1 + run x ≤ n) (narrow : width x ≤ most-states)
       (narrow-below : Narrow-below x) (clean : Clean x before) where
     top : Piece-closed x (getD before 0 0) (getD after 0 0)
     top = record { small = clean .0; closes = closed .words 0 (omega arith) x narrow (reached .0) (clean .0) }

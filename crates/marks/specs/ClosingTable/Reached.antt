@@ -12,7 +12,7 @@ use Rattle.language.specs.Automaton.{State, Path-of, here, step}
 use Rattle.language.specs.Nested.{Nested, Own-empty}
 use Rattle.tree.specs.Leaf.{Leaf, meaning}
 use Rattle.tables.specs.Words.{Bit, width, Own, number}
-use Rattle.tables.specs.Plan.{row, nexts, Nexts, Reaches}
+use Rattle.tables.specs.Plan.{row-size, row, nexts, Nexts, Reaches}
 use Rattle.marks.specs.BitsOfWords.Bits.{bit-or, below-of-bits}
 use Rattle.marks.specs.BitsOfWords.Numbers.{number-below, number-onto, number-injective}
 use Rattle.marks.specs.ClosingTable.Transitions.{transition-own, nexts-bits}
@@ -61,7 +61,7 @@ module _ (x : Nested Leaf) where
 
   -- a state's word has the bits of what is direct, but for its own
   direct-bits : (before : List ℕ) (piece : ℕ) → Nexts x (row before piece (width x)) → (i : ℕ) → i < width x
-      → (j : ℕ) → Direct i j ↔ (Bit (getD before (64 * piece + i) 0) j ⊎ (j ≡ i))
+      → (j : ℕ) → Direct i j ↔ (Bit (getD before (row-size * piece + i) 0) j ⊎ (j ≡ i))
   unfolding Direct
   direct-bits before piece given i h j = (
     ⊎-elim (λ e. inr (sym e)) (λ t. inl (subst (λ (v : ℕ). Bit v j) (word (t .0) (t .2))
@@ -71,12 +71,12 @@ module _ (x : Nested Leaf) where
         inr (s .0, t .0, s .2, t .2, t .3)) (λ e. inl (sym e)),
   )
     where
-      word : (p : State) → number x p ≡ i → getD (nexts x 0 0) (number x p) 0 ≡ getD before (64 * piece + i) 0
+      word : (p : State) → number x p ≡ i → getD (nexts x 0 0) (number x p) 0 ≡ getD before (row-size * piece + i) 0
       word p e = ap (λ (k : ℕ). getD (nexts x 0 0) k 0) e ∙ ap (λ (l : List ℕ). getD l i 0) (sym given)
           ∙ row-at before piece (width x) i h
 
   -- at last every path is a bit
-  reaches : (table : List ℕ) (piece : ℕ) → Partly Direct Reached (width x) table (64 * piece) 0 0
+  reaches : (table : List ℕ) (piece : ℕ) → Partly Direct Reached (width x) table (row-size * piece) 0 0
       → Reaches x (row table piece (width x))
   unfolding Direct Reached
   reaches table piece partly = record {
@@ -93,11 +93,11 @@ module _ (x : Nested Leaf) where
   }
     where
       at : (p : State) → Own x p → getD (row table piece (width x)) (number x p) 0
-          ≡ getD table (64 * piece + number x p) 0
+          ≡ getD table (row-size * piece + number x p) 0
       at p o = row-at table piece (width x) (number x p) (number-below x p o)
 
       path-bit : {p q : State} → Path-of (Own-empty meaning x) p q → Own x p
-          → Bit (getD table (64 * piece + number x p) 0) (number x q)
+          → Bit (getD table (row-size * piece + number x p) 0) (number x q)
       path-bit (here {p = p}) o = partly .direct (number x p) (number x p) (omega arith) (number-below x p o) (inl refl)
       path-bit (step {p = p} {q = q} {r = r} e t) o =
           let o′ = transition-own x e .1 in
@@ -112,16 +112,16 @@ module _ (x : Nested Leaf) where
 pub record Closing-rows (before after : List ℕ) (piece n k seen : ℕ) : Type 0 where
   pub same-length : length after ≡ length before
   pub partly : (x : Nested Leaf) → width x ≡ n → Nexts x (row before piece n)
-      → Partly (Direct x) (Reached x) n after (64 * piece) k k
-  pub all-seen : (i j : ℕ) → k ≤ i → i < n → Bit (getD after (64 * piece + i) 0) j → Bit seen j
-  pub others : (e : ℕ) → (e < 64 * piece + k) ⊎ (64 * piece + n ≤ e) → getD after e 0 ≡ getD before e 0
+      → Partly (Direct x) (Reached x) n after (row-size * piece) k k
+  pub all-seen : (i j : ℕ) → k ≤ i → i < n → Bit (getD after (row-size * piece + i) 0) j → Bit seen j
+  pub others : (e : ℕ) → (e < row-size * piece + k) ⊎ (row-size * piece + n ≤ e) → getD after e 0 ≡ getD before e 0
 
 -- the rows of the piece hold what its transitions reach, for every tree whose transitions they held before; the other
 -- entries are as before
 pub record Closed-rows (before after : List ℕ) (piece n : ℕ) : Type 0 where
   pub same-length : length after ≡ length before
   pub reached : (x : Nested Leaf) → width x ≡ n → Nexts x (row before piece n) → Reaches x (row after piece n)
-  pub others : (e : ℕ) → (e < 64 * piece) ⊎ (64 * piece + n ≤ e) → getD after e 0 ≡ getD before e 0
+  pub others : (e : ℕ) → (e < row-size * piece) ⊎ (row-size * piece + n ≤ e) → getD after e 0 ≡ getD before e 0
 
 -- at first no row is made
 pub closing-begun : (before : List ℕ) (piece n : ℕ) → Closing-rows before before piece n n 0
@@ -142,60 +142,63 @@ pub closing-at : {before after : List ℕ} {piece n k m seen : ℕ} → k ≡ m 
 closing-at {before} {after} {piece} {n} {seen = seen} e so-far =
     subst (λ (k : ℕ). Closing-rows before after piece n k seen) e so-far
 
-module _ {before after : List ℕ} {piece n k seen w : ℕ} (h : k < n) (room : 64 * piece + k < length after)
-    (so-far : Closing-rows before after piece n (k + 1) seen) (joined : Joined-ahead after (64 * piece) k 0 w) where
+module _ {before after : List ℕ} {piece n k seen w : ℕ} (h : k < n) (room : row-size * piece + k < length after)
+    (so-far : Closing-rows before after piece n (k + 1) seen)
+    (joined : Joined-ahead after (row-size * piece) k 0 w) where
   -- the table with the row of k stored
   abbrev stored : List ℕ
-  stored = set after (64 * piece + k) w
+  stored = set after (row-size * piece + k) w
 
   -- its row of k
-  made : getD stored (64 * piece + k) 0 ≡ w
-  made = getD-set-same after (64 * piece + k) w 0 room
+  made : getD stored (row-size * piece + k) 0 ≡ w
+  made = getD-set-same after (row-size * piece + k) w 0 room
 
   -- its other entries
-  not-made : (e : ℕ) → (e ≡ 64 * piece + k → ⊥) → getD stored e 0 ≡ getD after e 0
-  not-made e l = getD-set-other after (64 * piece + k) e w 0 (omega arith)
+  not-made : (e : ℕ) → (e ≡ row-size * piece + k → ⊥) → getD stored e 0 ≡ getD after e 0
+  not-made e l = getD-set-other after (row-size * piece + k) e w 0 (omega arith)
 
   -- its rows have only bits that were seen, and those of the row of k
-  seen-stored : (i j : ℕ) → k ≤ i → i < n → Bit (getD stored (64 * piece + i) 0) j → Bit seen j ⊎ Bit w j
+  seen-stored : (i j : ℕ) → k ≤ i → i < n → Bit (getD stored (row-size * piece + i) 0) j → Bit seen j ⊎ Bit w j
   seen-stored i j f l b = elim (ℕ-discrete i k) [
-    | yes e ↦ inr (subst (λ (v : ℕ). Bit v j) made (subst (λ (v : ℕ). Bit (getD stored (64 * piece + v) 0) j) e b))
+    | yes e ↦ inr (subst (λ (v : ℕ). Bit v j) made
+        (subst (λ (v : ℕ). Bit (getD stored (row-size * piece + v) 0) j) e b))
     | no e ↦ inl
-        (so-far .all-seen i j (omega arith) l (subst (λ (v : ℕ). Bit v j) (not-made (64 * piece + i) (omega arith)) b))
+        (so-far .all-seen i j (omega arith) l
+        (subst (λ (v : ℕ). Bit v j) (not-made (row-size * piece + i) (omega arith)) b))
   ]
 
   -- its row of k is made of the word of k, which is as before
   partly-stored : (x : Nested Leaf) → width x ≡ n → Nexts x (row before piece n)
-      → Partly (Direct x) (Reached x) n stored (64 * piece) k (k + 1)
+      → Partly (Direct x) (Reached x) n stored (row-size * piece) k (k + 1)
   partly-stored x e given =
-      join-row (reached-on x) h reached word joined made (λ i l. not-made (64 * piece + i) (omega arith))
+      join-row (reached-on x) h reached word joined made (λ i l. not-made (row-size * piece + i) (omega arith))
       (so-far .partly x e given)
     where
       reached : (j : ℕ) → Direct x k j → Reached x k j × (j < n)
       reached j = subst (λ (m : ℕ). Direct x k j → Reached x k j × (j < m)) e (direct-reached x k j (omega arith))
 
-      word : (j : ℕ) → Direct x k j ↔ (Bit (getD after (64 * piece + k) 0) j ⊎ (j ≡ k))
+      word : (j : ℕ) → Direct x k j ↔ (Bit (getD after (row-size * piece + k) 0) j ⊎ (j ≡ k))
       word j =
           subst (λ (v : ℕ). Direct x k j ↔ (Bit v j ⊎ (j ≡ k)))
-          (sym (so-far .others (64 * piece + k) (inl (omega arith))))
+          (sym (so-far .others (row-size * piece + k) (inl (omega arith))))
           (direct-bits x before piece (subst (λ (m : ℕ). Nexts x (row before piece m)) (sym e) given) k (omega arith) j)
 
   -- letting k in keeps the entries that are not of the piece's rows from k on
-  let-in-others : {next : List ℕ} → Rows (Let-in stored (64 * piece) k) stored next (64 * piece) n
-      → (e : ℕ) → (e < 64 * piece + k) ⊎ (64 * piece + n ≤ e) → getD next e 0 ≡ getD stored e 0
-  let-in-others {next} rows e l = elim (decLt e (64 * piece)) [
+  let-in-others : {next : List ℕ} → Rows (Let-in stored (row-size * piece) k) stored next (row-size * piece) n
+      → (e : ℕ) → (e < row-size * piece + k) ⊎ (row-size * piece + n ≤ e) → getD next e 0 ≡ getD stored e 0
+  let-in-others {next} rows e l = elim (decLt e (row-size * piece)) [
     | yes m ↦ rows .others e (inl m)
     | no m ↦ ⊎-elim
         (λ p. subst (λ (v : ℕ). getD next v 0 ≡ getD stored v 0) (omega arith)
-        (rows .rows (e - 64 * piece) (omega arith) .kept (inl (omega arith))))
+        (rows .rows (e - row-size * piece) (omega arith) .kept (inl (omega arith))))
         (λ p. rows .others e (inr p)) l
   ]
 
   -- one row more is made, and its state let in
-  closing-let-in : {next : List ℕ} → Rows (Let-in stored (64 * piece) k) stored next (64 * piece) n
+  closing-let-in : {next : List ℕ} → Rows (Let-in stored (row-size * piece) k) stored next (row-size * piece) n
       → Closing-rows before next piece n k (bitOr seen w)
   closing-let-in rows = record {
-    same-length = rows .same-length ∙ length-set after (64 * piece + k) w ∙ so-far .same-length;
+    same-length = rows .same-length ∙ length-set after (row-size * piece + k) w ∙ so-far .same-length;
     partly = λ x e given. let-in (reached-on x) h (partly-stored x e given) rows;
     all-seen = λ i j f l b.
         bit-or seen w j .1 (⊎-elim (seen-stored i j f l) (λ c. inr (subst (λ (v : ℕ). Bit v j) made (c .1)))
@@ -205,8 +208,8 @@ module _ {before after : List ℕ} {piece n k seen w : ℕ} (h : k < n) (room : 
   }
 
   -- so it is where the bit of k was seen
-  pub closing-on : {last next : List ℕ} → Rows (Let-in stored (64 * piece) k) stored last (64 * piece) n → next ≡ last
-      → Closing-rows before next piece n k (bitOr seen w)
+  pub closing-on : {last next : List ℕ} → Rows (Let-in stored (row-size * piece) k) stored last (row-size * piece) n
+      → next ≡ last → Closing-rows before next piece n k (bitOr seen w)
   closing-on rows t = subst (λ (l : List ℕ). Closing-rows before l piece n k (bitOr seen w)) (sym t)
       (closing-let-in rows)
 
@@ -215,10 +218,10 @@ module _ {before after : List ℕ} {piece n k seen w : ℕ} (h : k < n) (room : 
       → Closing-rows before next piece n k (bitOr seen w)
   closing-skip none t = closing-on (let-in-none no-row) t
     where
-      no-row : (i : ℕ) → k < i → i < n → Bit (getD stored (64 * piece + i) 0) k → ⊥
+      no-row : (i : ℕ) → k < i → i < n → Bit (getD stored (row-size * piece + i) 0) k → ⊥
       no-row i l m b =
           none (so-far .all-seen i k (omega arith) m
-          (subst (λ (v : ℕ). Bit v k) (not-made (64 * piece + i) (omega arith)) b))
+          (subst (λ (v : ℕ). Bit v k) (not-made (row-size * piece + i) (omega arith)) b))
 
 -- with all rows made, what is reached is held
 pub closing-ended : {before after : List ℕ} {piece n seen : ℕ} → Closing-rows before after piece n 0 seen
@@ -226,7 +229,7 @@ pub closing-ended : {before after : List ℕ} {piece n seen : ℕ} → Closing-r
 closing-ended {after = after} {piece} {n} done = record {
   same-length = done .same-length;
   reached = λ x w given. subst (λ (m : ℕ). Reaches x (row after piece m)) w
-      (reaches x after piece (subst (λ (m : ℕ). Partly (Direct x) (Reached x) m after (64 * piece) 0 0) (sym w)
+      (reaches x after piece (subst (λ (m : ℕ). Partly (Direct x) (Reached x) m after (row-size * piece) 0 0) (sym w)
       (done .partly x w given)));
   others = λ m l. done .others m (⊎-elim (λ p. inl (omega arith)) inr l);
 }

@@ -7,7 +7,7 @@ use native.Mathlib.Decide.{ℕ-discrete}
 use native.Mathlib.Omega.{arith}
 use lib.ListN.{length, getD, drop, set, length-set, length-take, length-drop}
 use lib.Seq.{getD-set-same, getD-set-other, getD-take, getD-drop, ext-getD}
-use Rattle.tables.specs.Plan.{row}
+use Rattle.tables.specs.Plan.{row-size, row}
 
 -- the n entries from base on are as Row says, each by its number, and the others are as before
 pub record Rows (Row : ℕ → ℕ → Type 0) (before after : List ℕ) (base n : ℕ) : Type 0 where
@@ -55,15 +55,16 @@ module _ {Row : ℕ → ℕ → Type 0} {before after : List ℕ} {base n : ℕ}
   rows-set-at w e l r = subst (λ (i : ℕ). Rows Row before (set after i w) base (n + 1)) (sym e) (rows-set w l r)
 
 -- an entry of the row of piece k, by its place in the table
-pub row-at : (table : List ℕ) (k n i : ℕ) → i < n → getD (row table k n) i 0 ≡ getD table (64 * k + i) 0
-row-at table k n i h = getD-take n (drop (64 * k) table) i 0 h ∙ getD-drop (64 * k) table i 0
+pub row-at : (table : List ℕ) (k n i : ℕ) → i < n → getD (row table k n) i 0 ≡ getD table (row-size * k + i) 0
+row-at table k n i h = getD-take n (drop (row-size * k) table) i 0 h ∙ getD-drop (row-size * k) table i 0
 
 -- the row of a piece is the same in two tables that have the same entries there
 pub row-same : (table table′ : List ℕ) (k n : ℕ) → length table ≡ length table′
-    → ((i : ℕ) → i < n → getD table (64 * k + i) 0 ≡ getD table′ (64 * k + i) 0) → row table k n ≡ row table′ k n
+    → ((i : ℕ) → i < n → getD table (row-size * k + i) 0 ≡ getD table′ (row-size * k + i) 0)
+    → row table k n ≡ row table′ k n
 row-same table table′ k n e h =
     ext-getD 0 (row table k n) (row table′ k n) (simp (length-take, length-drop, e))
     (λ i l. row-at table k n i (within i l) ∙ h i (within i l) ∙ sym (row-at table′ k n i (within i l)))
   where
     within : (i : ℕ) → i < length (row table k n) → i < n
-    within i l = omega (arith, length-take n (drop (64 * k) table))
+    within i l = omega (arith, length-take n (drop (row-size * k) table))

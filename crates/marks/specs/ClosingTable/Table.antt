@@ -8,8 +8,8 @@ use native.Mathlib.Omega.{arith}
 use lib.ListN.{length, getD}
 use Rattle.language.specs.Nested.{Nested, leaf, catenation, union, star, below}
 use Rattle.tree.specs.Leaf.{Leaf}
-use Rattle.tables.specs.Words.{width, run}
-use Rattle.tables.specs.Plan.{row, Nexts, Reaches, Pieces, Piece-at, Children-at, Planned, Each-below, Each}
+use Rattle.tables.specs.Words.{word-bits, width, run}
+use Rattle.tables.specs.Plan.{row-size, row, Nexts, Reaches, Pieces, Piece-at, Children-at, Planned, Each-below, Each}
 use Rattle.marks.specs.BitsOfWords.Numbers.{width-two}
 use Rattle.marks.specs.ClosingTable.Rows.{row-same}
 use Rattle.marks.specs.ClosingTable.Reached.{Closed-rows}
@@ -20,14 +20,14 @@ pub record Closing-pieces (tops before after : List ℕ) (n : ℕ) : Type 0 wher
   pub same-length : length after ≡ length before
   pub reached : (k : ℕ) → k < n → (x : Nested Leaf) → width x ≡ getD tops k 0 + 1 → Nexts x (row before k (width x))
       → Reaches x (row after k (width x))
-  pub others : (e : ℕ) → 64 * n ≤ e → getD after e 0 ≡ getD before e 0
+  pub others : (e : ℕ) → row-size * n ≤ e → getD after e 0 ≡ getD before e 0
 
 -- at first no piece is closed
 pub closing-none : (tops before : List ℕ) → Closing-pieces tops before before 0
 closing-none tops before = record { same-length = refl; reached = λ k h. absurd (omega arith); others = λ e _. refl }
 
 -- one piece more
-pub closing-more : {tops before after next : List ℕ} {n : ℕ} → ((k : ℕ) → k < n + 1 → getD tops k 0 < 64)
+pub closing-more : {tops before after next : List ℕ} {n : ℕ} → ((k : ℕ) → k < n + 1 → getD tops k 0 < word-bits)
     → Closing-pieces tops before after n
     → Closed-rows after next n (getD tops n 0 + 1) → Closing-pieces tops before next (n + 1)
 closing-more {tops} {before} {after} {next} {n} small so-far piece = record {
@@ -38,11 +38,11 @@ closing-more {tops} {before} {after} {next} {n} small so-far piece = record {
         (piece .reached x (here k e x w) (subst (λ (m : ℕ). Nexts x (row after n m)) (here k e x w)
         (subst (λ (l : List ℕ). Nexts x l)
         (sym (row-same after before n (width x) (so-far .same-length)
-        (λ i l. so-far .others (64 * n + i) (omega arith))))
+        (λ i l. so-far .others (row-size * n + i) (omega arith))))
         (subst (λ (m : ℕ). Nexts x (row before m (width x))) e given)))))
     | no l ↦ subst (λ (t : List ℕ). Reaches x t)
         (sym (row-same next after k (width x) (piece .same-length)
-        (λ i m. piece .others (64 * k + i) (inl (omega (arith, small k h))))))
+        (λ i m. piece .others (row-size * k + i) (inl (omega (arith, small k h))))))
         (so-far .reached k (omega arith) x w given)
   ];
   others = λ e h. piece .others e (inr (omega (arith, small n (omega arith)))) ∙ so-far .others e (omega arith);
@@ -56,7 +56,7 @@ pub record Closed-all (tops before after : List ℕ) (n : ℕ) : Type 0 where
   pub same-length : length after ≡ length before
   pub reached : (tables : Pieces) (x : Nested Leaf) → tables .tops ≡ tops → Planned tables x → 1 + run x ≤ n
       → Each Nexts before x → Each Reaches after x
-  pub others : (e : ℕ) → 64 * n ≤ e → getD after e 0 ≡ getD before e 0
+  pub others : (e : ℕ) → row-size * n ≤ e → getD after e 0 ≡ getD before e 0
 
 module _ (tables : Pieces) {before after : List ℕ} {n : ℕ} (done : Closing-pieces (tables .tops) before after n) where
   -- a piece's width, by the number of its last state

@@ -11,9 +11,10 @@ use lib.Pow.{pow-mono}
 use lib.ListN.{getD}
 use Rattle.language.specs.Automaton.{State}
 use Rattle.language.specs.Nested.{Nested, Own-reads}
+use Rattle.tree.specs.Limits.{most-states}
 use Rattle.tree.specs.Leaf.{Leaf, meaning}
-use Rattle.tables.specs.Words.{Bit, width, Own, number}
-use Rattle.tables.specs.Plan.{row, takes, Moves}
+use Rattle.tables.specs.Words.{word-bits, Bit, width, Own, number}
+use Rattle.tables.specs.Plan.{row-size, leaves-entry, row, takes, Moves}
 use Rattle.tables.specs.Tables.{Noted}
 use Rattle.marks.specs.BitsOfWords.Bits.{bit-zero, bit-and, bit-with, bit-below, bit-low, bit-suc, below-of-bits}
 use Rattle.marks.specs.BitsOfWords.LowestBit.{Lowest}
@@ -70,15 +71,16 @@ module _ {codes : List ℕ} {base code w rest r s : ℕ} (so-far : Picked codes 
 
 -- where the picked ones are those among the leaves, they are those of the whole word: a state with the code of a byte
 -- is a leaf
-picked-leaves : (reach codes : List ℕ) (k b w : ℕ) {rest r : ℕ} → Noted reach codes k → w < 2 ^ 62 → rest ≡ 0
-    → Picked codes (64 * k) (b + 1) (bitAnd w (getD reach (64 * k + 63) 0)) rest r
-    → Picked codes (64 * k) (b + 1) w 0 r
+picked-leaves : (reach codes : List ℕ) (k b w : ℕ) {rest r : ℕ} → Noted reach codes k → w < 2 ^ most-states → rest ≡ 0
+    → Picked codes (row-size * k) (b + 1) (bitAnd w (getD reach (row-size * k + leaves-entry) 0)) rest r
+    → Picked codes (row-size * k) (b + 1) w 0 r
 picked-leaves reach codes k b w noted small nothing picked = record {
   among = λ i c. absurd (bit-zero i c);
   exactly = λ j. (
-    λ c. let (m, _, at) = picked .exactly j .0 c in (bit-and w (getD reach (64 * k + 63) 0) j .0 m .0, bit-zero j, at),
+    λ c. let (m, _, at) = picked .exactly j .0 c in
+        (bit-and w (getD reach (row-size * k + leaves-entry) 0) j .0 m .0, bit-zero j, at),
     λ (m, _, at). picked .exactly j .1 (
-      bit-and w (getD reach (64 * k + 63) 0) j .1
+      bit-and w (getD reach (row-size * k + leaves-entry) 0) j .1
           (m, noted .leaves j (bit-below small m) (λ none. omega (arith, at, none))),
       λ l. bit-zero j (subst (λ (v : ℕ). Bit v j) nothing l),
       at,
@@ -125,24 +127,24 @@ comes-to {x} {b} q o m = (
 )
 
 -- the picked bits, one place up, are the word moved
-moves-by-picking : (codes : List ℕ) (piece b w r : ℕ) (x : Nested Leaf) → width x ≤ 62 → row codes piece (width x)
-    ≡ takes x → w < 2 ^ width x
-    → Picked codes (64 * piece) (b + 1) w 0 r → Moves x b w (r * 2 % 2 ^ 64)
+moves-by-picking : (codes : List ℕ) (piece b w r : ℕ) (x : Nested Leaf) → width x ≤ most-states
+    → row codes piece (width x) ≡ takes x → w < 2 ^ width x
+    → Picked codes (row-size * piece) (b + 1) w 0 r → Moves x b w (r * 2 % 2 ^ word-bits)
 moves-by-picking codes piece b w r x narrow coded small picked =
     subst (λ (v : ℕ). Moves x b w v) (sym (mod-eq-of-lt fits)) record {
       exactly = λ q o. (λ c. comes-to q o (up (number x q) c), forth q o);
       clean = below-of-bits (width x) (r * 2) (λ j c. comes-below (up j c));
     }
   where
-    picked-small : r < 2 ^ 62
+    picked-small : r < 2 ^ most-states
     picked-small = lt-of-lt-of-le (below-of-bits (width x) r (λ j c. bit-below small (picked .exactly j .0 c .0)))
         (pow-mono narrow)
 
-    fits : r * 2 < 2 ^ 64
+    fits : r * 2 < 2 ^ word-bits
     fits = omega (arith, picked-small)
 
     code-at : (p : State) (j : ℕ) → number x p ≡ j → j < width x → getD (takes x) (number x p) 0
-        ≡ getD codes (64 * piece + j) 0
+        ≡ getD codes (row-size * piece + j) 0
     code-at p j e h =
         ap (λ (i : ℕ). getD (takes x) i 0) e ∙ ap (λ (l : List ℕ). getD l j 0) (sym coded)
         ∙ row-at codes piece (width x) j h
@@ -175,9 +177,9 @@ moves-by-picking codes piece b w r x narrow coded small picked =
 
 -- so are those among the leaves
 pub moves-by-leaves : (reach codes : List ℕ) (piece b w rest r : ℕ) → Noted reach codes piece → rest ≡ 0
-    → Picked codes (64 * piece) (b + 1) (bitAnd w (getD reach (64 * piece + 63) 0)) rest r
-    → (x : Nested Leaf) → width x ≤ 62 → row codes piece (width x) ≡ takes x → w < 2 ^ width x
-    → Moves x b w (r * 2 % 2 ^ 64)
+    → Picked codes (row-size * piece) (b + 1) (bitAnd w (getD reach (row-size * piece + leaves-entry) 0)) rest r
+    → (x : Nested Leaf) → width x ≤ most-states → row codes piece (width x) ≡ takes x → w < 2 ^ width x
+    → Moves x b w (r * 2 % 2 ^ word-bits)
 moves-by-leaves reach codes piece b w rest r noted nothing picked x narrow coded small =
     moves-by-picking codes piece b w r x narrow coded small
     (picked-leaves reach codes piece b w noted (lt-of-lt-of-le small (pow-mono narrow)) nothing picked)

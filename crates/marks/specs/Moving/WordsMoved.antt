@@ -25,6 +25,7 @@ use Rattle.language.specs.Nested.{
   Own-reads,
   own-meaning,
 }
+use Rattle.tree.specs.Limits.{most-states}
 use Rattle.tree.specs.Leaf.{Leaf, meaning}
 use Rattle.tables.specs.Words.{Bit, width, run, Own, number, Marked, Holds, Clean-below, Clean}
 use Rattle.tables.specs.Plan.{row, takes, Moves, Pieces, Piece-at, Children-at, Planned}
@@ -312,13 +313,13 @@ module _ (b : ℕ) where
 
 -- w is word k moved along b, for every tree that the codes of piece k speak of
 pub record Word-moved (codes before : List ℕ) (b k w : ℕ) : Type 0 where
-  pub moves : (x : Nested Leaf) → width x ≤ 62 → row codes k (width x) ≡ takes x → getD before k 0 < 2 ^ width x
-      → Moves x b (getD before k 0) w
+  pub moves : (x : Nested Leaf) → width x ≤ most-states → row codes k (width x) ≡ takes x
+      → getD before k 0 < 2 ^ width x → Moves x b (getD before k 0) w
 
 -- one word more, moved from what it is now, which is what it was before
 pub moved-more : {codes before after : List ℕ} {b n w : ℕ} → n < length before
     → Rows (Word-moved codes before b) before after 0 n
-    → ((x : Nested Leaf) → width x ≤ 62 → row codes n (width x) ≡ takes x → getD after n 0 < 2 ^ width x
+    → ((x : Nested Leaf) → width x ≤ most-states → row codes n (width x) ≡ takes x → getD after n 0 < 2 ^ width x
     → Moves x b (getD after n 0) w)
     → Rows (Word-moved codes before b) before (set after n w) 0 (n + 1)
 moved-more {codes} {before} {after} {b} {n} {w} h so-far moves =
@@ -339,7 +340,7 @@ pub record Marks-moved (x : Nested Leaf) (b : ℕ) (before after : List ℕ) : T
 pub record Moved-all (codes before after : List ℕ) (b n : ℕ) : Type 0 where
   pub same-length : length after ≡ length before
   pub marks : (tables : Pieces) (x : Nested Leaf) → tables .codes ≡ codes → Planned tables x → 1 + run x ≤ n
-      → width x ≤ 62 → Narrow-below x
+      → width x ≤ most-states → Narrow-below x
       → Clean x before → Marks-moved x b before after
   pub others : (k : ℕ) → n ≤ k → getD after k 0 ≡ getD before k 0
 
@@ -350,8 +351,8 @@ first-left l k = getD-drop k l 0 0 ∙ ap (λ (i : ℕ). getD l i 0) (add-zero k
 module _ (tables : Pieces) (before after : List ℕ) (b n : ℕ)
     (rows : Rows (Word-moved (tables .codes) before b) before after 0 n) where
   -- the word of piece k is moved
-  word-moved : (x : Nested Leaf) (k : ℕ) → k < n → Piece-at tables x k → width x ≤ 62 → getD (drop k before) 0 0
-      < 2 ^ width x
+  word-moved : (x : Nested Leaf) (k : ℕ) → k < n → Piece-at tables x k → width x ≤ most-states
+      → getD (drop k before) 0 0 < 2 ^ width x
       → Moves x b (getD (drop k before) 0 0) (getD (drop k after) 0 0)
   word-moved x k h at narrow small =
       subst₂ (λ (v w : ℕ). Moves x b v w) (sym (first-left before k)) (ap (λ (i : ℕ). getD after i 0) (zero-add k)
@@ -386,8 +387,8 @@ module _ (tables : Pieces) (before after : List ℕ) (b n : ℕ)
   )
 
   -- so the marks are
-  marks-moved : (x : Nested Leaf) → Planned tables x → 1 + run x ≤ n → width x ≤ 62 → Narrow-below x → Clean x before
-      → Marks-moved x b before after
+  marks-moved : (x : Nested Leaf) → Planned tables x → 1 + run x ≤ n → width x ≤ most-states → Narrow-below x
+      → Clean x before → Marks-moved x b before after
   marks-moved x at h narrow-top narrow clean =
       let top = word-moved x 0 (omega arith) (at .0) narrow-top (clean .0) in
       let children = below-moved x 0 1 (at .1) h narrow (clean .1) in

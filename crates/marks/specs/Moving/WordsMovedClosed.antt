@@ -9,6 +9,7 @@ use Rattle.language.specs.Automaton.{States}
 use Rattle.language.specs.Nested.{Nested, Has, Move}
 use Rattle.language.specs.Settled.{Settled}
 use Rattle.language.specs.Same.{More-in}
+use Rattle.tree.specs.Limits.{most-states}
 use Rattle.tree.specs.Leaf.{Leaf, meaning}
 use Rattle.tables.specs.Words.{width, run, number, Holds, Clean}
 use Rattle.tables.specs.Plan.{row, takes, Moves, Pieces, Planned, Reaches, Each, Closes}
@@ -48,9 +49,9 @@ moving-none reach codes words b =
 -- r is the word of the piece after the byte b: moved, and closed in the piece
 pub record Word-after (reach codes : List ℕ) (piece word b r : ℕ) : Type 0 where
   pub moved : ℕ
-  pub moves : (x : Nested Leaf) → width x ≤ 62 → row codes piece (width x) ≡ takes x → word < 2 ^ width x
+  pub moves : (x : Nested Leaf) → width x ≤ most-states → row codes piece (width x) ≡ takes x → word < 2 ^ width x
       → Moves x b word moved
-  pub closes : (x : Nested Leaf) → width x ≤ 62 → Reaches x (row reach piece (width x)) → moved < 2 ^ width x
+  pub closes : (x : Nested Leaf) → width x ≤ most-states → Reaches x (row reach piece (width x)) → moved < 2 ^ width x
       → Closes x moved r
 
 -- a word of no marks stays one
@@ -71,7 +72,7 @@ pub moving-more : {reach codes before after : List ℕ} {b n w : ℕ} → n < le
 moving-more {codes = codes} {after = after} {b = b} {n = n} inside so-far next = record {
   moved = set (so-far .moved) n (next .moved);
   moves = moved-more inside (so-far .moves)
-      (subst (λ (u : ℕ). (x : Nested Leaf) → width x ≤ 62 → row codes n (width x) ≡ takes x → u < 2 ^ width x
+      (subst (λ (u : ℕ). (x : Nested Leaf) → width x ≤ most-states → row codes n (width x) ≡ takes x → u < 2 ^ width x
       → Moves x b u (next .moved))
       (so-far .closes .others n (omega arith)) (next .moves));
   closes = closed-more (omega (arith, so-far .moves .same-length)) (so-far .closes) (next .closes);
@@ -97,7 +98,7 @@ module _ {reach codes before after : List ℕ} {b n : ℕ} (went : Moved-closed 
 
   module _ (tables : Pieces) (x : Nested Leaf) (same : tables .codes ≡ codes) (planned : Planned tables x)
       (reached : Each Reaches reach x) (room : 1 + run x ≤ n)
-      (narrow : width x ≤ 62) (narrow-below : Narrow-below x) (clean : Clean x before) where
+      (narrow : width x ≤ most-states) (narrow-below : Narrow-below x) (clean : Clean x before) where
     alone : Marks-moved x b before (went .moved)
     alone = went .moves .marks tables x same planned room narrow narrow-below clean
 

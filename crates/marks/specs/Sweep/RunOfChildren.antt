@@ -11,6 +11,7 @@ use lib.ListN.{length, getD, drop, set, length-set, length-take, length-drop}
 use lib.Seq.{ext-getD, getD-drop, getD-set-same, getD-set-other, drop-drop, drop-set-lt, append-snoc}
 use Rattle.language.specs.Nested.{Nested, leaf, catenation, union, star, below}
 use Rattle.language.specs.Settled.{Settled}
+use Rattle.tree.specs.Limits.{most-states}
 use Rattle.tree.specs.Leaf.{Leaf, meaning}
 use Rattle.tables.specs.Words.{Bit, width, run, Holds, Clean}
 use Rattle.tables.specs.Plan.{Children-at, row, Reaches, Each-below, Closes}
@@ -249,7 +250,7 @@ module _ (reach runs stands tops : List ℕ) where
     pub laid : In-tables reach runs stands tops (c .tree) (k + at)
     pub room : at + (1 + run (c .tree)) ≤ length words
     pub reaches : Reaches x (row reach k (width x))
-    pub narrow : width x ≤ 62
+    pub narrow : width x ≤ most-states
     pub own-clean : getD words 0 0 < 2 ^ width x
     pub own-closed : Closes x (getD words 0 0) (getD words 0 0)
     pub child-clean : Clean (c .tree) (part c words)

@@ -12,6 +12,7 @@ use Rattle.language.specs.Nested.{Nested, whole, Has, Models, Move, Own-empty}
 use Rattle.language.specs.Same.{More-in, Agree, sweep-same, models-same}
 use Rattle.language.specs.Settled.{Settled}
 use Rattle.language.specs.Sweeps.{sweeps-start, sweeps-step-closed}
+use Rattle.tree.specs.Limits.{most-states}
 use Rattle.tree.specs.Leaf.{Leaf, meaning}
 use Rattle.tables.specs.Words.{Bit, width, run, number, Holds, Clean}
 use Rattle.tables.specs.Plan.{Planned, Each, Reaches}
@@ -41,7 +42,7 @@ use Rattle.marks.specs.Sweep.Twice.{Run-of, Closed-twice}
 -- the tables speak of all pieces of x, from piece 0 on
 pub laid-whole : (reach codes runs stands tops : List ℕ) (x : Nested Leaf) → Planned (tables codes runs stands tops) x
     → Each Reaches reach x
-    → width x ≤ 62 → Narrow-below x → In-tables reach runs stands tops x 0
+    → width x ≤ most-states → Narrow-below x → In-tables reach runs stands tops x 0
 laid-whole reach codes runs stands tops x planned reached narrow narrow-below = record {
   codes = codes;
   piece = planned .0;

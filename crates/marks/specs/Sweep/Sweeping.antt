@@ -21,9 +21,10 @@ use lib.Seq.{
 use Rattle.language.specs.Automaton.{start}
 use Rattle.language.specs.Nested.{Nested}
 use Rattle.language.specs.Settled.{Settled}
+use Rattle.tree.specs.Limits.{most-pieces}
 use Rattle.tree.specs.Leaf.{Leaf, meaning}
-use Rattle.tables.specs.Words.{Bit, width, run, Holds, Clean}
-use Rattle.tables.specs.Plan.{Closes}
+use Rattle.tables.specs.Words.{word-bits, Bit, width, run, Holds, Clean}
+use Rattle.tables.specs.Plan.{row-size, Closes}
 use Rattle.marks.specs.BitsOfWords.Numbers.{width-two, number-onto}
 use Rattle.marks.specs.Sweep.Passing.{passed-below}
 use Rattle.marks.specs.Sweep.Swept.{
@@ -280,13 +281,13 @@ pub record Sweep-room (reach runs stands tops : List ℕ) (k at : ℕ) (words : 
   pub own-before : 0 < at
   pub child-counted : 0 < getD runs (k + at) 0
   pub child-within : at + getD runs (k + at) 0 ≤ length words
-  pub few-words : length words ≤ 128
-  pub reach-room : 64 * k + 64 ≤ length reach
+  pub few-words : length words ≤ most-pieces
+  pub reach-room : row-size * k + row-size ≤ length reach
   pub runs-room : k + at < length runs
   pub stands-room : k + at < length stands
   pub tops-room : k + at < length tops
-  pub stand-small : getD stands (k + at) 0 + 1 < 64
-  pub top-small : getD tops (k + at) 0 < 64
+  pub stand-small : getD stands (k + at) 0 + 1 < word-bits
+  pub top-small : getD tops (k + at) 0 < word-bits
 
 module _ (reach runs stands tops : List ℕ) (k : ℕ) where
   -- a sweep is under way, whatever tree the tables speak of

@@ -7,6 +7,7 @@ use lib.ListN.{length, getD, take, drop, set}
 use lib.Bits.{bitOr}
 use Rattle.language.specs.Automaton.{State, start, Path-of}
 use Rattle.language.specs.Nested.{Nested, leaf, catenation, union, star, below, Has, Sweep, Own-empty}
+use Rattle.tree.specs.Limits.{most-pieces, most-states}
 use Rattle.tree.specs.Leaf.{Leaf, meaning}
 use Rattle.tree.specs.Parts.{Every-below}
 use Rattle.tables.specs.Words.{Bit, width, run, Own, number, Holds, Clean}
@@ -44,7 +45,7 @@ Quiet k from to words = (o : ℕ) → 0 < o → o < length words → (k + o < fr
 
 -- each child piece below x, and each below that, has at most 62 states
 abbrev pub Narrow-below : Nested Leaf → Type 0
-Narrow-below x = Every-below (λ y. width y ≤ 62) x
+Narrow-below x = Every-below (λ y. width y ≤ most-states) x
 
 -- tables of the pieces with these numbers
 abbrev pub tables : (codes runs stands tops : List ℕ) → Pieces
@@ -59,7 +60,7 @@ module _ (reach runs stands tops : List ℕ) where
     pub children : Children-at (tables codes runs stands tops) x 0 (k + 1)
     pub reaches : Reaches x (row reach k (width x))
     pub reaches-below : Each-below Reaches reach x (k + 1)
-    pub narrow : width x ≤ 62
+    pub narrow : width x ≤ most-states
     pub narrow-below : Narrow-below x
 
   -- the words are the run of x's pieces, the first of which is piece k of the tables; no bit past a last state is set,
@@ -75,10 +76,10 @@ module _ (reach runs stands tops : List ℕ) where
   -- the tables have room for the pieces from k on, one for each word
   pub record Tables-sized (k : ℕ) (words : List ℕ) : Type 0 where
     pub reach-sized : length reach ≡ 8192
-    pub runs-sized : length runs ≡ 128
-    pub stands-sized : length stands ≡ 128
-    pub tops-sized : length tops ≡ 128
-    pub within : k + length words ≤ 128
+    pub runs-sized : length runs ≡ most-pieces
+    pub stands-sized : length stands ≡ most-pieces
+    pub tops-sized : length tops ≡ most-pieces
+    pub within : k + length words ≤ most-pieces
 
   -- there are pieces that the words are the run of, and marks below the first only from `from` up to `to`
   pub record Sweep-ready (k from to : ℕ) (words : List ℕ) : Type 0 where

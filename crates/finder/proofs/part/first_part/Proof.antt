@@ -10,6 +10,7 @@ use lib.ListN.{length}
 use Rattle.language.specs.Tree.{Tree}
 use Rattle.tree.specs.Leaf.{Leaf, Matches}
 use mathlib.Core.List.{[]}
+use Rattle.tree.specs.Limits.{most-pieces}
 use Rattle.tables.specs.Tables.{Prepared, Ready, Answered}
 use Rattle.marks.specs.Inner.{answered-first}
 use Rattle.finder.specs.Found.{None-before}
@@ -32,7 +33,7 @@ nowhere Nowhere other = refl
 abbrev Inv-loop : tie.InvT-loop
 Inv-loop reach codes runs stands tops count text first empty start₀ start = (start ≤ length text + 1)
     × Ready reach codes runs stands tops count × ((t : Tree Leaf) → Prepared t reach codes runs stands tops count
-    → None-before (Matches t) text start) × (length first ≡ 128)
+    → None-before (Matches t) text start) × (length first ≡ most-pieces)
     × ((t : Tree Leaf) → Prepared t reach codes runs stands tops count → Answered t [] first empty)
 
 abbrev μ-loop : tie.MeasureT-loop

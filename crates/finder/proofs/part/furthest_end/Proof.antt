@@ -6,6 +6,7 @@ use native.Mathlib.Omega.{arith}
 use borrow.Author.Needs.{needs}
 use lib.ListN.{length}
 use Rattle.language.specs.Tree.{Tree}
+use Rattle.tree.specs.Limits.{most-pieces}
 use Rattle.tree.specs.Leaf.{Leaf}
 use Rattle.tables.specs.Tables.{Prepared, Ready}
 use Rattle.marks.specs.Texts.{nothing-left}
@@ -23,7 +24,7 @@ use Rattle.finder.proofs.part.with_end.Reads as with-end-reads
 
 abbrev Inv-loop : tie.InvT-loop
 Inv-loop reach codes runs stands tops count first empty text start words₀ best₀ end₀ words best end = (start ≤ end)
-    × (end ≤ length text) × (length words ≡ 128) × Ready reach codes runs stands tops count
+    × (end ≤ length text) × (length words ≡ most-pieces) × Ready reach codes runs stands tops count
     × ((t : Tree Leaf) → Prepared t reach codes runs stands tops count → Looking t text start end words (end-of best))
 
 abbrev μ-loop : tie.MeasureT-loop

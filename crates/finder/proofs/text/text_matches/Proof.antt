@@ -12,6 +12,7 @@ use lib.Seq.{take-all}
 use Rattle.finder.specs.Taken.{take-next}
 use Rattle.marks.specs.Texts.{nothing-left}
 use Rattle.language.specs.Tree.{Tree}
+use Rattle.tree.specs.Limits.{most-pieces}
 use Rattle.tree.specs.Leaf.{Leaf, Matches}
 use Rattle.tables.specs.Tables.{Prepared, Ready, Answered}
 use Rattle.marks.specs.Inner.{running, holding-marks, answered-first, answered-next}
@@ -29,7 +30,8 @@ never-matches t text i none =
     (λ e. absurd (false≢true e), λ m. absurd (none (drop i text) (subst (Matches t) (sym (take-append-drop i text)) m)))
 
 abbrev Inv-loop : tie.InvT-loop
-Inv-loop reach codes runs stands tops count text words₀ yes₀ i₀ words yes' i = (i ≤ length text) × (length words ≡ 128)
+Inv-loop reach codes runs stands tops count text words₀ yes₀ i₀ words yes' i = (i ≤ length text)
+    × (length words ≡ most-pieces)
     × Ready reach codes runs stands tops count × ((t : Tree Leaf) → Prepared t reach codes runs stands tops count
     → Answered t (take i text) words yes')
 

@@ -3,6 +3,7 @@ use mathlib.Core.Path.{ap}
 use borrow.Author.Needs.{needs}
 use lib.Bits.{bitOr}
 use native.Mathlib.Omega.{arith}
+use Rattle.tables.specs.Words.{word-bits}
 use Rattle.marks.specs.BitsOfWords.Bits.{one-shifted}
 use Rattle.marks.proofs.bits.with_bit.Statement.{statement}
 use Rattle.marks.proofs.bits.with_bit.Tie as tie
@@ -11,7 +12,7 @@ shl-result : tie.Need-shl-result
 shl-result c = search needs
 
 returns : tie.Need-returns
-returns c = ap (bitOr (c .args .word)) (one-shifted 64 (c .args .i) (omega arith))
+returns c = ap (bitOr (c .args .word)) (one-shifted word-bits (c .args .i) (omega arith))
 
 pub with-bit-spec : {M : Type 1} → statement M
 with-bit-spec = tie.close (tie.spec shl-result returns)

@@ -4,15 +4,16 @@ use Prim.Native.Nat.{_≤_, _-_}
 use mathlib.Core.Path.{_∙_}
 use mathlib.Core.Logic.{⊎-elim}
 use native.Mathlib.Omega.{arith}
+use Rattle.tree.specs.Limits.{most-states}
 use Rattle.marks.specs.Moving.Leaves.{Leaves, leaves-none, leaves-more, leaves-same, leaves-all}
 use Rattle.marks.proofs.leaves.leaves.Statement.{statement}
 use Rattle.marks.proofs.leaves.leaves.Tie as tie
 
 abbrev Inv-loop : tie.InvT-loop
-Inv-loop codes piece base state₀ word₀ state word = (state ≤ 62) × Leaves codes piece state word
+Inv-loop codes piece base state₀ word₀ state word = (state ≤ most-states) × Leaves codes piece state word
 
 abbrev μ-loop : tie.MeasureT-loop
-μ-loop codes piece base state₀ word₀ state word = 62 - state
+μ-loop codes piece base state₀ word₀ state word = most-states - state
 
 mul-base : tie.Need-mul-base Inv-loop μ-loop
 mul-base c = omega arith

@@ -6,13 +6,14 @@ use native.Mathlib.Nat.{lt-of-le-of-lt}
 use native.Mathlib.Omega.{arith}
 use borrow.Author.Needs.{needs}
 use lib.Pow.{shr-le}
+use Rattle.tables.specs.Words.{word-bits}
 use Rattle.marks.specs.BitsOfWords.LowestBit.{left-smaller}
 use Rattle.marks.specs.ClosingTable.Ahead.{Joined-ahead, joined-none, joined-more, joined-below, joined-ended}
 use Rattle.marks.proofs.reach.join_ahead.Statement.{statement}
 use Rattle.marks.proofs.reach.join_ahead.Tie as tie
 
 abbrev Inv-loop : tie.InvT-loop
-Inv-loop reach base state at word row₀ left₀ row left = (word < 2 ^ 64) × (left < 2 ^ 64)
+Inv-loop reach base state at word row₀ left₀ row left = (word < 2 ^ word-bits) × (left < 2 ^ word-bits)
     × Joined-ahead reach base state left row
 
 abbrev μ-loop : tie.MeasureT-loop
@@ -51,14 +52,14 @@ add-row c = omega (arith, c .lowest .ensures .1)
 mul-row : tie.Need-mul-row Inv-loop μ-loop
 mul-row c = omega (
   arith,
-  joined-below {n = 64} (c .before .before .loop .inv .2) (c .lowest .ensures .0)
+  joined-below {n = word-bits} (c .before .before .loop .inv .2) (c .lowest .ensures .0)
       (c .before .before .loop .inv .0),
 )
 
 shared-slice-read-row : tie.Need-shared-slice-read-row Inv-loop μ-loop
 shared-slice-read-row c =
     let at = c .before .before .before in
-    omega (arith, joined-below {n = 64} (at .loop .inv .2) (c .before .lowest .ensures .0) (at .loop .inv .0))
+    omega (arith, joined-below {n = word-bits} (at .loop .inv .2) (c .before .lowest .ensures .0) (at .loop .inv .0))
 
 sub-left : tie.Need-sub-left Inv-loop μ-loop
 sub-left c = omega arith

@@ -12,7 +12,7 @@ use borrow.Fn.Kinds.{In}
 use borrow.Fn.PlainCycle.{Measures, is, falls, and}
 use Rattle.language.specs.Settled.{Settled}
 use Rattle.tree.specs.Leaf.{meaning}
-use Rattle.tables.specs.Words.{Holds}
+use Rattle.tables.specs.Words.{word-bits, Holds}
 use Rattle.tables.specs.Plan.{Closes}
 use Rattle.marks.specs.Sweep.Swept.{Sweepable, Tables-sized}
 use Rattle.marks.specs.Sweep.RunOfChildren.{Waiting}
@@ -177,7 +177,7 @@ abbrev missed-at : (t : ℕ) → Come-back t
 missed-at t w = w .before .before .before .before .before .before .before .before .before .before .before
 
 -- a bit whose next is in the word, and the lowest
-bits-within : (stand : ℕ) → stand + 1 < 64 → (stand < 64) × (0 < 64)
+bits-within : (stand : ℕ) → stand + 1 < word-bits → (stand < word-bits) × (0 < word-bits)
 bits-within stand h = (omega arith, omega arith)
 
 sweep-slice-read-close-from : (t : ℕ) → sweep-lts.Need-slice-read-close-from (sweep-claims t) (sweep-at t) sweep.Post

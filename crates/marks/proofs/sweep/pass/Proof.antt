@@ -7,6 +7,7 @@ use native.Mathlib.Nat.{mod-lt}
 use native.Mathlib.Omega.{arith}
 use lib.Bits.{bitAnd, bitOr, and-mask}
 use lib.Pow.{shl-exact}
+use Rattle.tables.specs.Words.{word-bits}
 use Rattle.marks.specs.Sweep.Swept.{passed}
 use Rattle.marks.proofs.sweep.pass.Statement.{statement}
 use Rattle.marks.proofs.sweep.pass.Tie as tie
@@ -17,10 +18,10 @@ shr-result c = search needs
 shl-result : tie.Need-shl-result
 shl-result c = search needs
 
-shifted : (v to : ℕ) → to < 64 → (bitAnd v 1 * 2 ^ to) % 2 ^ 64 ≡ v % 2 * 2 ^ to
+shifted : (v to : ℕ) → to < word-bits → (bitAnd v 1 * 2 ^ to) % 2 ^ word-bits ≡ v % 2 * 2 ^ to
 shifted v to h =
-    ap (λ (n : ℕ). (n * 2 ^ to) % 2 ^ 64) (and-mask v 1)
-    ∙ shl-exact {a = v % 2} 1 to 64 (mod-lt v {m = 2} (omega arith)) (omega arith)
+    ap (λ (n : ℕ). (n * 2 ^ to) % 2 ^ word-bits) (and-mask v 1)
+    ∙ shl-exact {a = v % 2} 1 to word-bits (mod-lt v {m = 2} (omega arith)) (omega arith)
 
 returns : tie.Need-returns
 unfolding passed

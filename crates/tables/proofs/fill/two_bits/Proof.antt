@@ -2,6 +2,7 @@
 use borrow.Author.Needs.{needs}
 use native.Mathlib.Omega.{arith}
 use lib.Pow.{pow-lt}
+use Rattle.tables.specs.Plan.{leaves-entry}
 use Rattle.tables.proofs.fill.two_bits.Statement.{statement}
 use Rattle.tables.proofs.fill.two_bits.Tie as tie
 
@@ -15,8 +16,8 @@ add-result : tie.Need-add-result
 add-result c =
     omega (
       arith,
-      pow-lt {i = c .before .before .args .i} {j = 63} (omega arith),
-      pow-lt {i = c .before .before .args .j} {j = 63} (omega arith),
+      pow-lt {i = c .before .before .args .i} {j = leaves-entry} (omega arith),
+      pow-lt {i = c .before .before .args .j} {j = leaves-entry} (omega arith),
     )
 
 returns : tie.Need-returns
