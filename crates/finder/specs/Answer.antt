@@ -1,6 +1,7 @@
 -- The numbers that match and search give back, for each case of their answers.
 use Prim.Native.Nat.{ℕ}
 use mathlib.Core.Bool.{Bool, true, false}
+use Rattle.tree.specs.RefusalNumbers.{list-not-good, text-too-long}
 use Rattle.finder.specs.declared.Matched.{Matched}
 use Rattle.finder.specs.declared.Matched.the-variants.{
   Yes,
@@ -33,12 +34,12 @@ finding start end = record { refusal = 0; place = 0; matched = true; start = sta
 abbrev pub match-numbers : Matched → Numbers
 match-numbers Yes = answering true
 match-numbers No = answering false
-match-numbers Match-not-good = refusing 10
-match-numbers Match-too-long = refusing 11
+match-numbers Match-not-good = refusing list-not-good
+match-numbers Match-too-long = refusing text-too-long
 
 -- the numbers of each answer of a search
 abbrev pub search-numbers : Searched → Numbers
 search-numbers (Found start end) = finding start end
 search-numbers Nothing = answering false
-search-numbers Search-not-good = refusing 10
-search-numbers Search-too-long = refusing 11
+search-numbers Search-not-good = refusing list-not-good
+search-numbers Search-too-long = refusing text-too-long

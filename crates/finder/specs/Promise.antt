@@ -6,6 +6,7 @@ use mathlib.Core.Logic.{_↔_}
 use mathlib.Core.List.{List}
 use lib.ListN.{length}
 use Rattle.language.specs.Tree.{Tree}
+use Rattle.tree.specs.RefusalNumbers.{list-not-good, text-too-long}
 use Rattle.tree.specs.Leaf.{Leaf, Matches}
 use Rattle.tree.specs.Limits.{longest-text}
 use Rattle.tree.specs.Records.{Good}
@@ -29,8 +30,8 @@ pub record Too-long (list text : List ℕ) : Type 0 where
 
 -- the refusals of match and search, in their order
 pub data Refuses (list text : List ℕ) : ℕ → Type 0 where
-  not-good : Not-good list → Refuses list text 10
-  too-long : Too-long list text → Refuses list text 11
+  not-good : Not-good list → Refuses list text list-not-good
+  too-long : Too-long list text → Refuses list text text-too-long
 
 -- match: a refusal; or yes exactly when the text is in the language of the list's tree
 pub data Match-answers (list text : List ℕ) : Numbers → Type 0 where

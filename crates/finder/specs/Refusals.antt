@@ -8,6 +8,7 @@ use mathlib.Core.Logic.{_↔_}
 use mathlib.Core.List.{List}
 use lib.ListN.{length}
 use Rattle.language.specs.Tree.{Tree}
+use Rattle.tree.specs.RefusalNumbers.{list-not-good, text-too-long}
 use Rattle.tree.specs.Leaf.{Leaf, Matches}
 use Rattle.tree.specs.Limits.{longest-text}
 use Rattle.tree.specs.Records.{Good}
@@ -53,13 +54,13 @@ module _ (list text : List ℕ) where
   search-reason (search-nothing a) = fine (record { t = a .t; good = a .good; short = a .short })
 
   -- 10 is given exactly when the list is not good
-  pub not-good-exactly : {number : ℕ} → Reason number → (number ≡ 10) ↔ Not-good list
+  pub not-good-exactly : {number : ℕ} → Reason number → (number ≡ list-not-good) ↔ Not-good list
   not-good-exactly (fine a) = (λ e. absurd (omega arith), λ why. absurd (why (a .t) (a .good)))
   not-good-exactly (refused (not-good why)) = (λ e. why, λ _. refl)
   not-good-exactly (refused (too-long a)) = (λ e. absurd (omega arith), λ why. absurd (why (a .t) (a .good)))
 
   -- 11 exactly when it is good and the text is over 65,536 bytes
-  pub too-long-exactly : {number : ℕ} → Reason number → (number ≡ 11) ↔ Too-long list text
+  pub too-long-exactly : {number : ℕ} → Reason number → (number ≡ text-too-long) ↔ Too-long list text
   too-long-exactly (fine a) = (λ e. absurd (omega arith), λ b. absurd (omega (arith, a .short, b .long)))
   too-long-exactly (refused (not-good why)) = (λ e. absurd (omega arith), λ b. absurd (why (b .t) (b .good)))
   too-long-exactly (refused (too-long a)) = (λ e. a, λ _. refl)
@@ -78,11 +79,11 @@ module _ (list text : List ℕ) where
 
   module _ (n : Numbers) (answers : Match-answers list text n) where
     -- match refuses with 10 exactly when the list is not good
-    pub match-not-good : (n .refusal ≡ 10) ↔ Not-good list
+    pub match-not-good : (n .refusal ≡ list-not-good) ↔ Not-good list
     match-not-good = not-good-exactly (match-reason answers)
 
     -- with 11 exactly when it is good and the text is over 65,536 bytes
-    pub match-too-long : (n .refusal ≡ 11) ↔ Too-long list text
+    pub match-too-long : (n .refusal ≡ text-too-long) ↔ Too-long list text
     match-too-long = too-long-exactly (match-reason answers)
 
     -- and answers yes or no exactly when it is good and the text is not
@@ -91,11 +92,11 @@ module _ (list text : List ℕ) where
 
   module _ (n : Numbers) (answers : Search-answers list text n) where
     -- search refuses with 10 exactly when the list is not good
-    pub search-not-good : (n .refusal ≡ 10) ↔ Not-good list
+    pub search-not-good : (n .refusal ≡ list-not-good) ↔ Not-good list
     search-not-good = not-good-exactly (search-reason answers)
 
     -- with 11 exactly when it is good and the text is over 65,536 bytes
-    pub search-too-long : (n .refusal ≡ 11) ↔ Too-long list text
+    pub search-too-long : (n .refusal ≡ text-too-long) ↔ Too-long list text
     search-too-long = too-long-exactly (search-reason answers)
 
     -- and answers a part or nothing exactly when it is good and the text is not
@@ -108,7 +109,7 @@ module _ (list text : List ℕ) where
     longest-taken e = taken-exactly reason .1 (record { t = t; good = good; short = omega arith })
 
     -- and one of 65,537 is refused
-    pub longer-refused : length text ≡ longest-text + 1 → number ≡ 11
+    pub longer-refused : length text ≡ longest-text + 1 → number ≡ text-too-long
     longer-refused e = too-long-exactly reason .1 (record { t = t; good = good; long = omega arith })
 
   -- a refusal has a number

@@ -7,6 +7,7 @@ use mathlib.Core.Logic.{_↔_, Iff·trans, Iff·symm}
 use mathlib.Core.List.{List}
 use lib.Dec.{eqb}
 use Rattle.language.specs.Tree.{Tree}
+use Rattle.tree.specs.RefusalNumbers.{list-not-good, text-too-long}
 use Rattle.tree.specs.Leaf.{Leaf, Matches}
 use Rattle.tree.specs.Readback.{good-unique}
 use Rattle.finder.specs.Found.{Search-outcome, at, nothing}
@@ -45,7 +46,8 @@ use Rattle.finder.specs.declared.Searched.the-variants.{
 -- the answer of a match, from its numbers
 abbrev matched-by : Numbers → Matched
 matched-by n =
-    cond (eqb (n .refusal) 10) Match-not-good (cond (eqb (n .refusal) 11) Match-too-long (cond (n .matched) Yes No))
+    cond (eqb (n .refusal) list-not-good) Match-not-good
+    (cond (eqb (n .refusal) text-too-long) Match-too-long (cond (n .matched) Yes No))
 
 matched-back : (r : Matched) → matched-by (match-numbers r) ≡ r
 matched-back Yes = refl
@@ -56,8 +58,8 @@ matched-back Match-too-long = refl
 -- the answer of a search, from its numbers
 abbrev searched-by : Numbers → Searched
 searched-by n =
-    cond (eqb (n .refusal) 10) Search-not-good
-    (cond (eqb (n .refusal) 11) Search-too-long (cond (n .matched) (Found-at (n .start) (n .end)) Nothing))
+    cond (eqb (n .refusal) list-not-good) Search-not-good
+    (cond (eqb (n .refusal) text-too-long) Search-too-long (cond (n .matched) (Found-at (n .start) (n .end)) Nothing))
 
 searched-back : (r : Searched) → searched-by (search-numbers r) ≡ r
 searched-back (Found-at start end) = refl

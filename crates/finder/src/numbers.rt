@@ -1,6 +1,8 @@
 // The numbers that a match and a search give back.
 use crate::Matched;
 use crate::Searched;
+use tree::refusal_numbers::LIST_NOT_GOOD;
+use tree::refusal_numbers::TEXT_TOO_LONG;
 ghost use mathlib.Core.Path.{_≡_};
 ghost use Rattle.finder.specs.Answer.{refusing, answering, match-numbers, search-numbers};
 
@@ -13,10 +15,6 @@ pub struct Numbers {
     pub start: usize,
     pub end: usize,
 }
-
-const NOT_GOOD: u8 = 10;
-
-const TOO_LONG: u8 = 11;
 
 fn refusing(number: u8) -> Numbers
     ensures { λ r. ⌜ r ≡ refusing number ⌝ }
@@ -49,8 +47,8 @@ pub fn match_numbers(answer: Matched) -> Numbers
     match answer {
         Matched::Yes => answering(true),
         Matched::No => answering(false),
-        Matched::NotGood => refusing(NOT_GOOD),
-        Matched::TooLong => refusing(TOO_LONG),
+        Matched::NotGood => refusing(LIST_NOT_GOOD),
+        Matched::TooLong => refusing(TEXT_TOO_LONG),
     }
 }
 
@@ -67,7 +65,7 @@ pub fn search_numbers(answer: Searched) -> Numbers
             end,
         },
         Searched::Nothing => answering(false),
-        Searched::NotGood => refusing(NOT_GOOD),
-        Searched::TooLong => refusing(TOO_LONG),
+        Searched::NotGood => refusing(LIST_NOT_GOOD),
+        Searched::TooLong => refusing(TEXT_TOO_LONG),
     }
 }

@@ -8,6 +8,7 @@ use lib.Dec.{ltb}
 use borrow.Author.Tests.{ltb-false}
 use Rattle.language.specs.Tree.{Tree, nodes}
 use Rattle.language.specs.Automaton.{States}
+use Rattle.tree.specs.RefusalNumbers.{too-many-pieces, buffer-too-short, text-too-long, words-not-marks}
 use Rattle.tree.specs.Leaf.{Leaf}
 use Rattle.tree.specs.Layout.{record-size}
 use Rattle.tree.specs.Limits.{longest-expression, most-records, most-pieces, longest-text}
@@ -74,14 +75,14 @@ unpacks r number flag x y h e = record {
 
 -- the numbers that reading can answer
 pub record Read-ranges (n : Numbers) : Type 0 where
-  pub refusal-small : n .refusal ≤ 9
+  pub refusal-small : n .refusal ≤ buffer-too-short
   pub place-small : n .place ≤ longest-expression
   pub records-small : n .records ≤ most-records
   pub pieces-small : n .pieces ≤ most-pieces
 
 -- by the two tests of an expression that is read: the records have at most 15 nodes for each of at most 128 pieces
 picked-ranges : (t : Tree Leaf) (many short : Bool) → ltb most-pieces (piece-count t) ≡ many
-    → Read-ranges (cond many (refusing 8 0) (cond short (refusing 9 0) (reading t)))
+    → Read-ranges (cond many (refusing too-many-pieces 0) (cond short (refusing buffer-too-short 0) (reading t)))
 picked-ranges t true short e = record {
   refusal-small = omega arith;
   place-small = omega arith;
@@ -129,11 +130,11 @@ read-ranges bytes room n e = rw e (answered-ranges bytes room)
 
 -- the numbers that match and search can give back: a part found lies in a text of at most 65,536 bytes
 pub record Found-ranges (n : Found-numbers) : Type 0 where
-  pub refusal-small : n .refusal ≤ 11
+  pub refusal-small : n .refusal ≤ text-too-long
   pub x-small : n .place + n .start ≤ longest-text
   pub y-small : n .end ≤ longest-text
 
-refused-ranges : {list text : List ℕ} {number : ℕ} → Refuses list text number → number ≤ 11
+refused-ranges : {list text : List ℕ} {number : ℕ} → Refuses list text number → number ≤ text-too-long
 refused-ranges (not-good why) = omega arith
 refused-ranges (too-long a) = omega arith
 
@@ -155,10 +156,10 @@ search-ranges (search-nothing a) = record { refusal-small = omega arith; x-small
 
 -- the numbers that start and step can give back
 pub record Marks-ranges (n : Marks-numbers) : Type 0 where
-  pub refusal-small : n .refusal ≤ 13
+  pub refusal-small : n .refusal ≤ words-not-marks
   pub front : n .place ≡ 0
 
-refused-marks : {number : ℕ} {why : Type 0} {before after : List ℕ} {n : Marks-numbers} → number ≤ 13
+refused-marks : {number : ℕ} {why : Type 0} {before after : List ℕ} {n : Marks-numbers} → number ≤ words-not-marks
     → Refused number why before after n → Marks-ranges n
 refused-marks small r =
     record {
@@ -194,10 +195,10 @@ pick-length-small input before after NoRoom right = omega arith
 
 -- a number and a flag of a case are small
 pub record Small-case (number flag : ℕ) : Type 0 where
-  pub number-small : number ≤ 13
+  pub number-small : number ≤ words-not-marks
   pub flag-small : flag ≤ 1
 
-small : (number flag : ℕ) → number ≤ 13 → flag ≤ 1 → Small-case number flag
+small : (number flag : ℕ) → number ≤ words-not-marks → flag ≤ 1 → Small-case number flag
 small number flag n f = record { number-small = n; flag-small = f }
 
 flag-small : (flag : Bool) → cond flag 1 0 ≤ 1

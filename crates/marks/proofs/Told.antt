@@ -6,6 +6,7 @@ use native.Mathlib.Omega.{arith}
 use lib.ListN.{length, getD}
 use denote.Enum.Declared.{tagOf}
 use Rattle.tree.specs.Limits.{slot-count}
+use Rattle.tree.specs.RefusalNumbers.{list-not-good, too-few-words, words-not-marks}
 use Rattle.tree.specs.Judged.{Judged, Counts-below}
 use Rattle.tree.specs.declared.good.Decided.{Decided}
 use Rattle.tree.specs.declared.good.Decided.the-variants.{Good as good, NotGood as not-good}
@@ -37,7 +38,7 @@ told-not-good not-good tag judged = judged .fits
 
 -- the refusals of a start or a step, in the order of its cases
 abbrev refusals : List ℕ
-refusals = 10 ∷ 12 ∷ 13 ∷ []
+refusals = list-not-good ∷ too-few-words ∷ words-not-marks ∷ []
 
 -- a case past the first is a refusal
 pub told-refusal : (answer : MarksAnswer) (place : ℕ) → tagOf answer-type answer ≡ suc place

@@ -1,6 +1,7 @@
 -- The numbers that a start or a step gives back: one definition for each case of its answer, by the table of refusals.
 use Prim.Native.Nat.{ℕ}
 use mathlib.Core.Bool.{Bool, false}
+use Rattle.tree.specs.RefusalNumbers.{list-not-good, too-few-words, words-not-marks}
 use Rattle.marks.specs.declared.MarksAnswer.{MarksAnswer}
 use Rattle.marks.specs.declared.MarksAnswer.the-variants.{Marked, NotGood, TooFewWords, NotMarks}
 -- the refusal's number, 0 for none, and its place; whether the root's accepting state is now marked
@@ -17,6 +18,6 @@ marking accepting = record { refusal = 0; place = 0; accepting = accepting }
 -- the numbers that each case of an answer gives back
 abbrev pub numbers : MarksAnswer → Numbers
 numbers (Marked accepting) = marking accepting
-numbers NotGood = refusing 10
-numbers TooFewWords = refusing 12
-numbers NotMarks = refusing 13
+numbers NotGood = refusing list-not-good
+numbers TooFewWords = refusing too-few-words
+numbers NotMarks = refusing words-not-marks

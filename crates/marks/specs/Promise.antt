@@ -9,6 +9,7 @@ use lib.ListN.{length, drop}
 use Rattle.language.specs.Tree.{Tree}
 use Rattle.language.specs.Automaton.{States, accepting, Started, Stepped}
 use Rattle.language.specs.Nested.{Models}
+use Rattle.tree.specs.RefusalNumbers.{list-not-good, too-few-words, words-not-marks}
 use Rattle.tree.specs.Leaf.{Leaf, meaning}
 use Rattle.tree.specs.Records.{Good, piece-count}
 use Rattle.tables.specs.Words.{Holds, Clean, Agreeing, Set-of}
@@ -57,8 +58,8 @@ Not-marks list words = (t : Tree Leaf) × Good list t × (piece-count t ≤ leng
 
 -- what start gives back, and the words afterwards: they hold the closing of the root's start
 pub data Starts (list before after : List ℕ) (n : Numbers) : Type 0 where
-  start-not-good : Refused 10 (Not-good list) before after n → Starts list before after n
-  start-too-few : Refused 12 (Too-few list before) before after n → Starts list before after n
+  start-not-good : Refused list-not-good (Not-good list) before after n → Starts list before after n
+  start-too-few : Refused too-few-words (Too-few list before) before after n → Starts list before after n
   started : Made list (λ t. Started meaning t) before after n → Starts list before after n
 
 -- from marks, the states that a path from a marked state reading the byte and then any number of empty transitions
@@ -69,7 +70,7 @@ pub record Moves-on (list : List ℕ) (byte : ℕ) (before after : List ℕ) (n 
 
 -- what step gives back, and the words afterwards
 pub data Steps (list : List ℕ) (byte : ℕ) (before after : List ℕ) (n : Numbers) : Type 0 where
-  step-not-good : Refused 10 (Not-good list) before after n → Steps list byte before after n
-  step-too-few : Refused 12 (Too-few list before) before after n → Steps list byte before after n
-  step-not-marks : Refused 13 (Not-marks list before) before after n → Steps list byte before after n
+  step-not-good : Refused list-not-good (Not-good list) before after n → Steps list byte before after n
+  step-too-few : Refused too-few-words (Too-few list before) before after n → Steps list byte before after n
+  step-not-marks : Refused words-not-marks (Not-marks list before) before after n → Steps list byte before after n
   stepped : Moves-on list byte before after n → Steps list byte before after n

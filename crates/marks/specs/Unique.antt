@@ -9,6 +9,7 @@ use mathlib.Core.List.{List, _++_}
 use lib.ListN.{length, take, take-append-drop}
 use Rattle.language.specs.Tree.{Tree}
 use Rattle.language.specs.Automaton.{accepting, States, Started, Stepped}
+use Rattle.tree.specs.RefusalNumbers.{list-not-good, too-few-words, words-not-marks}
 use Rattle.tree.specs.Leaf.{Leaf, meaning}
 use Rattle.tree.specs.Records.{Good, piece-count}
 use Rattle.tree.specs.Readback.{good-unique}
@@ -100,9 +101,9 @@ module _ (list before : List ℕ) where
 
     -- what start and step both promise
     data Gives-back (after : List ℕ) (n : Numbers) : Type 0 where
-      not-good : Refused 10 (Not-good list) before after n → Gives-back after n
-      too-few : Refused 12 (Of-list Few) before after n → Gives-back after n
-      not-marks : Refused 13 (Of-list Bad) before after n → Gives-back after n
+      not-good : Refused list-not-good (Not-good list) before after n → Gives-back after n
+      too-few : Refused too-few-words (Of-list Few) before after n → Gives-back after n
+      not-marks : Refused words-not-marks (Of-list Bad) before after n → Gives-back after n
       makes : (made : Made list X before after n) → Fine (made .t) → Gives-back after n
 
     -- the list is good, and the words are taken
@@ -121,7 +122,7 @@ module _ (list before : List ℕ) where
 
     module _ {after : List ℕ} {n : Numbers} where
       -- so each row of the table is given exactly when it says: 10
-      not-good-exactly : Gives-back after n → (n .refusal ≡ 10) ↔ Not-good list
+      not-good-exactly : Gives-back after n → (n .refusal ≡ list-not-good) ↔ Not-good list
       not-good-exactly (not-good a) = (λ e. a .because, λ why. rw (a .refuses))
       not-good-exactly (too-few a) =
           (λ e. absurd (other-number a e (omega arith)), λ why. absurd (why (a .because .0) (a .because .1)))
@@ -131,7 +132,7 @@ module _ (list before : List ℕ) where
           (λ e. absurd (none-refused made e (omega arith)), λ why. absurd (why (made .t) (made .good)))
 
       -- 12
-      too-few-exactly : Gives-back after n → (n .refusal ≡ 12) ↔ Of-list Few
+      too-few-exactly : Gives-back after n → (n .refusal ≡ too-few-words) ↔ Of-list Few
       too-few-exactly (not-good a) =
           (λ e. absurd (other-number a e (omega arith)), λ why. absurd (a .because (why .0) (why .1)))
       too-few-exactly (too-few a) = (λ e. a .because, λ why. rw (a .refuses))
@@ -141,7 +142,7 @@ module _ (list before : List ℕ) where
           (λ e. absurd (none-refused made e (omega arith)), λ why. absurd (clash few-taken why (taken made fine)))
 
       -- 13
-      not-marks-exactly : Gives-back after n → (n .refusal ≡ 13) ↔ Of-list Bad
+      not-marks-exactly : Gives-back after n → (n .refusal ≡ words-not-marks) ↔ Of-list Bad
       not-marks-exactly (not-good a) =
           (λ e. absurd (other-number a e (omega arith)), λ why. absurd (a .because (why .0) (why .1)))
       not-marks-exactly (too-few a) =
@@ -198,11 +199,11 @@ module _ (list before : List ℕ) where
     answers-unique : {after after' : List ℕ} {n n' : Numbers} → Gives-back after n → Gives-back after' n'
         → (n ≡ n') × (after ≡ after')
     answers-unique (not-good a) b =
-        both-refused 10 (omega arith) (a .refuses) (a .unchanged) b (not-good-exactly b .1 (a .because))
+        both-refused list-not-good (omega arith) (a .refuses) (a .unchanged) b (not-good-exactly b .1 (a .because))
     answers-unique (too-few a) b =
-        both-refused 12 (omega arith) (a .refuses) (a .unchanged) b (too-few-exactly b .1 (a .because))
+        both-refused too-few-words (omega arith) (a .refuses) (a .unchanged) b (too-few-exactly b .1 (a .because))
     answers-unique (not-marks a) b =
-        both-refused 13 (omega arith) (a .refuses) (a .unchanged) b (not-marks-exactly b .1 (a .because))
+        both-refused words-not-marks (omega arith) (a .refuses) (a .unchanged) b (not-marks-exactly b .1 (a .because))
     answers-unique (makes made fine) b = made-unique made (made-by b (taken-exactly b .1 (taken made fine)))
 
 -- what start promises, in these words: nothing is asked of the words lent
@@ -230,11 +231,11 @@ module _ {list before : List ℕ} where
 
   module _ {after : List ℕ} {n : Numbers} (s : Starts list before after n) where
     -- start answers 10 exactly when the list is not good
-    pub starts-not-good : (n .refusal ≡ 10) ↔ Not-good list
+    pub starts-not-good : (n .refusal ≡ list-not-good) ↔ Not-good list
     starts-not-good = not-good-exactly list before _ _ (starts-answers s)
 
     -- 12 exactly when it is good and fewer words are lent than there are pieces
-    pub starts-too-few : (n .refusal ≡ 12) ↔ Too-few list before
+    pub starts-too-few : (n .refusal ≡ too-few-words) ↔ Too-few list before
     starts-too-few = too-few-exactly list before _ _ (starts-answers s)
 
     -- and no refusal exactly when it is good and there are words enough
@@ -251,15 +252,15 @@ module _ {list : List ℕ} {byte : ℕ} {before : List ℕ} where
 
   module _ {after : List ℕ} {n : Numbers} (s : Steps list byte before after n) where
     -- step answers 10 exactly when the list is not good
-    pub steps-not-good : (n .refusal ≡ 10) ↔ Not-good list
+    pub steps-not-good : (n .refusal ≡ list-not-good) ↔ Not-good list
     steps-not-good = not-good-exactly list before _ _ (steps-answers s)
 
     -- 12 exactly when it is good and fewer words are lent than there are pieces
-    pub steps-too-few : (n .refusal ≡ 12) ↔ Too-few list before
+    pub steps-too-few : (n .refusal ≡ too-few-words) ↔ Too-few list before
     steps-too-few = too-few-exactly list before _ _ (steps-answers s)
 
     -- 13 exactly when it is good, there are words enough, and they are no marks of it
-    pub steps-not-marks : (n .refusal ≡ 13) ↔ Not-marks list before
+    pub steps-not-marks : (n .refusal ≡ words-not-marks) ↔ Not-marks list before
     steps-not-marks =
         Iff·trans (not-marks-exactly list before _ _ (steps-answers s))
         (λ (t, good, bad). (t, good, bad .0, bad .1), λ (t, good, enough, bad). (t, good, (enough, bad)))

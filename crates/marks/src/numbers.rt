@@ -1,5 +1,8 @@
 // The numbers of an answer, for callers that print or pack them.
 use crate::MarksAnswer;
+use tree::refusal_numbers::LIST_NOT_GOOD;
+use tree::refusal_numbers::TOO_FEW_WORDS;
+use tree::refusal_numbers::WORDS_NOT_MARKS;
 ghost use mathlib.Core.Path.{_≡_};
 ghost use Rattle.marks.specs.Answer.{numbers};
 
@@ -23,9 +26,9 @@ pub fn numbers_of(answer: MarksAnswer) -> Numbers
             place: 0,
             accepting,
         },
-        MarksAnswer::NotGood => refusing(10),
-        MarksAnswer::TooFewWords => refusing(12),
-        MarksAnswer::NotMarks => refusing(13),
+        MarksAnswer::NotGood => refusing(LIST_NOT_GOOD),
+        MarksAnswer::TooFewWords => refusing(TOO_FEW_WORDS),
+        MarksAnswer::NotMarks => refusing(WORDS_NOT_MARKS),
     }
 }
 

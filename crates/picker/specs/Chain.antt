@@ -7,6 +7,7 @@ use mathlib.Core.Logic.{_↔_, Iff·rfl, Iff·symm, Iff·trans, Iff·and}
 use mathlib.Core.List.{List}
 use lib.ListN.{length, take}
 use Rattle.language.specs.Tree.{Tree}
+use Rattle.tree.specs.Layout.{record-size}
 use Rattle.tree.specs.Leaf.{Leaf, Matches}
 use Rattle.tree.specs.Readback.{good-unique}
 use Rattle.tree.specs.Limits.{longest-text}
@@ -63,12 +64,12 @@ module _ {bytes before after : List ℕ} {records pieces : ℕ} (accepted : Acce
     )
 
     -- the records that were written are a good list, so what is answered of the list is answered of the tree
-    of-read : (text : List ℕ) (P : Tree Leaf → Type 0) → Of-good (take (8 * records) after) text P
+    of-read : (text : List ℕ) (P : Tree Leaf → Type 0) → Of-good (take (record-size * records) after) text P
         ↔ ((length text ≤ longest-text) × P (held .read))
     of-read text P = (
       λ o. (
         o .short,
-        subst P (good-unique (take (8 * records) after) (o .t) (held .read) (o .good) (held .good))
+        subst P (good-unique (take (record-size * records) after) (o .t) (held .read) (o .good) (held .good))
             (o .holds),
       ),
       λ (short, holds). record { t = held .read; good = held .good; short = short; holds = holds },
@@ -77,7 +78,8 @@ module _ {bytes before after : List ℕ} {records pieces : ℕ} (accepted : Acce
     module _ (text : List ℕ) where
       -- match answers yes or no exactly when the text has at most 65,536 bytes and is in the expression's language or
       -- not
-      pub read-then-match : (matched : Bool) → Match-answers (take (8 * records) after) text (answering matched)
+      pub read-then-match : (matched : Bool)
+          → Match-answers (take (record-size * records) after) text (answering matched)
           ↔ ((length text ≤ longest-text) × ((matched ≡ true) ↔ In-expression bytes text))
       read-then-match matched =
           Iff·trans (match-exactly _ text matched)
@@ -88,7 +90,7 @@ module _ {bytes before after : List ℕ} {records pieces : ℕ} (accepted : Acce
           )))
 
       -- search finds the part that starts earliest and then ends furthest, of those in the language of the expression
-      pub read-then-search : (s e : ℕ) → Search-answers (take (8 * records) after) text (finding s e)
+      pub read-then-search : (s e : ℕ) → Search-answers (take (record-size * records) after) text (finding s e)
           ↔ ((length text ≤ longest-text) × Found (In-expression bytes) text s e)
       read-then-search s e =
           Iff·trans (search-found-exactly _ text s e)
@@ -96,7 +98,7 @@ module _ {bytes before after : List ℕ} {records pieces : ℕ} (accepted : Acce
           (Iff·and Iff·rfl (found-same text same-language s e, found-same text (λ w. Iff·symm (same-language w)) s e)))
 
       -- and nothing exactly when no part is
-      pub read-then-nothing : Search-answers (take (8 * records) after) text (answering false)
+      pub read-then-nothing : Search-answers (take (record-size * records) after) text (answering false)
           ↔ ((length text ≤ longest-text) × Nothing-found (In-expression bytes) text)
       read-then-nothing =
           Iff·trans (search-nothing-exactly _ text)

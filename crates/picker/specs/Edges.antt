@@ -10,6 +10,7 @@ use lib.Dec.{eqb, ltb}
 use borrow.Author.Tests.{eqb-true, le-ltb, ltb-false}
 use native.Mathlib.Omega.{arith}
 use Rattle.language.specs.Tree.{Tree, nodes}
+use Rattle.tree.specs.Layout.{record-size}
 use Rattle.tree.specs.Leaf.{Leaf, Matches}
 use Rattle.tree.specs.Limits.{longest-text, most-pieces}
 use Rattle.tree.specs.Records.{Good, piece-count}
@@ -77,11 +78,11 @@ pub data Row : Type 0 where
 -- the expression is read, with so many records and pieces, into every buffer that has room for them; and of the list of
 -- records that the buffer then begins with, this holds
 pub record Read (expression : List ℕ) (records pieces : ℕ) (Says : List ℕ → Type 0) : Type 0 where
-  pub gives : (buffer : List ℕ) → 8 * records ≤ length buffer
+  pub gives : (buffer : List ℕ) → record-size * records ≤ length buffer
       → answered expression (length buffer)
       ≡ record { refusal = 0; place = 0; records = records; pieces = pieces }
-  pub says : (buffer : List ℕ) → 8 * records ≤ length buffer
-      → Says (take (8 * records) (records-after expression buffer))
+  pub says : (buffer : List ℕ) → record-size * records ≤ length buffer
+      → Says (take (record-size * records) (records-after expression buffer))
 
 -- each step leaves what is said, from the words that were left before it
 abbrev pub Each-step : (list words : List ℕ) → List Step → Type 0
@@ -215,16 +216,16 @@ module _ (expression : List ℕ) (Says : List ℕ → Type 0) where
   tree-read : (t : Tree Leaf) → scanned expression ≡ tree t → ltb most-pieces (piece-count t) ≡ false
       → ((list : List ℕ) → Good list t → Says list) → Read expression (nodes t) (piece-count t) Says
   tree-read t scans few says =
-      let given : (buffer : List ℕ) → 8 * nodes t ≤ length buffer → answered expression (length buffer)
+      let given : (buffer : List ℕ) → record-size * nodes t ≤ length buffer → answered expression (length buffer)
       ≡ record { refusal = 0; place = 0; records = nodes t; pieces = piece-count t } =
-      λ buffer room. rw (scans, few, le-ltb (length buffer) (8 * nodes t) room) in
+      λ buffer room. rw (scans, few, le-ltb (length buffer) (record-size * nodes t) room) in
       record {
         gives = given;
         says = λ buffer room.
             let k = kept expression buffer (records-after expression buffer) (nodes t) (piece-count t)
             (sym (given buffer room)) refl in
             let same : k .read ≡ t = same-tree (k .scans) scans in
-            says (take (8 * nodes t) (records-after expression buffer)) (rw same at (k .good));
+            says (take (record-size * nodes t) (records-after expression buffer)) (rw same at (k .good));
       }
     where
       same-tree : {s u : Tree Leaf} → scanned expression ≡ tree s → scanned expression ≡ tree u → s ≡ u

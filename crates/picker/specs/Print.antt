@@ -5,6 +5,7 @@ use mathlib.Core.List.{List, [], _∷_, _++_}
 use lib.ListN.{length}
 use lib.Dec.{ltb}
 use Rattle.language.specs.Tree.{Tree}
+use Rattle.tree.specs.RefusalNumbers.{too-many-pieces}
 use Rattle.tree.specs.Leaf.{Leaf}
 use Rattle.tree.specs.Limits.{most-pieces}
 use Rattle.tree.specs.Records.{piece-count}
@@ -17,7 +18,7 @@ use Rattle.picker.specs.Digits.{digits}
 
 -- a tree is refused with 8 where its cut has more than 128 pieces
 abbrev pub few-pieces : Outcome → Outcome
-few-pieces (tree t) = cond (ltb most-pieces (piece-count t)) (refused 8 0) (tree t)
+few-pieces (tree t) = cond (ltb most-pieces (piece-count t)) (refused too-many-pieces 0) (tree t)
 few-pieces (refused number place) = refused number place
 
 -- what reading an expression comes to, where there is room for its records

@@ -8,6 +8,7 @@ use lib.ListN.{length, drop}
 use lib.Dec.{ltb}
 use borrow.Author.Tests.{ltb-true, ltb-false, le-ltb}
 use Rattle.language.specs.Tree.{Tree, nodes}
+use Rattle.tree.specs.RefusalNumbers.{too-many-pieces, buffer-too-short}
 use Rattle.tree.specs.Leaf.{Leaf}
 use Rattle.tree.specs.Layout.{record-size}
 use Rattle.tree.specs.Limits.{most-pieces, most-records}
@@ -44,11 +45,12 @@ records-fit t few = omega (arith, nodes-per-piece t, ltb-false most-pieces (piec
 told-tree : (bytes : List ℕ) (room number place : ℕ) → record-size * most-records ≤ room
     → (t : Tree Leaf) (many short : Bool)
     → ltb most-pieces (piece-count t) ≡ many → ltb room (record-size * nodes t) ≡ short → few-pieces (scanned bytes)
-    ≡ cond many (refused 8 0) (tree t)
-    → refusing number place ≡ cond many (refusing 8 0) (cond short (refusing 9 0) (reading t))
+    ≡ cond many (refused too-many-pieces 0) (tree t)
+    → refusing number place
+    ≡ cond many (refusing too-many-pieces 0) (cond short (refusing buffer-too-short 0) (reading t))
     → Refusal-read bytes number place
 told-tree bytes room number place large t true short m h outcome e =
-    let eight : number ≡ 8 = ap (λ (n : Numbers). n .refusal) e in
+    let eight : number ≡ too-many-pieces = ap (λ (n : Numbers). n .refusal) e in
     let front : place ≡ 0 = ap (λ (n : Numbers). n .place) e in
     record { outcome = rw (eight, front) outcome; small-number = omega arith; small-place = omega arith }
 told-tree bytes room number place large t false true m h outcome e =

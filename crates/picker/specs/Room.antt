@@ -8,6 +8,7 @@ use native.Mathlib.Omega.{arith}
 use lib.ListN.{length, length-append}
 use lib.Dec.{ltb}
 use Rattle.language.specs.Tree.{Tree}
+use Rattle.tree.specs.RefusalNumbers.{too-many-pieces}
 use Rattle.tree.specs.Leaf.{Leaf}
 use Rattle.tree.specs.Limits.{most-pieces}
 use Rattle.tree.specs.Records.{piece-count}
@@ -82,8 +83,9 @@ module _ (matching : Tree Leaf → List ℕ → Bool) where
       omega (arith, refusal-line-length number place (omega (arith, bounds)) (omega (arith, bounds)))
   reported-length expr (tree t) e later h = either (ltb most-pieces (piece-count t))
     where
-      either : (test : Bool) → length (reported matching (cond test (refused 8 0) (tree t)) later) ≤ most-output
-      either true = omega (arith, refusal-line-length 8 0 (omega arith) (omega arith))
+      either : (test : Bool)
+          → length (reported matching (cond test (refused too-many-pieces 0) (tree t)) later) ≤ most-output
+      either true = omega (arith, refusal-line-length too-many-pieces 0 (omega arith) (omega arith))
       either false =
           let long = written-size (scanned-exactly expr t .0 e .1) in
           omega (arith, text-lines-length t later 0 0 (omega arith) (omega (arith, long)), long)

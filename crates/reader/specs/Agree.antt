@@ -11,6 +11,7 @@ use lib.Dec.{ltb}
 use borrow.Author.Tests.{ltb-true, ltb-false}
 use Rattle.language.specs.Tree.{Tree, nodes}
 use Rattle.tree.specs.Limits.{longest-expression}
+use Rattle.tree.specs.RefusalNumbers.{expression-empty, expression-too-long}
 use Rattle.tree.specs.Leaf.{Leaf}
 use Rattle.reader.specs.Scanner.{Outcome, tree, refused, due, nothing, scan, scanned}
 use Rattle.reader.specs.Grammar.{
@@ -59,8 +60,8 @@ written-size w = omega (arith, reads-size w)
 
 -- what scanning a whole expression comes to: 1 for no bytes, 2 for more than 1,024, and else what the scan gives
 pub data Case (bytes : List ℕ) : Outcome → Type 0 where
-  empty : bytes ≡ [] → Case bytes (refused 1 0)
-  long : longest-expression < length bytes → Case bytes (refused 2 longest-expression)
+  empty : bytes ≡ [] → Case bytes (refused expression-empty 0)
+  long : longest-expression < length bytes → Case bytes (refused expression-too-long longest-expression)
   usual : 0 < length bytes → length bytes ≤ longest-expression → Case bytes (scan bytes 0 due nothing [])
 
 -- every expression is one of the three
@@ -70,7 +71,8 @@ cases [] = empty refl
 cases (b ∷ rest) = go (ltb longest-expression (suc (length rest))) refl
   where
     go : (test : Bool) → ltb longest-expression (suc (length rest)) ≡ test
-        → Case (b ∷ rest) (cond test (refused 2 longest-expression) (scan (b ∷ rest) 0 due nothing []))
+        → Case (b ∷ rest)
+        (cond test (refused expression-too-long longest-expression) (scan (b ∷ rest) 0 due nothing []))
     go true e = long (ltb-true longest-expression (suc (length rest)) e)
     go false e = usual (omega arith) (ltb-false longest-expression (suc (length rest)) e)
 
@@ -98,13 +100,14 @@ scanned-exactly bytes t = (tree-case (cases bytes), λ (h, w). written-case (cas
 -- the number of a refusal tells the case apart, since the scan itself gives none below 3
 module _ {bytes : List ℕ} {place : ℕ} where
   -- 1 comes from no bytes alone
-  empty-case : {outcome : Outcome} → Case bytes outcome → outcome ≡ refused 1 place → (bytes ≡ []) × (place ≡ 0)
+  empty-case : {outcome : Outcome} → Case bytes outcome → outcome ≡ refused expression-empty place
+      → (bytes ≡ []) × (place ≡ 0)
   empty-case (empty p) e = (p, cc)
   empty-case (long h) e = let z : _≡_ {A = ℕ} 2 1 = cc in absurd (omega arith)
   empty-case (usual h k) e = absurd (omega (arith, refused-cases bytes 1 place e))
 
   -- 2 comes from more than 1,024 bytes alone
-  long-case : {outcome : Outcome} → Case bytes outcome → outcome ≡ refused 2 place
+  long-case : {outcome : Outcome} → Case bytes outcome → outcome ≡ refused expression-too-long place
       → (longest-expression < length bytes) × (place ≡ longest-expression)
   long-case (empty p) e = let z : _≡_ {A = ℕ} 1 2 = cc in absurd (omega arith)
   long-case (long h) e = (h, cc)
@@ -112,18 +115,19 @@ module _ {bytes : List ℕ} {place : ℕ} where
 
   -- and more than 1,024 bytes give 2
   long-given : {outcome : Outcome} → Case bytes outcome → longest-expression < length bytes → place
-      ≡ longest-expression → outcome ≡ refused 2 place
+      ≡ longest-expression → outcome ≡ refused expression-too-long place
   long-given (empty p) h q = let none : length bytes ≡ 0 = rw p in absurd (omega arith)
   long-given (long k) h q = rw q
   long-given (usual k l) h q = absurd (omega arith)
 
 -- 1 is given exactly when the expression has no bytes, at place 0
-pub one-exactly : (bytes : List ℕ) (place : ℕ) → (scanned bytes ≡ refused 1 place) ↔ ((bytes ≡ []) × (place ≡ 0))
+pub one-exactly : (bytes : List ℕ) (place : ℕ) → (scanned bytes ≡ refused expression-empty place)
+    ↔ ((bytes ≡ []) × (place ≡ 0))
 unfolding scanned
 one-exactly bytes place = (empty-case (cases bytes), λ (p, q). rw (p, q))
 
 -- 2 is given exactly when it has more than 1,024 bytes, at place 1,024
-pub two-exactly : (bytes : List ℕ) (place : ℕ) → (scanned bytes ≡ refused 2 place)
+pub two-exactly : (bytes : List ℕ) (place : ℕ) → (scanned bytes ≡ refused expression-too-long place)
     ↔ ((longest-expression < length bytes) × (place ≡ longest-expression))
 two-exactly bytes place = (long-case (cases bytes), λ (h, q). long-given (cases bytes) h q)
 
@@ -136,11 +140,10 @@ pub record Refusal (number place : ℕ) : Type 0 where
 -- in each of the three cases
 refusal-case : {bytes : List ℕ} {outcome : Outcome} {number place : ℕ} → Case bytes outcome
     → outcome ≡ refused number place → Refusal number place
-refusal-case {number = number} {place = place} (empty p) e = let n : 1 ≡ number = cc in let at : 0 ≡ place =
-    cc in omega arith
-refusal-case {number = number} {place = place} (long h) e = let n : 2 ≡ number = cc in let at : longest-expression
-    ≡ place =
-    cc in omega arith
+refusal-case {number = number} {place = place} (empty p) e =
+    let n : expression-empty ≡ number = cc in let at : 0 ≡ place = cc in omega arith
+refusal-case {number = number} {place = place} (long h) e =
+    let n : expression-too-long ≡ number = cc in let at : longest-expression ≡ place = cc in omega arith
 refusal-case {bytes = bytes} (usual h k) e = omega (arith, refused-cases bytes _ _ e)
 
 -- so is every refusal of an expression

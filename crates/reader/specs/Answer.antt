@@ -6,6 +6,7 @@ use lib.ListN.{length, drop}
 use lib.Dec.{ltb}
 use Rattle.language.specs.Tree.{Tree, nodes}
 use Rattle.tree.specs.Limits.{most-pieces}
+use Rattle.tree.specs.RefusalNumbers.{too-many-pieces, buffer-too-short}
 use Rattle.tree.specs.Layout.{record-size}
 use Rattle.tree.specs.Leaf.{Leaf}
 use Rattle.tree.specs.Records.{encode, piece-count}
@@ -38,8 +39,8 @@ numbers (Refused number place) = refusing number place
 abbrev pub answer-for : Outcome → (room : ℕ) → Numbers
 answer-for (refused number place) room = refusing number place
 answer-for (tree t) room =
-    cond (ltb most-pieces (piece-count t)) (refusing 8 0) (cond (ltb room (record-size * nodes t)) (refusing 9 0)
-    (reading t))
+    cond (ltb most-pieces (piece-count t)) (refusing too-many-pieces 0)
+    (cond (ltb room (record-size * nodes t)) (refusing buffer-too-short 0) (reading t))
 
 -- what the buffer holds afterwards: the records, and past them what it held; the same as before where the expression is
 -- refused

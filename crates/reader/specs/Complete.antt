@@ -8,6 +8,7 @@ use lib.ListN.{length}
 use native.Mathlib.Omega.{arith}
 use borrow.Author.Tests.{lt-ltb}
 use Rattle.language.specs.Tree.{Tree, catenation, union, star}
+use Rattle.tree.specs.Limits.{most-groups}
 use Rattle.tree.specs.Leaf.{Leaf}
 use Rattle.reader.specs.Scanner.{
   tree,
@@ -87,7 +88,8 @@ begins (one-branch r) = begins r
 begins (next-branch r q) = begins r
 
 -- a group passes over its `(`, what it holds, and its `)`
-grouped : {depth : ℕ} {bytes rest : List ℕ} {t : Tree Leaf} → depth < 32 → Passes united (depth + 1) bytes (41 ∷ rest) t
+grouped : {depth : ℕ} {bytes rest : List ℕ} {t : Tree Leaf} → depth < most-groups
+    → Passes united (depth + 1) bytes (41 ∷ rest) t
     → Passes single depth (40 ∷ bytes) rest t
 unfolding scan
 grouped {depth = depth} {rest = rest} h inside place before groups e =
@@ -96,7 +98,7 @@ grouped {depth = depth} {rest = rest} h inside place before groups e =
     record {
       next = on .next + 1;
       counted = omega (arith, on .counted);
-      same = rw (lt-ltb (length groups) 32 (omega arith))
+      same = rw (lt-ltb (length groups) most-groups (omega arith))
           (on .same ∙ ap (λ (x : Tree Leaf). scan rest (on .next + 1) (after x) before groups) made);
     }
 

@@ -13,6 +13,7 @@ use lib.Dec.{ltb}
 use borrow.Author.Tests.{ltb-false, le-ltb}
 use Rattle.language.specs.Tree.{Tree, nodes}
 use Rattle.tree.specs.Limits.{most-pieces, longest-expression, most-labels}
+use Rattle.tree.specs.RefusalNumbers.{too-many-pieces, buffer-too-short}
 use Rattle.tree.specs.Layout.{record-size}
 use Rattle.tree.specs.Leaf.{Leaf}
 use Rattle.tree.specs.Cut.{Cut, Fits, pieces}
@@ -41,7 +42,8 @@ pub record Fit-to-read (bytes : List ℕ) (room : ℕ) : Type 0 where
 
 -- of the answers to a tree, only the one past both tests is no refusal
 past-both : (t : Tree Leaf) (many short : Bool)
-    → cond many (refusing 8 0) (cond short (refusing 9 0) (reading t)) .refusal ≡ 0 → (many ≡ false) × (short ≡ false)
+    → cond many (refusing too-many-pieces 0) (cond short (refusing buffer-too-short 0) (reading t)) .refusal ≡ 0
+    → (many ≡ false) × (short ≡ false)
 past-both t true short e = absurd (omega arith)
 past-both t false true e = absurd (omega arith)
 past-both t false false e = (refl, refl)

@@ -8,6 +8,7 @@ use lib.ListN.{length, take}
 use borrow.Author.Tests.{lt-ltb, le-ltb}
 use Rattle.language.specs.Tree.{Tree}
 use Rattle.tree.specs.Limits.{longest-expression, most-labels}
+use Rattle.tree.specs.RefusalNumbers.{expression-empty, expression-too-long, closing-without-group}
 use Rattle.tree.specs.Leaf.{Leaf}
 use Rattle.tree.specs.Records.{labels}
 use Rattle.reader.specs.Scanner.{tree, refused, due, nothing, scan, scanned}
@@ -35,18 +36,20 @@ Expression-answer bytes later (Read next total) = Expression-read bytes later to
 Expression-answer bytes later (Refused number place) = Expression-refused bytes number place
 
 -- no bytes
-pub empty : (bytes : List ℕ) → length bytes ≡ 0 → Expression-refused bytes 1 0
+pub empty : (bytes : List ℕ) → length bytes ≡ 0 → Expression-refused bytes expression-empty 0
 unfolding scanned
 empty [] e = record { scans = refl }
 empty (b ∷ bytes) e = absurd (omega arith)
 
 -- too many bytes
-pub too-long : (bytes : List ℕ) → longest-expression < length bytes → Expression-refused bytes 2 longest-expression
+pub too-long : (bytes : List ℕ) → longest-expression < length bytes
+    → Expression-refused bytes expression-too-long longest-expression
 unfolding scanned
 too-long [] h = absurd (omega arith)
 too-long (b ∷ bytes) h =
     record {
-      scans = ap (λ (t : Bool). cond t (refused 2 longest-expression) (scan (b ∷ bytes) 0 due nothing []))
+      scans = ap (λ (t : Bool). cond t (refused expression-too-long longest-expression)
+          (scan (b ∷ bytes) 0 due nothing []))
           (lt-ltb longest-expression (length (b ∷ bytes)) h);
     }
 
@@ -55,7 +58,8 @@ sized : (bytes : List ℕ) → (length bytes ≡ 0 → ⊥) → length bytes ≤
     ≡ from bytes 0 due nothing []
 unfolding scanned from
 sized [] some h = absurd (some refl)
-sized (b ∷ bytes) some h = ap (λ (t : Bool). cond t (refused 2 longest-expression) (scan (b ∷ bytes) 0 due nothing []))
+sized (b ∷ bytes) some h = ap
+    (λ (t : Bool). cond t (refused expression-too-long longest-expression) (scan (b ∷ bytes) 0 due nothing []))
     (le-ltb longest-expression (length (b ∷ bytes)) h)
 
 module _ (bytes : List ℕ) (some : length bytes ≡ 0 → ⊥) (few : length bytes ≤ longest-expression) where
@@ -65,7 +69,7 @@ module _ (bytes : List ℕ) (some : length bytes ≡ 0 → ⊥) (few : length by
 
   module _ {next total : ℕ} {earlier later : List ℕ} (w : Whole united bytes 0 0 0 earlier next total later) where
     -- a `)` with no group open
-    pub unopened : next < length bytes → Expression-refused bytes 5 next
+    pub unopened : next < length bytes → Expression-refused bytes closing-without-group next
     unopened h =
         record {
           scans = sized bytes some few

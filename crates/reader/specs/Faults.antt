@@ -7,6 +7,8 @@ use native.Mathlib.Omega.{arith}
 use lib.ListN.{length}
 use lib.Dec.{ltb}
 use Rattle.language.specs.Tree.{Tree, leaf, star}
+use Rattle.tree.specs.Limits.{most-groups}
+use Rattle.tree.specs.RefusalNumbers.{operand-missing, too-many-groups, backslash-before-no-sign}
 use Rattle.tree.specs.Leaf.{Leaf, character}
 use Rattle.reader.specs.Bytes.{Sign, opening, closing, bar, asterisk, backslash, plain, sign-of, special}
 use Rattle.reader.specs.Scanner.{
@@ -34,8 +36,8 @@ use Rattle.reader.specs.Scanner.{
 
 -- a refusal of the scanner: its number is one of 3 to 7, its place is at most the end
 pub record Fault (end number place : ℕ) : Type 0 where
-  pub least : 3 ≤ number
-  pub most : number ≤ 7
+  pub least : operand-missing ≤ number
+  pub most : number ≤ backslash-before-no-sign
   pub inside : place ≤ end
 
 -- an outcome that is a tree, or such a refusal
@@ -67,7 +69,7 @@ module _ (end place : ℕ) (h : place ≤ end) (on : Onward) (fits : (phase : Ph
   operand-fits : (s : Sign) (b : ℕ) (before : Before) (groups : List Group) → Open-before end groups
       → Tree-or-fault end (operand s b place on before groups)
   operand-fits opening b before groups o =
-      picked-fits (ltb (length groups) 32) _ (refused 6 place)
+      picked-fits (ltb (length groups) most-groups) _ (refused too-many-groups place)
       (fits due nothing (record { place = place; outside = before } ∷ groups) tt (h, o)) (omega arith)
   operand-fits closing b before groups o = omega arith
   operand-fits bar b before groups o = omega arith
@@ -97,8 +99,8 @@ module _ (end place : ℕ) (h : place ≤ end) (on : Onward) (fits : (phase : Ph
       → Tree-or-fault end (byte-at b place phase on before groups)
   byte-fits b due before groups m o = operand-fits (sign-of b) b before groups o
   byte-fits b (escaping begin) before groups m o =
-      picked-fits (special (sign-of b)) _ (refused 7 begin) (fits (after (leaf (character b))) before groups tt o)
-      (omega arith)
+      picked-fits (special (sign-of b)) _ (refused backslash-before-no-sign begin)
+      (fits (after (leaf (character b))) before groups tt o) (omega arith)
   byte-fits b (after t) before groups m o = follow-fits (sign-of b) b t before groups o
 
 -- at the end in each phase

@@ -4,6 +4,7 @@ use mathlib.Core.Path.{_≡_}
 use mathlib.Core.Bool.{true}
 use mathlib.Core.List.{List, [], _∷_}
 use Rattle.language.specs.Tree.{Tree, leaf, catenation, union, star}
+use Rattle.tree.specs.Limits.{most-groups}
 use Rattle.tree.specs.Leaf.{Leaf, character}
 use Rattle.reader.specs.Bytes.{Sign, plain, sign-of, special}
 
@@ -17,7 +18,8 @@ pub data Spells : ℕ → Level → List ℕ → List ℕ → Tree Leaf → Type
   itself : {depth b : ℕ} {rest : List ℕ} → sign-of b ≡ plain → Spells depth single (b ∷ rest) rest (leaf (character b))
   escaped : {depth b : ℕ} {rest : List ℕ} → special (sign-of b) ≡ true
       → Spells depth single (92 ∷ b ∷ rest) rest (leaf (character b))
-  group : {depth : ℕ} {bytes rest : List ℕ} {t : Tree Leaf} → depth < 32 → Spells (depth + 1) united bytes (41 ∷ rest) t
+  group : {depth : ℕ} {bytes rest : List ℕ} {t : Tree Leaf} → depth < most-groups
+      → Spells (depth + 1) united bytes (41 ∷ rest) t
       → Spells depth single (40 ∷ bytes) rest t
   no-star : {depth : ℕ} {bytes rest : List ℕ} {t : Tree Leaf} → Spells depth single bytes rest t
       → Spells depth starred bytes rest t

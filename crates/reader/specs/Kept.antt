@@ -11,6 +11,7 @@ use lib.Dec.{ltb}
 use borrow.Author.Tests.{ltb-false}
 use Rattle.language.specs.Tree.{Tree, nodes}
 use Rattle.tree.specs.Limits.{most-pieces}
+use Rattle.tree.specs.RefusalNumbers.{too-many-pieces, buffer-too-short}
 use Rattle.tree.specs.Layout.{record-size}
 use Rattle.tree.specs.Leaf.{Leaf}
 use Rattle.tree.specs.Records.{encode, piece-count, Good}
@@ -44,8 +45,8 @@ numbers-injective (Refused number place) (Read records pieces) e sure =
 
 -- what is answered is a refusal, or has a record
 sure-pick : (t : Tree Leaf) (many short : Bool)
-    → cond many (refusing 8 0) (cond short (refusing 9 0) (reading t)) .refusal ≡ 0
-    → cond many (refusing 8 0) (cond short (refusing 9 0) (reading t)) .records ≡ 0 → ⊥
+    → cond many (refusing too-many-pieces 0) (cond short (refusing buffer-too-short 0) (reading t)) .refusal ≡ 0
+    → cond many (refusing too-many-pieces 0) (cond short (refusing buffer-too-short 0) (reading t)) .records ≡ 0 → ⊥
 sure-pick t true short e f = omega arith
 sure-pick t false true e f = omega arith
 sure-pick t false false e f = omega (arith, nodes-positive t)
@@ -75,7 +76,8 @@ pub record Kept (bytes before after : List ℕ) (records pieces : ℕ) : Type 0 
 
 kept-pick : (bytes before after : List ℕ) (records pieces : ℕ) (t : Tree Leaf) → scanned bytes ≡ tree t
     → (many short : Bool) → ltb most-pieces (piece-count t) ≡ many → ltb (length before) (record-size * nodes t) ≡ short
-    → numbers (Read records pieces) ≡ cond many (refusing 8 0) (cond short (refusing 9 0) (reading t))
+    → numbers (Read records pieces)
+    ≡ cond many (refusing too-many-pieces 0) (cond short (refusing buffer-too-short 0) (reading t))
     → after ≡ cond many before (cond short before (encode t ++ drop (record-size * nodes t) before))
     → Kept bytes before after records pieces
 kept-pick bytes before after records pieces t scans true short m h e f =
@@ -116,7 +118,7 @@ kept bytes before after records pieces e f = kept-outcome bytes before after rec
 
 -- where it answers a refusal, no byte of the buffer differs
 same-pick : (before : List ℕ) (number place : ℕ) (t : Tree Leaf) (many short : Bool) → numbers (Refused number place)
-    ≡ cond many (refusing 8 0) (cond short (refusing 9 0) (reading t))
+    ≡ cond many (refusing too-many-pieces 0) (cond short (refusing buffer-too-short 0) (reading t))
     → cond many before (cond short before (encode t ++ drop (record-size * nodes t) before)) ≡ before
 same-pick before number place t true short e = refl
 same-pick before number place t false true e = refl

@@ -9,6 +9,7 @@ use mathlib.Core.List.{List, [], _∷_, _++_, append-assoc}
 use lib.ListN.{length, take, getD, set}
 use lib.Seq.{take-suc-set}
 use Rattle.language.specs.Tree.{Tree, leaf, catenation, union, star}
+use Rattle.tree.specs.Limits.{most-groups}
 use Rattle.tree.specs.Leaf.{Leaf, character}
 use Rattle.tree.specs.Layout.{label-of}
 use Rattle.tree.specs.Records.{labels}
@@ -31,7 +32,7 @@ use Rattle.reader.specs.declared.part.Part.the-variants.{Read, Refused}
 -- the labels have room for what can be read from `at` on: at most two for each byte, less one
 pub record Scratch-room (bytes : List ℕ) (at depth count : ℕ) (scratch : List ℕ) : Type 0 where
   pub within : at ≤ length bytes
-  pub shallow : depth ≤ 32
+  pub shallow : depth ≤ most-groups
   pub enough : count + 2 * length bytes ≤ length scratch + 1 + 2 * at
 
 -- a tree was read from `at` up to `next`, and its labels stand after the `count` earlier ones
@@ -132,8 +133,8 @@ module _ {bytes : List ℕ} {depth at count : ℕ} {earlier : List ℕ} where
 
   -- a closed group
   pub went-group : {next total : ℕ} {later : List ℕ}
-      → Whole united bytes (depth + 1) (at + 1) count earlier next total later → next < length bytes → depth < 32
-      → at < length bytes → getD bytes at 0 ≡ 40 → Read-up-to starred bytes depth at count earlier
+      → Whole united bytes (depth + 1) (at + 1) count earlier next total later → next < length bytes
+      → depth < most-groups → at < length bytes → getD bytes at 0 ≡ 40 → Read-up-to starred bytes depth at count earlier
       (next + 1) total later
   went-group {next = next} r inside few h e =
       record {

@@ -6,7 +6,16 @@ use mathlib.Core.List.{List, [], _∷_}
 use lib.ListN.{length}
 use lib.Dec.{ltb}
 use Rattle.language.specs.Tree.{Tree, leaf, catenation, union, star}
-use Rattle.tree.specs.Limits.{longest-expression}
+use Rattle.tree.specs.RefusalNumbers.{
+  expression-empty,
+  expression-too-long,
+  operand-missing,
+  group-left-open,
+  closing-without-group,
+  too-many-groups,
+  backslash-before-no-sign,
+}
+use Rattle.tree.specs.Limits.{most-groups, longest-expression}
 use Rattle.tree.specs.Leaf.{Leaf, character}
 use Rattle.reader.specs.Bytes.{Sign, opening, closing, bar, asterisk, backslash, plain, sign-of, special}
 
@@ -64,18 +73,18 @@ Onward = Phase → Before → List Group → Outcome
 -- an operand is due and the byte b stands at the place: 3 at a `|`, `*` or `)`; 6 at a `(` that would open a 33rd group
 abbrev pub operand : Sign → ℕ → ℕ → Onward → Before → List Group → Outcome
 operand opening b place on before groups =
-    cond (ltb (length groups) 32)
+    cond (ltb (length groups) most-groups)
     (on due nothing (record { place = place; outside = before } ∷ groups))
-    (refused 6 place)
-operand closing b place on before groups = refused 3 place
-operand bar b place on before groups = refused 3 place
-operand asterisk b place on before groups = refused 3 place
+    (refused too-many-groups place)
+operand closing b place on before groups = refused operand-missing place
+operand bar b place on before groups = refused operand-missing place
+operand asterisk b place on before groups = refused operand-missing place
 operand backslash b place on before groups = on (escaping place) before groups
 operand plain b place on before groups = on (after (leaf (character b))) before groups
 
 -- a `)` after an operand: 5 with no group open
 abbrev pub closed : Tree Leaf → ℕ → Onward → Before → List Group → Outcome
-closed t place on before [] = refused 5 place
+closed t place on before [] = refused closing-without-group place
 closed t place on before (group ∷ groups) = on (after (finished before t)) (group .outside) groups
 
 -- the byte b after an operand: a star of it, a `|`, a `)`, or the next operand
@@ -91,15 +100,15 @@ follow plain b t place on before groups = operand plain b place on (next-factor 
 abbrev pub byte-at : ℕ → ℕ → Phase → Onward → Before → List Group → Outcome
 byte-at b place due on before groups = operand (sign-of b) b place on before groups
 byte-at b place (escaping begin) on before groups =
-    cond (special (sign-of b)) (on (after (leaf (character b))) before groups) (refused 7 begin)
+    cond (special (sign-of b)) (on (after (leaf (character b))) before groups) (refused backslash-before-no-sign begin)
 byte-at b place (after t) on before groups = follow (sign-of b) b t place on before groups
 
 -- the end of the expression: 3 where an operand is due, 7 after a `\`, 4 with a group open
 abbrev pub end-at : ℕ → Phase → Before → List Group → Outcome
-end-at place due before groups = refused 3 place
-end-at place (escaping begin) before groups = refused 7 begin
+end-at place due before groups = refused operand-missing place
+end-at place (escaping begin) before groups = refused backslash-before-no-sign begin
 end-at place (after t) before [] = tree (finished before t)
-end-at place (after t) before (group ∷ groups) = refused 4 (group .place)
+end-at place (after t) before (group ∷ groups) = refused group-left-open (group .place)
 
 -- the bytes from a place on
 unfoldable pub scan : List ℕ → ℕ → Phase → Before → List Group → Outcome
@@ -109,6 +118,7 @@ scan (b ∷ rest) place phase before groups = byte-at b place phase (scan rest (
 -- a whole expression: 1 where it has no bytes, 2 where it has more than 1,024, else the first fault from left to right,
 -- or its tree
 unfoldable pub scanned : List ℕ → Outcome
-scanned [] = refused 1 0
-scanned (b ∷ rest) = cond (ltb longest-expression (length (b ∷ rest))) (refused 2 longest-expression) (scan
-    (b ∷ rest) 0 due nothing [])
+scanned [] = refused expression-empty 0
+scanned (b ∷ rest) = cond (ltb longest-expression (length (b ∷ rest)))
+    (refused expression-too-long longest-expression)
+    (scan (b ∷ rest) 0 due nothing [])

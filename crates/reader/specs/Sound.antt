@@ -11,6 +11,8 @@ use lib.ListN.{length}
 use lib.Dec.{ltb}
 use borrow.Author.Tests.{ltb-true}
 use Rattle.language.specs.Tree.{Tree, leaf, star}
+use Rattle.tree.specs.Limits.{most-groups}
+use Rattle.tree.specs.RefusalNumbers.{too-many-groups, backslash-before-no-sign}
 use Rattle.tree.specs.Leaf.{Leaf, character}
 use Rattle.reader.specs.Bytes.{Sign, opening, closing, bar, asterisk, backslash, plain, sign-of, special}
 use Rattle.reader.specs.Signs.{Means, sign-means}
@@ -74,7 +76,7 @@ pub record Read-before (depth : ℕ) (bytes rest : List ℕ) (before : Before) :
 -- what stands before each open group's inside is already read: `inside` is where the innermost one's begins
 pub data Read-around (whole : List ℕ) : List Group → List ℕ → Type 0 where
   outermost : Read-around whole [] whole
-  in-group : {g : Group} {groups : List Group} {outer inside : List ℕ} → length groups < 32
+  in-group : {g : Group} {groups : List Group} {outer inside : List ℕ} → length groups < most-groups
       → Read-around whole groups outer
       → Read-before (length groups) outer (40 ∷ inside) (g .outside) → Read-around whole (g ∷ groups) inside
 
@@ -146,7 +148,7 @@ module _ {whole rest : List ℕ} {before : Before} {groups : List Group} where
       past-operand around out (no-star (group h (rw (← (add-one (length groups))) at (complete w r))))
 
   -- a `(` opens a group
-  opens-group : {place : ℕ} → length groups < 32 → Read-so-far whole (40 ∷ rest) due before groups
+  opens-group : {place : ℕ} → length groups < most-groups → Read-so-far whole (40 ∷ rest) due before groups
       → Read-so-far whole rest due nothing (record { place = place; outside = before } ∷ groups)
   opens-group h (at-operand around w) = at-operand (in-group h around w) started
 
@@ -184,8 +186,8 @@ module _ (whole rest : List ℕ) (t : Tree Leaf) (on : Onward)
   operand-sound : (s : Sign) (b place : ℕ) (before : Before) (groups : List Group) → sign-of b ≡ s → Means b s
       → Read-so-far whole (b ∷ rest) due before groups → operand s b place on before groups ≡ tree t → Written whole t
   operand-sound opening b place before groups p m st e =
-      only-true (ltb (length groups) 32) _ 6 place
-      (λ h. sound due nothing _ (opens-group (ltb-true (length groups) 32 h) (rw m at st))) e
+      only-true (ltb (length groups) most-groups) _ too-many-groups place
+      (λ h. sound due nothing _ (opens-group (ltb-true (length groups) most-groups h) (rw m at st))) e
   operand-sound closing b place before groups p m st e = no-tree e
   operand-sound bar b place before groups p m st e = no-tree e
   operand-sound asterisk b place before groups p m st e = no-tree e
@@ -222,7 +224,7 @@ module _ (whole rest : List ℕ) (t : Tree Leaf) (on : Onward)
       → Written whole t
   byte-sound b place due before groups st e = operand-sound (sign-of b) b place before groups refl (sign-means b) st e
   byte-sound b place (escaping begin) before groups st e =
-      only-true (special (sign-of b)) _ 7 begin
+      only-true (special (sign-of b)) _ backslash-before-no-sign begin
       (λ p. sound (after (leaf (character b))) before groups (takes-special p st)) e
   byte-sound b place (after s) before groups st e = follow-sound (sign-of b) b s place before groups refl (sign-means b)
       st e

@@ -9,6 +9,7 @@ use lib.Dec.{ltb}
 use borrow.Author.Tests.{lt-ltb, le-ltb}
 use Rattle.language.specs.Tree.{Tree, nodes}
 use Rattle.tree.specs.Limits.{most-pieces}
+use Rattle.tree.specs.RefusalNumbers.{too-many-pieces, buffer-too-short}
 use Rattle.tree.specs.Layout.{record-size}
 use Rattle.tree.specs.Leaf.{Leaf}
 use Rattle.tree.specs.Records.{labels, encode, piece-count}
@@ -34,11 +35,11 @@ module _ (ls before : List ℕ) (n : ℕ) (count : (t : Tree Leaf) → ls ≡ la
   long : (t : Tree Leaf) → ls ≡ labels t → length ls ≡ nodes t
   long t e = ap length e ∙ length-labels t
 
-  pub stored-many : most-pieces < n → Store-answer ls before before (Refused 8 0)
+  pub stored-many : most-pieces < n → Store-answer ls before before (Refused too-many-pieces 0)
   stored-many h = record { answer = λ t e. rw (many t e h); buffer = λ t e. rw (many t e h) }
 
   pub stored-short : n ≤ most-pieces → length before < record-size * length ls
-      → Store-answer ls before before (Refused 9 0)
+      → Store-answer ls before before (Refused buffer-too-short 0)
   stored-short h short =
       record {
         answer = λ t e. rw (not-many t e h, lt-ltb (length before) (record-size * nodes t) (omega (arith, long t e)));

@@ -12,6 +12,14 @@ use lib.ListN.{length, drop, getD}
 use lib.Seq.{drop-cons, drop-length}
 use borrow.Author.Tests.{lt-ltb, le-ltb}
 use Rattle.language.specs.Tree.{Tree, leaf, catenation, union, star}
+use Rattle.tree.specs.RefusalNumbers.{
+  operand-missing,
+  group-left-open,
+  closing-without-group,
+  too-many-groups,
+  backslash-before-no-sign,
+}
+use Rattle.tree.specs.Limits.{most-groups}
 use Rattle.tree.specs.Leaf.{Leaf, character}
 use Rattle.reader.specs.Bytes.{Sign, opening, closing, bar, asterisk, backslash, plain, sign-of, special}
 use Rattle.reader.specs.Signs.{Means, sign-means}
@@ -105,7 +113,8 @@ begin-follow closing b t place on before groups e = cc
 
 -- where an operand is due, a special byte other than `(` and `\` is a fault
 due-special : (sign : Sign) (b place : ℕ) (on : Onward) (before : Before) (groups : List Group) → Means b sign
-    → (b ≡ 40 → ⊥) → (b ≡ 92 → ⊥) → special sign ≡ true → operand sign b place on before groups ≡ refused 3 place
+    → (b ≡ 40 → ⊥) → (b ≡ 92 → ⊥) → special sign ≡ true
+    → operand sign b place on before groups ≡ refused operand-missing place
 due-special closing b place on before groups means no-opening no-backslash e = refl
 due-special bar b place on before groups means no-opening no-backslash e = refl
 due-special asterisk b place on before groups means no-opening no-backslash e = refl
@@ -158,21 +167,24 @@ module _ (bytes : List ℕ) where
         onward = λ before groups d.
             at-due at before groups (omega arith) (ap sign-of e) ∙ from-byte (at + 1) (escaping at) before groups h
             ∙ ap (λ (b : Bool).
-            cond b (from bytes (at + 1 + 1) (after (leaf (character (byte (at + 1))))) before groups) (refused 7 at)) s;
+            cond b (from bytes (at + 1 + 1) (after (leaf (character (byte (at + 1))))) before groups)
+            (refused backslash-before-no-sign at)) s;
       }
 
   -- every other byte after a `\`, and the end, is a fault
   pub fails-escaped : (depth at : ℕ) → at + 1 < length bytes → byte at ≡ 92 → special (sign-of (byte (at + 1))) ≡ false
-      → Fails starred bytes depth at 7 at
+      → Fails starred bytes depth at backslash-before-no-sign at
   fails-escaped depth at h e s =
       record {
         onward = λ before groups d.
             at-due at before groups (omega arith) (ap sign-of e) ∙ from-byte (at + 1) (escaping at) before groups h
             ∙ ap (λ (b : Bool).
-            cond b (from bytes (at + 1 + 1) (after (leaf (character (byte (at + 1))))) before groups) (refused 7 at)) s;
+            cond b (from bytes (at + 1 + 1) (after (leaf (character (byte (at + 1))))) before groups)
+            (refused backslash-before-no-sign at)) s;
       }
 
-  pub fails-last : (depth at : ℕ) → at + 1 ≡ length bytes → byte at ≡ 92 → Fails starred bytes depth at 7 at
+  pub fails-last : (depth at : ℕ) → at + 1 ≡ length bytes → byte at ≡ 92
+      → Fails starred bytes depth at backslash-before-no-sign at
   fails-last depth at h e =
       record {
         onward = λ before groups d.
@@ -180,12 +192,12 @@ module _ (bytes : List ℕ) where
       }
 
   -- the end where an operand is due
-  pub fails-end : (depth at : ℕ) → at ≡ length bytes → Fails starred bytes depth at 3 at
+  pub fails-end : (depth at : ℕ) → at ≡ length bytes → Fails starred bytes depth at operand-missing at
   fails-end depth at e = record { onward = λ before groups d. rw e (from-end due before groups) }
 
   -- a `|`, `*` or `)` where an operand is due
   pub fails-special : (depth at : ℕ) → at < length bytes → (byte at ≡ 40 → ⊥) → (byte at ≡ 92 → ⊥)
-      → special (sign-of (byte at)) ≡ true → Fails starred bytes depth at 3 at
+      → special (sign-of (byte at)) ≡ true → Fails starred bytes depth at operand-missing at
   fails-special depth at h no-opening no-backslash e =
       record {
         onward = λ before groups d.
@@ -203,31 +215,33 @@ module _ (bytes : List ℕ) where
   abbrev opened : ℕ → Before → Group
   opened at before = record { place = at; outside = before }
 
-  opens : {depth at : ℕ} (before : Before) (groups : List Group) → length groups ≡ depth → depth < 32
+  opens : {depth at : ℕ} (before : Before) (groups : List Group) → length groups ≡ depth → depth < most-groups
       → at < length bytes → byte at ≡ 40 → from bytes at due before groups
       ≡ from bytes (at + 1) due nothing (opened at before ∷ groups)
   opens {depth} {at} before groups d few h e =
       at-due at before groups h (ap sign-of e)
-      ∙ ap (λ (b : Bool). cond b (from bytes (at + 1) due nothing (opened at before ∷ groups)) (refused 6 at))
-      (lt-ltb (length groups) 32 (omega arith))
+      ∙ ap (λ (b : Bool).
+      cond b (from bytes (at + 1) due nothing (opened at before ∷ groups)) (refused too-many-groups at))
+      (lt-ltb (length groups) most-groups (omega arith))
 
   length-opened : {depth : ℕ} (group : Group) (groups : List Group) → length groups ≡ depth
       → length (group ∷ groups) ≡ depth + 1
   length-opened group groups d = rw (add-one) (ap suc d)
 
   -- a 33rd group
-  pub fails-deep : (depth at : ℕ) → 32 ≤ depth → at < length bytes → byte at ≡ 40 → Fails starred bytes depth at 6 at
+  pub fails-deep : (depth at : ℕ) → most-groups ≤ depth → at < length bytes → byte at ≡ 40
+      → Fails starred bytes depth at too-many-groups at
   fails-deep depth at deep h e =
       record {
         onward = λ before groups d.
             at-due at before groups h (ap sign-of e)
             ∙ ap (λ (b : Bool). cond b (from bytes (at + 1) due nothing (opened at before ∷ groups))
-            (refused 6 at)) (le-ltb (length groups) 32 (omega arith));
+            (refused too-many-groups at)) (le-ltb (length groups) most-groups (omega arith));
       }
 
   -- a fault in a group
   pub fails-group : {depth number place : ℕ} (at : ℕ) → Fails united bytes (depth + 1) (at + 1) number place
-      → depth < 32 → at < length bytes → byte at ≡ 40 → Fails starred bytes depth at number place
+      → depth < most-groups → at < length bytes → byte at ≡ 40 → Fails starred bytes depth at number place
   fails-group at f few h e =
       record {
         onward = λ before groups d. opens before groups d few h e
@@ -236,7 +250,8 @@ module _ (bytes : List ℕ) where
 
   -- the end comes with a group open
   pub fails-open : {depth : ℕ} {t : Tree Leaf} (at next : ℕ) → Leads united bytes (depth + 1) (at + 1) t next
-      → next ≡ length bytes → depth < 32 → at < length bytes → byte at ≡ 40 → Fails starred bytes depth at 4 at
+      → next ≡ length bytes → depth < most-groups → at < length bytes → byte at ≡ 40
+      → Fails starred bytes depth at group-left-open at
   fails-open at next l end few h e =
       record {
         onward = λ before groups d.
@@ -247,7 +262,7 @@ module _ (bytes : List ℕ) where
 
   -- a group that is closed
   pub leads-group : {depth : ℕ} {t : Tree Leaf} (at next : ℕ) → Leads united bytes (depth + 1) (at + 1) t next
-      → next < length bytes → byte next ≡ 41 → depth < 32 → at < length bytes → byte at ≡ 40
+      → next < length bytes → byte next ≡ 41 → depth < most-groups → at < length bytes → byte at ≡ 40
       → Leads starred bytes depth at t (next + 1)
   leads-group at next l inside closes few h e =
       record {
@@ -348,5 +363,6 @@ module _ (bytes : List ℕ) where
     pub accepts : next ≡ length bytes → from bytes 0 due nothing [] ≡ tree t
     accepts e = l .onward nothing [] refl ∙ rw e (from-end (after t) nothing [])
 
-    pub closes-none : next < length bytes → byte next ≡ 41 → from bytes 0 due nothing [] ≡ refused 5 next
+    pub closes-none : next < length bytes → byte next ≡ 41
+        → from bytes 0 due nothing [] ≡ refused closing-without-group next
     closes-none h e = l .onward nothing [] refl ∙ at-after next t nothing [] h (ap sign-of e)

@@ -10,6 +10,7 @@ use lib.Dec.{ltb}
 use borrow.Author.Tests.{ltb-true, lt-ltb}
 use Rattle.language.specs.Tree.{Tree, nodes}
 use Rattle.tree.specs.Limits.{most-pieces, longest-expression}
+use Rattle.tree.specs.RefusalNumbers.{too-many-pieces, buffer-too-short}
 use Rattle.tree.specs.Layout.{record-size}
 use Rattle.tree.specs.Leaf.{Leaf}
 use Rattle.tree.specs.Cut.{Cut, Fits, pieces}
@@ -21,18 +22,22 @@ use Rattle.reader.specs.Agree.{scanned-exactly}
 use Rattle.reader.specs.Answer.{Numbers, refusing, reading, answer-for, answered}
 
 -- of the answers to a tree, only the one for too many pieces has the number 8
-eight-first : (t : Tree Leaf) (many short : Bool) → cond many (refusing 8 0) (cond short (refusing 9 0) (reading t))
-    ≡ refusing 8 0 → many ≡ true
+eight-first : (t : Tree Leaf) (many short : Bool)
+    → cond many (refusing too-many-pieces 0) (cond short (refusing buffer-too-short 0) (reading t))
+    ≡ refusing too-many-pieces 0 → many ≡ true
 eight-first t true short e = refl
 eight-first t false true e = absurd (omega (arith, ap (λ (n : Numbers). n .refusal) e))
 eight-first t false false e = absurd (omega (arith, ap (λ (n : Numbers). n .refusal) e))
 
 -- the cut decides
-eight-tree : (t : Tree Leaf) (room : ℕ) → (answer-for (tree t) room ≡ refusing 8 0) ↔ (most-pieces < piece-count t)
+eight-tree : (t : Tree Leaf) (room : ℕ) → (answer-for (tree t) room ≡ refusing too-many-pieces 0)
+    ↔ (most-pieces < piece-count t)
 eight-tree t room = (
   λ e. ltb-true most-pieces (piece-count t) (eight-first t (ltb most-pieces (piece-count t)) (ltb room
       (record-size * nodes t)) e),
-  λ many. ap (λ (b : Bool). cond b (refusing 8 0) (cond (ltb room (record-size * nodes t)) (refusing 9 0) (reading t)))
+  λ many. ap
+      (λ (b : Bool). cond b (refusing too-many-pieces 0)
+      (cond (ltb room (record-size * nodes t)) (refusing buffer-too-short 0) (reading t)))
       (lt-ltb most-pieces (piece-count t) many),
 )
 
@@ -40,7 +45,7 @@ eight-tree t room = (
 -- nodes has more than 128 pieces
 pub too-large-exactly : (bytes : List ℕ) (room : ℕ) (t : Tree Leaf) → length bytes ≤ longest-expression
     → Written bytes t
-    → (answered bytes room ≡ refusing 8 0) ↔ ((c : Cut t) → Fits t c → most-pieces < pieces t c)
+    → (answered bytes room ≡ refusing too-many-pieces 0) ↔ ((c : Cut t) → Fits t c → most-pieces < pieces t c)
 too-large-exactly bytes room t few w =
     let scans : scanned bytes ≡ tree t = scanned-exactly bytes t .1 (few, w) in (
       λ e. too-many-exactly t .0 (eight-tree t room .0 (rw scans at e)),

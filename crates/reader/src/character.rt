@@ -1,6 +1,8 @@
 // One character: a byte that stands for itself, or a special byte after a `\`.
 use crate::part::Part;
 use tree::layout::CHARACTER_LABEL;
+use tree::refusal_numbers::BACKSLASH_BEFORE_NO_SIGN;
+use tree::refusal_numbers::OPERAND_MISSING;
 ghost use mathlib.Core.Path.{_≡_};
 ghost use Prim.Native.Nat.{_+_, _<_};
 ghost use lib.ListN.{length, getD, set};
@@ -53,7 +55,7 @@ pub fn character(expr: &[u8], at: usize, labels: &mut [u16], count: usize) -> Pa
         let place = at + 1;
         if place == expr.len() {
             return Part::Refused {
-                number: 7,
+                number: BACKSLASH_BEFORE_NO_SIGN,
                 place: at,
             };
         }
@@ -62,13 +64,13 @@ pub fn character(expr: &[u8], at: usize, labels: &mut [u16], count: usize) -> Pa
             return leaf(escaped, place + 1, labels, count);
         }
         return Part::Refused {
-            number: 7,
+            number: BACKSLASH_BEFORE_NO_SIGN,
             place: at,
         };
     }
     if is_special(byte) {
         return Part::Refused {
-            number: 3,
+            number: OPERAND_MISSING,
             place: at,
         };
     }

@@ -2,6 +2,9 @@
 use crate::part::Part;
 use crate::union::union;
 use tree::limits::LONGEST_EXPRESSION;
+use tree::refusal_numbers::CLOSING_WITHOUT_GROUP;
+use tree::refusal_numbers::EXPRESSION_EMPTY;
+use tree::refusal_numbers::EXPRESSION_TOO_LONG;
 ghost use Prim.Native.Nat.{_≤_};
 ghost use lib.ListN.{length};
 ghost use Rattle.tree.specs.Limits.{most-labels};
@@ -14,13 +17,13 @@ pub fn expression(expr: &[u8], labels: &mut [u16]) -> Part
 {
     if expr.len() == 0 {
         return Part::Refused {
-            number: 1,
+            number: EXPRESSION_EMPTY,
             place: 0,
         };
     }
     if expr.len() > LONGEST_EXPRESSION {
         return Part::Refused {
-            number: 2,
+            number: EXPRESSION_TOO_LONG,
             place: LONGEST_EXPRESSION,
         };
     }
@@ -30,7 +33,7 @@ pub fn expression(expr: &[u8], labels: &mut [u16]) -> Part
     };
     if next < expr.len() {
         return Part::Refused {
-            number: 5,
+            number: CLOSING_WITHOUT_GROUP,
             place: next,
         };
     }

@@ -3,6 +3,10 @@ use crate::character::character;
 use crate::part::Part;
 use crate::stars::stars;
 use crate::union::union;
+use tree::limits::MOST_GROUPS;
+use tree::refusal_numbers::GROUP_LEFT_OPEN;
+use tree::refusal_numbers::OPERAND_MISSING;
+use tree::refusal_numbers::TOO_MANY_GROUPS;
 ghost use Rattle.reader.specs.Grammar.{starred};
 ghost use Rattle.reader.specs.Reading.{Scratch-room, Part-answer};
 
@@ -14,14 +18,14 @@ pub fn operand(expr: &[u8], at: usize, depth: usize, labels: &mut [u16], count: 
 {
     if at == expr.len() {
         return Part::Refused {
-            number: 3,
+            number: OPERAND_MISSING,
             place: at,
         };
     }
     if expr[at] == b'(' {
-        if depth >= 32 {
+        if depth >= MOST_GROUPS {
             return Part::Refused {
-                number: 6,
+                number: TOO_MANY_GROUPS,
                 place: at,
             };
         }
@@ -32,7 +36,7 @@ pub fn operand(expr: &[u8], at: usize, depth: usize, labels: &mut [u16], count: 
         };
         if next == expr.len() {
             return Part::Refused {
-                number: 4,
+                number: GROUP_LEFT_OPEN,
                 place: open,
             };
         }

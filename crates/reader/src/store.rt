@@ -5,6 +5,8 @@ use tree::limits::MOST_PIECES;
 use tree::limits::SLOT_COUNT;
 use tree::number::piece_count;
 use tree::number::write_records;
+use tree::refusal_numbers::BUFFER_TOO_SHORT;
+use tree::refusal_numbers::TOO_MANY_PIECES;
 ghost use Prim.Native.Nat.{_≤_};
 ghost use lib.ListN.{length};
 ghost use Rattle.tree.specs.Limits.{most-labels};
@@ -23,13 +25,13 @@ pub fn store(labels: &[u16], records: &mut [u8]) -> ReadAnswer
     let pieces = piece_count(labels, &mut sizes, &mut opens, &mut cuts);
     if pieces > MOST_PIECES {
         return ReadAnswer::Refused {
-            number: 8,
+            number: TOO_MANY_PIECES,
             place: 0,
         };
     }
     if records.len() < RECORD_SIZE * labels.len() {
         return ReadAnswer::Refused {
-            number: 9,
+            number: BUFFER_TOO_SHORT,
             place: 0,
         };
     }

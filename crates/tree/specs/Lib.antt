@@ -1,6 +1,7 @@
 -- The cut of a tree into pieces, and the records that a tree is stored as.
 pub mod Leaf
 pub mod Limits
+pub mod RefusalNumbers
 pub mod Layout
 pub mod Cut
 pub mod Numbering

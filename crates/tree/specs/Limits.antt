@@ -25,6 +25,10 @@ most-records = 1920
 abbrev pub longest-expression : ℕ
 longest-expression = 1024
 
+-- how many groups of an expression may be open at once
+abbrev pub most-groups : ℕ
+most-groups = 32
+
 -- how many nodes the tree of an expression has at most: a leaf for each byte, and one node less above them
 abbrev pub most-labels : ℕ
 most-labels = 2047

@@ -7,5 +7,6 @@ pub mod limits;
 mod measure;
 pub mod number;
 mod order;
+pub mod refusal_numbers;
 mod slots;
 mod write;

@@ -10,6 +10,8 @@ pub const MOST_PIECES: usize = 128;
 pub const MOST_RECORDS: usize = 1920;
 // How many bytes an expression has at most.
 pub const LONGEST_EXPRESSION: usize = 1024;
+// How many groups of an expression may be open at once.
+pub const MOST_GROUPS: usize = 32;
 // How many nodes the tree of an expression has at most.
 pub const MOST_LABELS: usize = 2047;
 // The slots of the nodes of such a tree, and slot 0.
