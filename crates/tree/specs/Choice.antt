@@ -1,12 +1,31 @@
 -- What the rule of the wanted cut comes to at each node, told without tests, and the bounds of open sizes that follow.
 use Prim.Native.Nat.{ℕ, _+_, _≤_, _<_}
-use mathlib.Core.Bool.{Bool, true, false}
+use mathlib.Core.Path.{_≡_, refl}
+use mathlib.Core.Bool.{Bool, true, false, _&&_}
 use native.Mathlib.Omega.{arith}
+use native.Mathlib.Nat.{add-zero}
 use native.Mathlib.Decide.{decLe, decLt}
+use lib.Dec.{ltb, leb·zero, leb·suc-zero}
 use borrow.Author.Tests.{lt-ltb, le-ltb, le-leb, lt-leb}
 use Rattle.language.specs.Tree.{Tree, leaf, catenation, union, star}
 use Rattle.tree.specs.Limits.{most-nodes}
 use Rattle.tree.specs.Cut.{kept, cut-left, cut-right, cut-only, open-size}
+
+-- an only child is cut off as a left child without a right one
+pub only-left : (n : ℕ) → cut-left n 0 ≡ cut-only n
+only-left n = rw (add-zero, leb·zero) (and-true (ltb most-nodes (1 + n)))
+  where
+    and-true : (b : Bool) → b && true ≡ b
+    and-true true = refl
+    and-true false = refl
+
+-- where there is no right child none is cut off
+pub none-right : (n : ℕ) → cut-right n 0 ≡ false
+none-right n = rw (leb·suc-zero n) (and-false (ltb most-nodes (1 + n + 0)))
+  where
+    and-false : (b : Bool) → b && false ≡ false
+    and-false true = refl
+    and-false false = refl
 
 -- what the cut of a node with two children, of open sizes l and r, comes to: neither is cut off, or the larger, the
 -- left one on a tie, or both

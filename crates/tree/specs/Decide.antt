@@ -21,14 +21,13 @@ use Rattle.tree.specs.Records.{encode, labels, piece-count, Good}
 use Rattle.tree.specs.Lengths.{length-encode, length-labels}
 use Rattle.tree.specs.Readback.{Labels-of, labels-of-good, good-unique}
 use Rattle.tree.specs.Pieces.{cut-up, good-small}
+use Rattle.tree.specs.Numbering.{child-piece}
 use Rattle.tree.specs.Seats.{
   Seat,
   seats,
   seat-at,
   left-apart,
   right-apart,
-  left-piece,
-  left-new,
   cut-edges,
   length-seats,
 }
@@ -247,7 +246,7 @@ below-seats (union s t) p n =
 below-seats (star s) p n =
     let b : Bool = cut-only (open-size s) in
     simp map-append (ap (λ (l : List ℕ). l ++ (pieces-below (edge b (nest s (wanted s))) ∷ []))
-    (below-edge b (nest s (wanted s)) ∙ below-seats s (left-piece (star s) p n) (left-new (star s) n))
+    (below-edge b (nest s (wanted s)) ∙ below-seats s (child-piece b p n) (one b + n))
     ∙ rw (pieces-below-edge b (nest s (wanted s)), pieces-below-nest s (wanted s)))
 
 -- what was measured tells the pieces below each node of a good list's tree

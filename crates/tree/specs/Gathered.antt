@@ -2,15 +2,14 @@
 -- there.
 use Prim.Native.Nat.{ℕ, _+_, _≤_, _<_}
 use mathlib.Core.Path.{_≡_, refl, ap, sym}
-use mathlib.Core.Bool.{Bool, true, false, _&&_}
+use mathlib.Core.Bool.{Bool, true, false}
 use native.Mathlib.Omega.{arith}
 use native.Mathlib.Nat.{add-zero, le-refl}
-use lib.Dec.{ltb, leb·zero, leb·suc-zero}
 use Rattle.language.specs.Tree.{Tree, leaf, catenation, union, star, nodes}
 use Rattle.tree.specs.Leaf.{Leaf}
-use Rattle.tree.specs.Limits.{most-nodes}
 use Rattle.tree.specs.Cut.{kept, one, cut-left, cut-right, cut-only, open-size}
 use Rattle.tree.specs.Records.{piece-count}
+use Rattle.tree.specs.Choice.{only-left, none-right}
 use Rattle.tree.specs.Seats.{cut-edges, of-left, of-right, left-apart, right-apart}
 
 -- the open size that a node has by those of its children
@@ -20,22 +19,6 @@ open-sum l r = 1 + kept (cut-left l r) l + kept (cut-right l r) r
 -- the cut edges at and below a node: by the open sizes of its children, and the cut edges below each
 abbrev pub cut-sum : (l r below-left below-right : ℕ) → ℕ
 cut-sum l r below-left below-right = one (cut-left l r) + below-left + (one (cut-right l r) + below-right)
-
--- an only child is cut off as a left child without a right one
-pub only-left : (n : ℕ) → cut-left n 0 ≡ cut-only n
-only-left n = rw (add-zero, leb·zero) (and-true (ltb most-nodes (1 + n)))
-  where
-    and-true : (b : Bool) → b && true ≡ b
-    and-true true = refl
-    and-true false = refl
-
--- where there is no right child none is cut off
-pub none-right : (n : ℕ) → cut-right n 0 ≡ false
-none-right n = rw (leb·suc-zero n) (and-false (ltb most-nodes (1 + n + 0)))
-  where
-    and-false : (b : Bool) → b && false ≡ false
-    and-false true = refl
-    and-false false = refl
 
 -- the nodes of a tree
 pub nodes-gathered : (u : Tree Leaf) → nodes u ≡ of-left nodes u + of-right nodes u + 1

@@ -10,43 +10,67 @@ abbrev pub child-piece : Bool → ℕ → ℕ → ℕ
 child-piece true piece new = new
 child-piece false piece new = piece
 
--- a tree of numbers, one for each node
-pub data Numbers : Type 0 where
-  alone : ℕ → Numbers
-  above-one : ℕ → Numbers → Numbers
-  above-two : ℕ → Numbers → Numbers → Numbers
+-- a tree of something else, one for each node
+pub data Nodewise (X : Type 0) : Type 0 where
+  alone : X → Nodewise X
+  above-one : X → Nodewise X → Nodewise X
+  above-two : X → Nodewise X → Nodewise X → Nodewise X
 
--- the root's number
-abbrev pub root-number : Numbers → ℕ
-root-number (alone n) = n
-root-number (above-one n x) = n
-root-number (above-two n x y) = n
+-- what stands at the root
+abbrev pub at-root : {X : Type 0} → Nodewise X → X
+at-root (alone a) = a
+at-root (above-one a x) = a
+at-root (above-two a x y) = a
 
--- the numbers at and below the left or only child
-abbrev pub left-numbers : Numbers → Numbers
-left-numbers (alone n) = alone n
-left-numbers (above-one n x) = x
-left-numbers (above-two n x y) = x
+-- what stands at and below the left or only child
+abbrev pub at-left : {X : Type 0} → Nodewise X → Nodewise X
+at-left (alone a) = alone a
+at-left (above-one a x) = x
+at-left (above-two a x y) = x
 
--- the numbers at and below the right child
-abbrev pub right-numbers : Numbers → Numbers
-right-numbers (alone n) = alone n
-right-numbers (above-one n x) = x
-right-numbers (above-two n x y) = y
+-- what stands at and below the right child
+abbrev pub at-right : {X : Type 0} → Nodewise X → Nodewise X
+at-right (alone a) = alone a
+at-right (above-one a x) = x
+at-right (above-two a x y) = y
+
+-- what the walk has at a node: the node's piece, and the number of the first piece that is new below it
+pub record Walker : Type 0 where
+  pub piece : ℕ
+  pub new : ℕ
+
+-- what the walk has at each node of a tree that is cut: the root is in the piece `piece`, and the pieces that are first
+-- met below it are numbered from `new`
+abbrev pub walked : {A : Type 0} (t : Tree A) → Cut t → (piece new : ℕ) → Nodewise Walker
+walked (leaf a) c piece new = alone (record { piece = piece; new = new })
+walked (catenation s t) c piece new =
+    above-two (record { piece = piece; new = new })
+    (walked s (c .1) (child-piece (c .0) piece new) (one (c .0) + new))
+    (walked t (c .3) (child-piece (c .2) piece (one (c .0) + cuts s (c .1) + new))
+    (one (c .2) + (one (c .0) + cuts s (c .1) + new)))
+walked (union s t) c piece new =
+    above-two (record { piece = piece; new = new })
+    (walked s (c .1) (child-piece (c .0) piece new) (one (c .0) + new))
+    (walked t (c .3) (child-piece (c .2) piece (one (c .0) + cuts s (c .1) + new))
+    (one (c .2) + (one (c .0) + cuts s (c .1) + new)))
+walked (star s) c piece new =
+    above-one (record { piece = piece; new = new })
+    (walked s (c .1) (child-piece (c .0) piece new) (one (c .0) + new))
+
+-- a number for each node
+abbrev pub Numbers : Type 0
+Numbers = Nodewise ℕ
+
+-- the pieces alone
+abbrev pub its-pieces : Nodewise Walker → Numbers
+its-pieces (alone a) = alone (a .piece)
+its-pieces (above-one a x) = above-one (a .piece) (its-pieces x)
+its-pieces (above-two a x y) = above-two (a .piece) (its-pieces x) (its-pieces y)
 
 -- the piece of each node of a tree that is cut: the root is in the piece `piece`, and those that a walk first meets
 -- below it are numbered from `new`
 abbrev pub numbered : {A : Type 0} (t : Tree A) → Cut t → (piece new : ℕ) → Numbers
-numbered (leaf a) c piece new = alone piece
-numbered (catenation s t) c piece new =
-    above-two piece (numbered s (c .1) (child-piece (c .0) piece new) (one (c .0) + new))
-    (numbered t (c .3) (child-piece (c .2) piece (one (c .0) + cuts s (c .1) + new))
-    (one (c .2) + (one (c .0) + cuts s (c .1) + new)))
-numbered (union s t) c piece new =
-    above-two piece (numbered s (c .1) (child-piece (c .0) piece new) (one (c .0) + new))
-    (numbered t (c .3) (child-piece (c .2) piece (one (c .0) + cuts s (c .1) + new))
-    (one (c .2) + (one (c .0) + cuts s (c .1) + new)))
-numbered (star s) c piece new = above-one piece (numbered s (c .1) (child-piece (c .0) piece new) (one (c .0) + new))
+numbered t c piece new = its-pieces (walked t c piece new)
 
 -- the numbers in the order of a walk: node, left, right
 abbrev pub in-walk : Numbers → List ℕ

@@ -7,11 +7,10 @@ use lib.ListN.{getD}
 use Rattle.language.specs.Tree.{Tree, leaf, catenation, union, star, nodes}
 use Rattle.tree.specs.Leaf.{Leaf}
 use Rattle.tree.specs.Layout.{record-size, piece-at}
-use Rattle.tree.specs.Cut.{open-size, wanted}
+use Rattle.tree.specs.Cut.{wanted}
 use Rattle.tree.specs.Records.{encode, Good}
 use Rattle.tree.specs.Numbering.{in-postorder, numbered}
 use Rattle.tree.specs.Seats.{Seat, seats, seat-at, held-seat, length-seats}
-use Rattle.tree.specs.Gathered.{only-left}
 use Rattle.tree.specs.Written.{seat-small}
 use Rattle.tree.specs.Readback.{byte-of-record}
 
@@ -24,7 +23,7 @@ numbered-seats (catenation s t) p n =
 numbered-seats (union s t) p n =
     let left = numbered-seats s in let right = numbered-seats t in simp (map-append, left, right)
 numbered-seats (star s) p n =
-    let only = numbered-seats s in let edge = only-left (open-size s) in simp (map-append, edge, only)
+    let only = numbered-seats s in simp (map-append, only)
 
 -- record r of a good list shows the piece of its node
 pub pieces-of-good : (bytes : List ℕ) (t : Tree Leaf) → Good bytes t → (r : ℕ) → r < nodes t

@@ -15,7 +15,7 @@ use Rattle.tree.specs.Layout.{
   star-kind,
 }
 use Rattle.tree.specs.Cut.{pieces, wanted}
-use Rattle.tree.specs.Numbering.{Numbers, root-number, left-numbers, right-numbers, numbered}
+use Rattle.tree.specs.Numbering.{Numbers, at-root, at-left, at-right, numbered}
 
 -- the kind of a leaf's record
 abbrev pub leaf-kind : Leaf → ℕ
@@ -27,18 +27,18 @@ leaf-character (Leaf.character c) = c
 
 -- the records of t, whose nodes are in the pieces that x tells. Its first record has the number `first`
 abbrev pub records : Tree Leaf → Numbers → (first : ℕ) → List ℕ
-records (leaf a) x first = record-of (leaf-kind a) (leaf-character a) no-child no-child (root-number x)
+records (leaf a) x first = record-of (leaf-kind a) (leaf-character a) no-child no-child (at-root x)
 records (catenation s t) x first =
-    records s (left-numbers x) first
-    ++ records t (right-numbers x) (first + nodes s)
-    ++ record-of catenation-kind 0 (first + nodes s - 1) (first + nodes s + nodes t - 1) (root-number x)
+    records s (at-left x) first
+    ++ records t (at-right x) (first + nodes s)
+    ++ record-of catenation-kind 0 (first + nodes s - 1) (first + nodes s + nodes t - 1) (at-root x)
 records (union s t) x first =
-    records s (left-numbers x) first
-    ++ records t (right-numbers x) (first + nodes s)
-    ++ record-of union-kind 0 (first + nodes s - 1) (first + nodes s + nodes t - 1) (root-number x)
+    records s (at-left x) first
+    ++ records t (at-right x) (first + nodes s)
+    ++ record-of union-kind 0 (first + nodes s - 1) (first + nodes s + nodes t - 1) (at-root x)
 records (star s) x first =
-    records s (left-numbers x) first
-    ++ record-of star-kind 0 (first + nodes s - 1) no-child (root-number x)
+    records s (at-left x) first
+    ++ record-of star-kind 0 (first + nodes s - 1) no-child (at-root x)
 
 -- the list of a tree: its records, with the pieces of the wanted cut; the root's piece is 0. Shut, as the piece count
 -- is: the layers above use what is proved of them

@@ -15,9 +15,10 @@ use lib.ListN.{length, getD, length-append, List·getD-append}
 use lib.Seq.{getD-append-add, getD-at, getD-append-seam}
 use Rattle.language.specs.Tree.{Tree, leaf, catenation, union, star, nodes}
 use Rattle.tree.specs.Leaf.{Leaf}
-use Rattle.tree.specs.Cut.{cuts, one, wanted, cut-left, cut-right, open-size}
+use Rattle.tree.specs.Cut.{cuts, one, wanted, cut-left, cut-right, cut-only, open-size}
+use Rattle.tree.specs.Choice.{only-left}
 use Rattle.tree.specs.Layout.{label-of, character-kind, catenation-kind, union-kind, star-kind}
-use Rattle.tree.specs.Numbering.{child-piece}
+use Rattle.tree.specs.Numbering.{child-piece, Nodewise, at-root, at-left, at-right, Walker, walked}
 use Rattle.tree.specs.Records.{labels, leaf-label}
 
 -- the edges that the wanted cut cuts
@@ -83,16 +84,21 @@ pub record Seat : Type 0 where
 abbrev pub seat : Tree Leaf → (p n : ℕ) → Seat
 seat t p n = record { tree = t; piece = p; new = n }
 
+-- the seat of t's root, from what the walk has at t's nodes
+abbrev pub root-seat : Tree Leaf → Nodewise Walker → Seat
+root-seat t x = seat t (at-root x .piece) (at-root x .new)
+
+-- the seats of t's records, from what the walk has at t's nodes
+abbrev pub seats-by : Tree Leaf → Nodewise Walker → List Seat
+seats-by (leaf a) x = root-seat (leaf a) x ∷ []
+seats-by (catenation s t) x =
+    seats-by s (at-left x) ++ seats-by t (at-right x) ++ (root-seat (catenation s t) x ∷ [])
+seats-by (union s t) x = seats-by s (at-left x) ++ seats-by t (at-right x) ++ (root-seat (union s t) x ∷ [])
+seats-by (star s) x = seats-by s (at-left x) ++ (root-seat (star s) x ∷ [])
+
 -- the seats of t's records
 abbrev pub seats : Tree Leaf → (p n : ℕ) → List Seat
-seats (leaf a) p n = seat (leaf a) p n ∷ []
-seats (catenation s t) p n =
-    let u = catenation s t in
-    seats s (left-piece u p n) (left-new u n) ++ seats t (right-piece u p n) (right-new u n) ++ (seat u p n ∷ [])
-seats (union s t) p n =
-    let u = union s t in
-    seats s (left-piece u p n) (left-new u n) ++ seats t (right-piece u p n) (right-new u n) ++ (seat u p n ∷ [])
-seats (star s) p n = let u = star s in seats s (left-piece u p n) (left-new u n) ++ (seat u p n ∷ [])
+seats t p n = seats-by t (walked t (wanted t) p n)
 
 -- the seats at and below a seat
 abbrev pub under : Seat → List Seat
@@ -231,19 +237,21 @@ pub labels-seats : (t : Tree Leaf) (p n : ℕ) → labels t ≡ map label (seats
 labels-seats t p n = labelled t p n .so
 
 -- the seats below the root's
-abbrev pub below : Tree Leaf → (p n : ℕ) → List Seat
-below (leaf a) p n = []
-below (catenation s t) p n = let u = catenation s t in seats s (left-piece u p n) (left-new u n)
-    ++ seats t (right-piece u p n) (right-new u n)
-below (union s t) p n = let u = union s t in seats s (left-piece u p n) (left-new u n)
-    ++ seats t (right-piece u p n) (right-new u n)
-below (star s) p n = let u = star s in seats s (left-piece u p n) (left-new u n)
+abbrev below-by : Tree Leaf → Nodewise Walker → List Seat
+below-by (leaf a) x = []
+below-by (catenation s t) x = seats-by s (at-left x) ++ seats-by t (at-right x)
+below-by (union s t) x = seats-by s (at-left x) ++ seats-by t (at-right x)
+below-by (star s) x = seats-by s (at-left x)
+
+-- the seats below a seat
+abbrev below : Seat → List Seat
+below x = below-by (x .tree) (walked (x .tree) (wanted (x .tree)) (x .piece) (x .new))
 
 -- a seat is the last of those under it
-root-last : (x : Seat) → under x ≡ below (x .tree) (x .piece) (x .new) ++ (x ∷ [])
+root-last : (x : Seat) → under x ≡ below x ++ (x ∷ [])
 root-last x = by-kind (x .tree) (x .piece) (x .new)
   where
-    by-kind : (t : Tree Leaf) (p n : ℕ) → seats t p n ≡ below t p n ++ (seat t p n ∷ [])
+    by-kind : (t : Tree Leaf) (p n : ℕ) → seats t p n ≡ below (seat t p n) ++ (seat t p n ∷ [])
     by-kind (leaf a) p n = refl
     by-kind (catenation s t) p n = refl
     by-kind (union s t) p n = refl
@@ -253,7 +261,7 @@ root-last x = by-kind (x .tree) (x .piece) (x .new)
 held-root : (f : Seat → ℕ) (before after : List Seat) (x : Seat) (j : ℕ) → length before + nodes (x .tree) ≡ j
     → held f (before ++ under x ++ after) j ≡ f x
 held-root f before after x j e =
-    let rest : List Seat = below (x .tree) (x .piece) (x .new) in
+    let rest : List Seat = below x in
     let split : before ++ under x ++ after ≡ (before ++ rest) ++ x ∷ after = rw (root-last x) (simp append-assoc) in
     let all : length (under x) ≡ length rest + 1 = ap length (root-last x) ∙ length-append rest (x ∷ []) in
     let long : suc (length (before ++ rest)) ≡ j =
@@ -334,11 +342,11 @@ around-root xs i (union s t) p n w =
     (seat t (right-piece u p n) (right-new u n)) (seat u p n) (w .whole) (w .ends) in
     record { inside = omega (arith, w .ends); left = children .0; right = children .1 }
 around-root xs i (star s) p n w =
-    let u = star s in
+    let only : Bool → Seat = λ b. seat s (child-piece b p n) (one b + n) in
     record {
       inside = omega (arith, w .ends);
-      left = λ f. rw sub-zero (star-around xs (w .before) (w .after) i (seat s (left-piece u p n) (left-new u n))
-          (seat u p n) (w .whole) (w .ends) f);
+      left = λ f. rw sub-zero (star-around xs (w .before) (w .after) i (only (cut-only (open-size s)))
+          (seat (star s) p n) (w .whole) (w .ends) f) ∙ ap (λ (b : Bool). f (only b)) (sym (only-left (open-size s)));
       right = λ f. refl;
     }
 

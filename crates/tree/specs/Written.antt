@@ -1,6 +1,6 @@
 -- The records of a tree, one after the other, from its seats; and that their numbers are small.
 use Prim.Native.Nat.{ℕ, zero, suc, _+_, _*_, _-_, _%_, _/_, _≤_, _<_}
-use mathlib.Core.Path.{_≡_, refl, ap, sym, subst, _∙_}
+use mathlib.Core.Path.{_≡_, refl, ap, sym, _∙_}
 use mathlib.Core.Bool.{Bool, true, false, cond}
 use mathlib.Core.List.{List, [], _∷_, _++_}
 use native.Mathlib.Omega.{arith}
@@ -13,7 +13,7 @@ use native.Mathlib.Decide.{decLt}
 use borrow.Author.Tests.{ne-eqb}
 use Rattle.language.specs.Tree.{Tree, leaf, catenation, union, star, nodes}
 use Rattle.tree.specs.Leaf.{Leaf}
-use Rattle.tree.specs.Cut.{one, wanted, open-size}
+use Rattle.tree.specs.Cut.{one, wanted, cut-only, open-size}
 use Rattle.tree.specs.Layout.{
   record-size,
   record-of,
@@ -37,8 +37,6 @@ use Rattle.tree.specs.Seats.{
   of-right,
   left-slot,
   right-slot,
-  left-piece,
-  left-new,
   right-piece,
   right-new,
   past-left,
@@ -48,7 +46,6 @@ use Rattle.tree.specs.Seats.{
   cut-edges,
   length-seats,
 }
-use Rattle.tree.specs.Gathered.{only-left, cuts-gathered}
 
 -- the kind of a tree's root
 abbrev pub root-kind : Tree Leaf → ℕ
@@ -140,12 +137,8 @@ writes (union s t) first p n =
     (record { so = pair-record union-kind p first (nodes s) (nodes t) (nodes-positive s) })
 writes (star s) first p n =
     let e = length-seats s in
-    subst (λ (b : Bool). Writes (seats (star s) p n) first
-    (records s (numbered s (wanted s) (child-piece b p n) (one b + n)) first
-    ++ record-of star-kind 0 (first + nodes s - 1) no-child p))
-    (only-left (open-size s))
-    (writes-append (first + nodes s) (simp e) (writes s first _ _)
-    (record { so = star-record p first (nodes s) (nodes-positive s) }))
+    writes-append (first + nodes s) (simp e) (writes s first _ _)
+    (record { so = star-record p first (nodes s) (nodes-positive s) })
 
 -- the list of a tree, from its seats
 pub encode-written : (t : Tree Leaf) → encode t ≡ written 0 (seats t 0 1)
@@ -221,14 +214,12 @@ child-older : (b : Bool) (p m n : ℕ) → p < n → n ≤ m → child-piece b p
 child-older true p m n h k = omega arith
 child-older false p m n h k = omega arith
 
--- so do the numbers of a pair's children
-small-left : (limit : ℕ) (u s : Tree Leaf) (p n after : ℕ) → cut-edges u ≡ one (left-apart u) + cut-edges s + after
-    → Small limit (seat u p n)
-    → Small limit (seat s (left-piece u p n) (left-new u n))
-small-left limit u s p n after e w = record {
-  older = child-older (left-apart u) p n n (w .older) (le-refl n);
-  bounded =
-      omega (arith, w .bounded);
+-- so do the numbers of the left or only child, whose edge is cut as b says
+small-left : (limit : ℕ) (u s : Tree Leaf) (b : Bool) (p n after : ℕ) → cut-edges u ≡ one b + cut-edges s + after
+    → Small limit (seat u p n) → Small limit (seat s (child-piece b p n) (one b + n))
+small-left limit u s b p n after e w = record {
+  older = child-older b p n n (w .older) (le-refl n);
+  bounded = omega (arith, w .bounded);
 }
 
 -- and those of the right one
@@ -247,18 +238,19 @@ seats-small limit (leaf a) p n w = small-one limit (seat (leaf a) p n) w
 seats-small limit (catenation s t) p n w =
     let u = catenation s t in
     small-append limit _ _
-    (small-append limit _ _ (seats-small limit s _ _ (small-left limit u s p n _ refl w))
+    (small-append limit _ _ (seats-small limit s _ _ (small-left limit u s (left-apart u) p n _ refl w))
     (seats-small limit t _ _ (small-right limit u t p n refl w)))
     (small-one limit (seat u p n) w)
 seats-small limit (union s t) p n w =
     let u = union s t in
     small-append limit _ _
-    (small-append limit _ _ (seats-small limit s _ _ (small-left limit u s p n _ refl w))
+    (small-append limit _ _ (seats-small limit s _ _ (small-left limit u s (left-apart u) p n _ refl w))
     (seats-small limit t _ _ (small-right limit u t p n refl w)))
     (small-one limit (seat u p n) w)
 seats-small limit (star s) p n w =
     let u = star s in
-    small-append limit _ _ (seats-small limit s _ _ (small-left limit u s p n _ (cuts-gathered u) w))
+    small-append limit _ _
+    (seats-small limit s _ _ (small-left limit u s (cut-only (open-size s)) p n 0 (sym (add-zero (cut-edges u))) w))
     (small-one limit (seat u p n) w)
 
 -- the numbers of a whole tree's seats end at its piece count
