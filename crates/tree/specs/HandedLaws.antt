@@ -17,8 +17,9 @@ use Rattle.tree.specs.Limits.{most-nodes, most-labels}
 use Rattle.tree.specs.Numbering.{child-piece}
 use Rattle.tree.specs.Records.{labels}
 use borrow.Author.Tests.{ne-eqb}
-use Rattle.tree.specs.Gathered.{cut-sum, pieces-at-most-nodes}
-use Rattle.tree.specs.Written.{seat-small}
+use Rattle.tree.specs.Gathered.{cut-sum}
+use Rattle.tree.specs.GatheredLaws.{pieces-at-most-nodes}
+use Rattle.tree.specs.WrittenLaws.{seat-small}
 use Rattle.tree.specs.Lengths.{length-labels}
 use Rattle.tree.specs.Measured.{node, Measured, Postorder}
 use Rattle.tree.specs.MeasuredLaws.{in-tree, measured-less, Children, children, gathered}
@@ -38,13 +39,9 @@ use Rattle.tree.specs.Seats.{
   left-slot,
   right-slot,
   held,
-  held-seat,
-  held-whole,
-  length-seats,
-  seats-seated,
   Around,
-  around,
 }
+use Rattle.tree.specs.SeatsLaws.{held-seat, held-whole, length-seats, seats-seated, around}
 use Rattle.tree.specs.Handed.{size-of, Waits, here, before, Filled, Gives, piece-of, new-of, Handed, Pieced}
 
 -- no slot that waits is slot 0

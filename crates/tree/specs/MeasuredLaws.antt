@@ -30,15 +30,11 @@ use Rattle.tree.specs.Seats.{
   left-slot,
   right-slot,
   held,
-  held-seat,
-  held-whole,
-  labels-seats,
-  length-seats,
-  seats-seated,
   Around,
-  around,
 }
-use Rattle.tree.specs.Gathered.{open-sum, cut-sum, nodes-gathered, open-gathered, cuts-gathered, cut-edges-lt}
+use Rattle.tree.specs.SeatsLaws.{held-seat, held-whole, labels-seats, length-seats, seats-seated, around}
+use Rattle.tree.specs.Gathered.{open-sum, cut-sum}
+use Rattle.tree.specs.GatheredLaws.{nodes-gathered, open-gathered, cuts-gathered, cut-edges-lt}
 use Rattle.tree.specs.Measured.{Postorder, node, Room-to-measure, Slots-hold, Measured, Counts-pieces}
 
 -- slots that hold up to some record hold up to each before it

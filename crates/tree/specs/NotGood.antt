@@ -9,7 +9,7 @@ use Rattle.tree.specs.Leaf.{Leaf}
 use Rattle.tree.specs.Layout.{record-size}
 use Rattle.tree.specs.Records.{Good}
 use Rattle.tree.specs.Lengths.{nodes-positive}
-use Rattle.tree.specs.Decide.{good-length}
+use Rattle.tree.specs.DecideLaws.{good-length}
 
 -- a list of no bytes is not good: a tree has a node
 pub no-bytes-not-good : (t : Tree Leaf) → Good [] t → ⊥

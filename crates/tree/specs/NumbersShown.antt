@@ -10,8 +10,9 @@ use Rattle.tree.specs.Layout.{record-size, piece-at}
 use Rattle.tree.specs.Cut.{wanted}
 use Rattle.tree.specs.Records.{encode, Good}
 use Rattle.tree.specs.Numbering.{in-postorder, numbered}
-use Rattle.tree.specs.Seats.{Seat, seats, seat-at, held-seat, length-seats}
-use Rattle.tree.specs.Written.{seat-small}
+use Rattle.tree.specs.Seats.{Seat, seats, seat-at}
+use Rattle.tree.specs.SeatsLaws.{held-seat, length-seats}
+use Rattle.tree.specs.WrittenLaws.{seat-small}
 use Rattle.tree.specs.Readback.{byte-of-record}
 
 -- the pieces of the nodes are those of the seats

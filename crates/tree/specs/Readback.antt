@@ -16,7 +16,7 @@ use Rattle.tree.specs.Seats.{seats, seat-at, root-label}
 use Rattle.tree.specs.Written.{root-kind, root-character, seat-record}
 use Rattle.tree.specs.Measured.{node}
 use Rattle.tree.specs.MeasuredLaws.{label-is}
-use Rattle.tree.specs.Recording.{record-of-list}
+use Rattle.tree.specs.RecordingLaws.{record-of-list}
 
 -- these are the labels that the records of a list show
 pub record Labels-of (list ls : List ℕ) : Type 0 where

@@ -1,7 +1,7 @@
 -- `tree::cut::cut_count` meets its contract: the sum is that of `cut-sum`, and small, since an edge counts for at most
 -- 1.
 use native.Mathlib.Omega.{arith}
-use Rattle.tree.specs.Gathered.{one-le}
+use Rattle.tree.specs.GatheredLaws.{one-le}
 use borrow.Author.Needs.{needs}
 use Rattle.tree.proofs.cut.cut_count.Statement.{statement}
 use Rattle.tree.proofs.cut.cut_count.Tie as tie

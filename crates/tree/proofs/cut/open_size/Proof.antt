@@ -1,7 +1,7 @@
 -- `tree::cut::open_size` meets its contract: the sum is that of `open-sum`, and small, since a child adds at most its
 -- own open size.
 use native.Mathlib.Omega.{arith}
-use Rattle.tree.specs.Gathered.{kept-le}
+use Rattle.tree.specs.GatheredLaws.{kept-le}
 use borrow.Author.Needs.{needs}
 use Rattle.tree.proofs.cut.open_size.Statement.{statement}
 use Rattle.tree.proofs.cut.open_size.Tie as tie

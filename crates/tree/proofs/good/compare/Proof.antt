@@ -10,7 +10,8 @@ use Rattle.tree.specs.Leaf.{Leaf}
 use Rattle.tree.specs.Records.{labels}
 use Rattle.tree.specs.Seats.{seats, seat-at}
 use Rattle.tree.specs.MeasuredLaws.{Slots, right-size-le, holds-less, slots, in-tree}
-use Rattle.tree.specs.Decide.{Agrees, agrees-none, agrees-more, compared-no, compared-all}
+use Rattle.tree.specs.Decide.{Agrees}
+use Rattle.tree.specs.DecideLaws.{agrees-none, agrees-more, compared-no, compared-all}
 use Rattle.tree.proofs.good.compare.Statement.{statement}
 use Rattle.tree.proofs.good.compare.Tie as tie
 

@@ -3,8 +3,8 @@ use native.Mathlib.Omega.{arith}
 use mathlib.Core.Path.{subst}
 use mathlib.Core.Bool.{Bool}
 use borrow.Author.Tests.{not-true, not-false}
-use Rattle.tree.specs.Decide.{
-  Compared,
+use Rattle.tree.specs.Decide.{Compared}
+use Rattle.tree.specs.DecideLaws.{
   not-by-labels,
   not-by-pieces,
   not-by-records,

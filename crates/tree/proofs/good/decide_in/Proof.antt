@@ -8,7 +8,7 @@ use lib.ListN.{length, take, drop}
 use lib.Seq.{length-take-le}
 use Rattle.tree.specs.Layout.{record-size}
 use Rattle.tree.specs.Readback.{Labels-of}
-use Rattle.tree.specs.Decide.{front-labels}
+use Rattle.tree.specs.DecideLaws.{front-labels}
 use borrow.Author.Needs.{needs}
 use Rattle.tree.proofs.good.decide_in.Statement.{statement}
 use Rattle.tree.proofs.good.decide_in.Tie as tie

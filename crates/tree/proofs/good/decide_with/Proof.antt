@@ -1,6 +1,6 @@
 -- `tree::good::decide_with` meets its contract: a list of another length is not good, and for the rest there is room.
 use native.Mathlib.Omega.{arith}
-use Rattle.tree.specs.Decide.{not-by-length, not-by-size, counts-nothing}
+use Rattle.tree.specs.DecideLaws.{not-by-length, not-by-size, counts-nothing}
 use borrow.Author.Needs.{needs}
 use Rattle.tree.proofs.good.decide_with.Statement.{statement}
 use Rattle.tree.proofs.good.decide_with.Tie as tie

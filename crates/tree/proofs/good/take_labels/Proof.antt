@@ -5,7 +5,8 @@ use mathlib.Core.Path.{_≡_, refl, _∙_}
 use native.Mathlib.Omega.{arith}
 use lib.ListN.{length, length-set}
 use Rattle.tree.specs.Layout.{label-of}
-use Rattle.tree.specs.Decide.{Taken, taken-none, taken-more}
+use Rattle.tree.specs.Decide.{Taken}
+use Rattle.tree.specs.DecideLaws.{taken-none, taken-more}
 use Rattle.tree.proofs.good.take_labels.Statement.{statement}
 use Rattle.tree.proofs.good.take_labels.Tie as tie
 

@@ -6,7 +6,8 @@ use native.Mathlib.Omega.{arith}
 use lib.ListN.{length, getD}
 use borrow.Author.Tests.{eqb-true, eqb-false, leb-true, leb-false}
 use Rattle.tree.specs.Postorder.{asked}
-use Rattle.tree.specs.Depth.{Trees-waiting, reads-none, reads-more, stuck-tree, read-tree, depth-grows}
+use Rattle.tree.specs.Depth.{Trees-waiting}
+use Rattle.tree.specs.DepthLaws.{reads-none, reads-more, stuck-tree, read-tree, depth-grows}
 use Rattle.tree.proofs.order.one_tree.Statement.{statement}
 use Rattle.tree.proofs.order.one_tree.Tie as tie
 use Rattle.tree.proofs.order.one_tree.Reads as reads

@@ -6,7 +6,8 @@ use mathlib.Core.Path.{_≡_, refl, _∙_}
 use native.Mathlib.Omega.{arith}
 use lib.ListN.{length, getD}
 use Rattle.tree.specs.MeasuredLaws.{right-size-le, holds-less, slots, in-tree}
-use Rattle.tree.specs.Recording.{Written-so-far, written-none, written-more, written-all}
+use Rattle.tree.specs.Recording.{Written-so-far}
+use Rattle.tree.specs.RecordingLaws.{written-none, written-more, written-all}
 use Rattle.tree.proofs.write.write_all.Statement.{statement}
 use Rattle.tree.proofs.write.write_all.Tie as tie
 use Rattle.tree.proofs.write.write_all.Reads as reads
