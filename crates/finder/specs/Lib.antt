@@ -4,7 +4,7 @@ pub mod Found
 pub mod Answer
 pub mod Promise
 pub mod Refusals
-pub mod SearchUnique
+mod SearchUnique
 pub mod Unique
 -- tests that compute what is in a language, what is found and which marks words hold
 pub mod Decide

@@ -6,14 +6,14 @@ pub mod Language
 pub mod Automaton
 pub mod Nested
 pub mod Simulation
-pub mod Rest
-pub mod Runs
+mod Rest
+mod Runs
 pub mod Acceptance
 pub mod Settled
 pub mod Walk
 pub mod TwoWalks
 pub mod Visits
-pub mod Copies
+mod Copies
 pub mod Same
 pub mod Unmoved
 pub mod Sweeps

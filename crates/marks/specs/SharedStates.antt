@@ -1,4 +1,4 @@
 -- Refusal 13: the two bits of a shared state.
 pub mod Parents
-pub mod Agreed
+mod Agreed
 pub mod Checked

@@ -1,13 +1,13 @@
 -- A sweep: where parts and child pieces stand, what passing, visiting and leaving out make of the words, two sweeps.
 pub mod Swept
 pub mod Within
-pub mod Places
+mod Places
 pub mod Passing
 pub mod Visiting
-pub mod Settling
+mod Settling
 pub mod RunOfChildren
-pub mod GoneThrough
-pub mod Idle
+mod GoneThrough
+mod Idle
 pub mod Sweeping
 pub mod Twice
 pub mod Simulated

@@ -17,7 +17,7 @@ pub mod Room
 pub mod Printing
 pub mod Written
 pub mod Ends
-pub mod LineLaws
+mod LineLaws
 pub mod EndLaws
 pub mod Loop
 pub mod Report

@@ -2,10 +2,10 @@
 pub mod Bytes
 pub mod Scanner
 pub mod Grammar
-pub mod Signs
-pub mod Complete
-pub mod Sound
-pub mod Faults
+mod Signs
+mod Complete
+mod Sound
+mod Faults
 pub mod Agree
 pub mod Text
 pub mod Stopping

@@ -3,7 +3,7 @@ pub mod Words
 pub mod Plan
 pub mod Tables
 pub mod Entries
-pub mod Standing
+mod Standing
 pub mod Filling
 pub mod Walking
 pub mod Below

@@ -12,7 +12,7 @@ pub mod Saying
 pub mod Fields
 pub mod Lengths
 pub mod Postorder
-pub mod Choice
+mod Choice
 pub mod Least
 pub mod Bounds
 pub mod Nesting
@@ -22,15 +22,15 @@ pub mod Walk
 pub mod Ways
 pub mod SamePiece
 pub mod Stored
-pub mod StoredLaws
+mod StoredLaws
 pub mod CutUp
 pub mod Pieces
 pub mod Seats
-pub mod SeatsLaws
+mod SeatsLaws
 pub mod Gathered
 pub mod GatheredLaws
 pub mod Written
-pub mod WrittenLaws
+mod WrittenLaws
 pub mod Measured
 pub mod MeasuredLaws
 pub mod Handed
