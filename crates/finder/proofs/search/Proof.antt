@@ -1,4 +1,5 @@
 -- `finder::search` meets its contract: each answer is that of the list's tree.
+use native.Mathlib.Omega.{arith}
 use mathlib.Core.Path.{refl}
 use Rattle.finder.specs.Promise.{not-good, too-long, search-refused, search-found, search-nothing}
 use Rattle.marks.proofs.Told.{told-good, told-not-good}
@@ -32,7 +33,7 @@ returns-2 : tie.Need-returns-2
 returns-2 c =
     let of-list = decision (c .before) .decide-with in
     let known = told-good (c .before .before .decided .given .1) (of-list .ensures) (of-list .kept .1 .0) in
-    search-refused (too-long (record { t = known .some; good = known .good; long = c .if1 .taken }))
+    search-refused (too-long (record { t = known .some; good = known .good; long = omega (arith, c .if1 .taken) }))
 
 slice-aggregate-find-good : tie.Need-slice-aggregate-find-good
 slice-aggregate-find-good c = search needs
@@ -57,7 +58,7 @@ returns-3 c =
     search-found (record {
       t = known .some;
       good = known .good;
-      short = short .if1 .left;
+      short = omega (arith, short .if1 .left);
       holds =
           rw (c .before .part .given .1) at
           (answered .find-good .ensures .1 refl (known .some) (known .good));
@@ -72,7 +73,7 @@ returns-4 c =
     search-nothing (record {
       t = known .some;
       good = known .good;
-      short = short .if1 .left;
+      short = omega (arith, short .if1 .left);
       holds =
           rw (told-nothing (answered .find-good .result) (c .before .match2 .keys2)) at
           (answered .find-good .ensures .1 refl (known .some) (known .good));

@@ -9,6 +9,7 @@ use Rattle.language.specs.Tree.{Tree}
 use Rattle.tree.specs.Limits.{most-pieces}
 use Rattle.tree.specs.Leaf.{Leaf}
 use Rattle.tables.specs.Tables.{Prepared, Ready}
+use Rattle.marks.specs.BitsOfWords.AllZero.{All-zero}
 use Rattle.marks.specs.Texts.{nothing-left}
 use Rattle.marks.specs.Inner.{running, holding-marks, answered-copy, answered-next}
 use Rattle.finder.specs.Parts.{end-of}
@@ -65,11 +66,13 @@ nothing-left-requires c κs = search needs
 
 returns : tie.Need-returns Inv-loop μ-loop
 returns c = λ t prepared.
-    let at = c .before .before .before .before .loop .inv in
+    let head = c .before .before .before .before in
+    let at = head .loop .inv in
     let standing = at .4 t prepared in
+    let none : All-zero (entry (head .before .before .before) .args .count) (head .loop .words) =
+    c .before .nothing-left .ensures .holds (c .if1 .taken) in
     settled-early t _ standing (at .0) (at .1)
-    (nothing-left (standing .holding)
-    (rw (prepared .counted) at (c .before .nothing-left .ensures .holds (c .if1 .taken))))
+    (nothing-left (standing .holding) (rw (prepared .counted) at none))
 
 slice-aggregate-advance : tie.Need-slice-aggregate-advance Inv-loop μ-loop
 slice-aggregate-advance c = search needs

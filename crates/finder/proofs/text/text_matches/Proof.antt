@@ -38,9 +38,13 @@ Inv-loop reach codes runs stands tops count text words₀ yes₀ i₀ words yes'
 abbrev μ-loop : tie.MeasureT-loop
 μ-loop reach codes runs stands tops count text words₀ yes₀ i₀ words yes' i = length text - i
 
--- where the call began, seen from the loop, and the loop, seen from a byte that was taken
+-- where the first marks were made and where the call began, seen from the loop; the loop, seen from a byte that was
+-- taken
+abbrev begun : tie.At-loop Inv-loop μ-loop → tie.After-begin Inv-loop μ-loop
+begun c = c .before .before
+
 abbrev entry : tie.At-loop Inv-loop μ-loop → tie.Start Inv-loop μ-loop
-entry c = c .before .before .before .before .before .before .before .before .before .before
+entry c = begun c .before .before .before .before .before .before .before .before
 
 abbrev byte-taken : tie.After-words5 Inv-loop μ-loop → tie.At-loop Inv-loop μ-loop
 byte-taken c = c .before .before .before .before .before .before .before .before

@@ -1,6 +1,5 @@
 -- `marks::inner::prepare` meets its contract: the tables are laid, the words of the empty transitions closed, and the
--- leaves
--- noted.
+-- leaves noted.
 use mathlib.Core.Path.{_∙_}
 use native.Mathlib.Omega.{arith}
 use Rattle.marks.specs.Inner.{tops-low, prepared-of}
@@ -13,16 +12,26 @@ use Rattle.tables.proofs.plan.plan.Reads as plan-reads
 use Rattle.marks.proofs.reach.close_all.Reads as close-all-reads
 use Rattle.marks.proofs.leaves.note_leaves.Reads as note-leaves-reads
 
--- where the call began
+-- where the tables were about to be lent, and where the call began
+abbrev not-lent : tie.After-plan → tie.After-slice-known5
+not-lent c = c .before .before .before .before .before .before
+
 abbrev entry : tie.After-plan → tie.Start
-entry c = c .before .before .before .before .before .before .before .before .before .before .before .before .before
+entry c = not-lent c .before .before .before .before .before .before .before
+
+-- where the first two tables came back, and where all were laid
+abbrev codes-back : tie.After-slice-known10 → tie.After-slice-known7
+codes-back c = c .before .before .before .before .before .before
+
+abbrev tables-laid : tie.After-close-all-arg2 → tie.After-plan
+tables-laid c = codes-back (c .before .before) .before .before .before .before
 
 plan-requires : tie.Need-plan-requires
 plan-requires c κs = search needs
 
 close-all-requires : tie.Need-close-all-requires
 close-all-requires c κs =
-    let planned = c .before .before .before .before .before .before .before .before .before .before .before .before in
+    let planned = tables-laid c in
     let known = entry planned .pre .0 in
     let roomy = entry planned .pre .1 in
     let kept = planned .plan .kept .1 .1 .1 in
@@ -35,7 +44,7 @@ close-all-requires c κs =
 note-leaves-requires : tie.Need-note-leaves-requires
 note-leaves-requires c κs =
     let closed = c .before .before .before .before in
-    let planned = closed .before .before .before .before .before .before .before .before .before .before .before .before .before in
+    let planned = tables-laid (closed .before) in
     let known = entry planned .pre .0 in
     let roomy = entry planned .pre .1 in
     let kept = planned .plan .kept .1 .1 .1 in
@@ -70,7 +79,7 @@ returns : tie.Need-returns
 returns c =
     let noted = c .before .before in
     let closed = noted .before .before .before .before .before in
-    let planned = closed .before .before .before .before .before .before .before .before .before .before .before .before .before in
+    let planned = tables-laid (closed .before) in
     let roomy = entry planned .pre .1 in
     let kept = planned .plan .kept .1 .1 .1 in (
       record {

@@ -171,10 +171,15 @@ Come-back t = sweep-lts.After-words (sweep-claims t) (sweep-at t) sweep.Post swe
 abbrev going-on : (t : ℕ) → Come-back t → Going-on t
 going-on t c = pass-loop t (c .before .before .before)
 
+-- where the child was asked whether it rests
+abbrev rest-asked : (t : ℕ) → Come-back t
+    → sweep-lts.After-at-rest (sweep-claims t) (sweep-at t) sweep.Post sweep-Inv-loop sweep-μ-loop
+rest-asked t w = w .before .before .before .before .before .before .before .before
+
 -- and where its start was seen to wait
 abbrev missed-at : (t : ℕ) → Come-back t
     → sweep-lts.After-missed (sweep-claims t) (sweep-at t) sweep.Post sweep-Inv-loop sweep-μ-loop
-missed-at t w = w .before .before .before .before .before .before .before .before .before .before .before
+missed-at t w = rest-asked t w .before .before .before
 
 -- a bit whose next is in the word, and the lowest
 bits-within : (stand : ℕ) → stand + 1 < word-bits → (stand < word-bits) × (0 < word-bits)

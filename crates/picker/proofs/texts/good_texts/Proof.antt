@@ -4,9 +4,12 @@ use borrow.Author.Needs.{needs}
 use Rattle.picker.proofs.texts.good_texts.Statement.{statement}
 use Rattle.picker.proofs.texts.good_texts.Tie as tie
 
--- where the call began
+-- where there were no tables yet, and where the call began
+abbrev no-tables : tie.After-prepare → tie.After-slice-known
+no-tables c = c .before .before .before .before .before .before
+
 abbrev entry : tie.After-prepare → tie.Start
-entry c = c .before .before .before .before .before .before .before .before .before .before
+entry c = no-tables c .before .before .before .before
 
 slice-aggregate-prepare : tie.Need-slice-aggregate-prepare
 slice-aggregate-prepare c = search needs
@@ -43,7 +46,8 @@ slice-aggregate-texts-5 c = search needs
 
 texts-requires : tie.Need-texts-requires
 texts-requires c κs =
-    let made = c .before .before .before .before .before .before .before .before .before .before .before in
+    let tables-back = c .before .before .before .before .before .before in
+    let made = tables-back .before .before .before .before .before in
     let list = entry made .pre .0 in (
       record {
         roomy = made .prepare .ensures .0;
@@ -58,7 +62,8 @@ same-length c = search needs
 returns : tie.Need-returns
 returns c = λ t good.
     let printed = c .before .before in
-    let made = printed .before .before .before .before .before .before .before .before .before .before .before .before in
+    let tables-back = printed .before .before .before .before .before .before .before in
+    let made = tables-back .before .before .before .before .before in
     printed .texts .ensures t (made .prepare .ensures .1 t good)
 
 pub good-texts-spec : {M : Type 1} → statement M

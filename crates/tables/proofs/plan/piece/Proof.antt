@@ -10,13 +10,18 @@ use borrow.Author.Needs.{needs}
 use Rattle.tables.proofs.plan.piece.Statement.{statement}
 use Rattle.tables.proofs.plan.piece.Tie as tie
 
--- where the walk has ended, and where the call began
+-- where the walk has ended, where the piece's node was read before it, and where the call began
 abbrev walked : tie.After-slice-known11 → tie.After-fill
 walked c = c .before .before .before .before .before .before .before .before
 
+abbrev node-read : tie.After-fill-arg4 → tie.After-slice-known7
+node-read c = c .before .before .before .before
+
+abbrev start-of : tie.After-slice-known7 → tie.Start
+start-of c = c .before .before .before .before .before .before .before .before .before
+
 abbrev entry : tie.After-fill → tie.Start
-entry c = c .before .before .before .before .before .before .before .before .before .before .before .before .before
-    .before
+entry c = start-of (node-read (c .before))
 
 -- the tables that the walk leaves have the same room
 room : (c : tie.After-fill)
@@ -46,9 +51,7 @@ cast-node c =
     )
 
 fill-requires : tie.Need-fill-requires
-fill-requires c κs = let start =
-    c .before .before .before .before .before .before .before .before .before .before .before .before .before in
-    piece-ready (start .pre .0) (start .pre .1)
+fill-requires c κs = let start = start-of (node-read c) in piece-ready (start .pre .0) (start .pre .1)
 
 add-below : tie.Need-add-below
 add-below c = let small = storable (walked c) in omega arith

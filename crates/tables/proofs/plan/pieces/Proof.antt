@@ -15,15 +15,18 @@ abbrev μ-loop : tie.MeasureT-loop
 μ-loop list cuts total nexts₀ codes₀ runs₀ stands₀ tops₀ roots₀ k₀ nexts codes runs stands tops roots k =
     total - k
 
--- where the call began, where a round began, and where its piece was made
+-- where the call began, where a round began, where its piece was made, and where the first two tables came back
 abbrev entry : tie.At-loop Inv-loop μ-loop → tie.Start Inv-loop μ-loop
 entry c = c .before .before .before .before .before .before .before .before .before
 
 abbrev round : tie.After-piece Inv-loop μ-loop → tie.In-loop Inv-loop μ-loop
 round c = c .before .before .before .before .before .before .before
 
+abbrev codes-back : tie.After-slice-known12 Inv-loop μ-loop → tie.After-slice-known8 Inv-loop μ-loop
+codes-back c = c .before .before .before .before .before .before .before .before
+
 abbrev piece-made : tie.After-slice-known12 Inv-loop μ-loop → tie.After-piece Inv-loop μ-loop
-piece-made c = c .before .before .before .before .before .before .before .before .before .before .before .before
+piece-made c = codes-back c .before .before .before .before
 
 loop-holds : tie.Need-loop-holds Inv-loop μ-loop
 loop-holds c = (omega arith, c .before .before .before .before .before .before .before .before .pre .0)

@@ -13,6 +13,10 @@ entry c = c .before .before .before .before .before .before .before
 abbrev entry-at-call : tie.After-roots → tie.Start
 entry-at-call c = entry (c .before .before .before .before .before .before)
 
+-- where the first two tables came back from it
+abbrev codes-back : tie.After-roots2 → tie.After-slice-known7
+codes-back c = c .before .before .before .before .before .before .before
+
 sub-last : tie.Need-sub-last
 sub-last c = omega (arith, has-records (entry c .pre .0))
 
@@ -46,7 +50,7 @@ same-length-5 c = search needs
 
 returns : tie.Need-returns
 returns c =
-    let made = c .before .before .before .before .before .before .before .before .before .before .before in
+    let made = codes-back c .before .before .before .before in
     laid (made .pieces .ensures) (total-of (entry-at-call (made .before) .pre .0))
 
 pub plan-spec : {M : Type 1} → statement M
