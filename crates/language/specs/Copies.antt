@@ -47,6 +47,22 @@ module _ {A : Type 0} where
   abbrev pub Full : Nested A → States → State → Type 0
   Full x N p = (q : State) → Copy x q p → N q
 
+module _ {A : Type 0} (M : Meaning A) (b : ℕ) where
+  -- each reading transition of the cut automaton is one of the uncut automaton
+  pub reading-reads : {x : Nested A} {p q : State} → Reading M b x p q
+      → Has x p × Reads M b (whole x) (origin x p) (origin x q)
+  reading-reads (Reading.at-leaf takes) = (tt, Reads.at-leaf takes)
+  reading-reads (Reading.catenation-left r) = (reading-reads r .0, Reads.catenation-left (reading-reads r .1))
+  reading-reads (Reading.catenation-right r) = (reading-reads r .0, Reads.catenation-right (reading-reads r .1))
+  reading-reads (Reading.union-left r) = (reading-reads r .0, Reads.union-left (reading-reads r .1))
+  reading-reads (Reading.union-right r) = (reading-reads r .0, Reads.union-right (reading-reads r .1))
+  reading-reads (Reading.star-inside r) = (reading-reads r .0, Reads.star-inside (reading-reads r .1))
+  reading-reads (Reading.in-child r) = reading-reads r
+
+  -- none of these ends in the start
+  never-reads : {t : Tree A} {p : State} → Reads M b t p start → ⊥
+  never-reads = elim [ ]
+
 module _ {A : Type 0} (M : Meaning A) where
   -- where the start lies in a settled set, all its copies do: it is passed down
   pub start-full : (x : Nested A) (N : States) → Settled M x N → N start → Full x N start
@@ -61,12 +77,9 @@ module _ {A : Type 0} (M : Meaning A) where
   child-full x N settled other full accepting of-accepting = settled .0 _ _ Wire.pass-up (full accepting of-accepting)
   child-full x N settled other full (left q) (in-child c) = full q c
 
-  -- no transition ends in the start
+  -- no empty transition ends in the start
   never-empty : {t : Tree A} {p : State} → Empty M t p start → ⊥
   never-empty = elim [ ]
-
-  never-reads : {b : ℕ} {t : Tree A} {p : State} → Reads M b t p start → ⊥
-  never-reads = elim [ ]
 
   -- an empty transition of the uncut automaton leads from full to full in a settled set
   pub empty-full : (x : Nested A) (N : States) → Settled M x N → {p q : State} → Empty M (whole x) p q → Full x N p
@@ -109,45 +122,35 @@ module _ {A : Type 0} (M : Meaning A) where
       child-full x N s (λ begins. never-empty (rw begins at e))
       (empty-full x _ (s .1) e (λ p d. full (left p) (in-child d))) q c
 
-  module _ (b : ℕ) where
-    -- a transition that reads b leads from full in some marks to full in a settled set that has what these move to
-    pub reads-full : (x : Nested A) (marks N : States) → Settled M x N
-        → ((p q : State) → Reading M b x p q → marks p → N q) → {p q : State} → Reads M b (whole x) p q
-        → Full x marks p → Full x N q
-    reads-full (leaf a) marks N s moved (Reads.at-leaf takes) full accepting of-accepting =
+  module _ (N : Meaning A) (b : ℕ) where
+    -- a transition that reads b, by whatever meaning, leads from full in some marks to full in a settled set that has
+    -- what these move to
+    pub reads-full : (x : Nested A) (marks reached : States) → Settled M x reached
+        → ((p q : State) → Reading N b x p q → marks p → reached q) → {p q : State} → Reads N b (whole x) p q
+        → Full x marks p → Full x reached q
+    reads-full (leaf a) marks reached s moved (Reads.at-leaf takes) full accepting of-accepting =
         moved start accepting (Reading.at-leaf takes) (full start of-start)
-    reads-full (catenation x y) marks N s moved (Reads.catenation-left e) full (left q) (Copy.catenation-left c) =
+    reads-full (catenation x y) marks reached s moved (Reads.catenation-left e) full (left q) (Copy.catenation-left c) =
         reads-full x _ _ (s .1) (λ p q r. moved (left p) (left q) (Reading.catenation-left r)) e
         (λ p d. full (left p) (Copy.catenation-left d)) q c
-    reads-full (catenation x y) marks N s moved (Reads.catenation-right e) full (right q) (Copy.catenation-right c) =
+    reads-full (catenation x y) marks reached s moved (Reads.catenation-right e) full (right q) (Copy.catenation-right c) =
         reads-full y _ _ (s .2) (λ p q r. moved (right p) (right q) (Reading.catenation-right r)) e
         (λ p d. full (right p) (Copy.catenation-right d)) q c
-    reads-full (union x y) marks N s moved (Reads.union-left e) full (left q) (Copy.union-left c) =
+    reads-full (union x y) marks reached s moved (Reads.union-left e) full (left q) (Copy.union-left c) =
         reads-full x _ _ (s .1) (λ p q r. moved (left p) (left q) (Reading.union-left r)) e
         (λ p d. full (left p) (Copy.union-left d)) q c
-    reads-full (union x y) marks N s moved (Reads.union-right e) full (right q) (Copy.union-right c) =
+    reads-full (union x y) marks reached s moved (Reads.union-right e) full (right q) (Copy.union-right c) =
         reads-full y _ _ (s .2) (λ p q r. moved (right p) (right q) (Reading.union-right r)) e
         (λ p d. full (right p) (Copy.union-right d)) q c
-    reads-full (star x) marks N s moved (Reads.star-inside e) full (left q) (Copy.star-inside c) =
+    reads-full (star x) marks reached s moved (Reads.star-inside e) full (left q) (Copy.star-inside c) =
         reads-full x _ _ (s .1) (λ p q r. moved (left p) (left q) (Reading.star-inside r)) e
         (λ p d. full (left p) (Copy.star-inside d)) q c
-    reads-full (below x) marks N s moved e full q c =
-        child-full x N s (λ begins. never-reads (rw begins at e))
+    reads-full (below x) marks reached s moved e full q c =
+        child-full x reached s (λ begins. never-reads N b (rw begins at e))
         (reads-full x _ _ (s .1) (λ p q r. moved (left p) (left q) (Reading.in-child r)) e
         (λ p d. full (left p) (in-child d))) q c
 
-    -- the other way round, each reading transition of the cut automaton is one of the uncut automaton
-    pub reading-reads : {x : Nested A} {p q : State} → Reading M b x p q
-        → Has x p × Reads M b (whole x) (origin x p) (origin x q)
-    reading-reads (Reading.at-leaf takes) = (tt, Reads.at-leaf takes)
-    reading-reads (Reading.catenation-left r) = (reading-reads r .0, Reads.catenation-left (reading-reads r .1))
-    reading-reads (Reading.catenation-right r) = (reading-reads r .0, Reads.catenation-right (reading-reads r .1))
-    reading-reads (Reading.union-left r) = (reading-reads r .0, Reads.union-left (reading-reads r .1))
-    reading-reads (Reading.union-right r) = (reading-reads r .0, Reads.union-right (reading-reads r .1))
-    reading-reads (Reading.star-inside r) = (reading-reads r .0, Reads.star-inside (reading-reads r .1))
-    reading-reads (Reading.in-child r) = reading-reads r
-
-  -- and each other transition of the cut automaton is an empty one of the uncut automaton, or leads to a copy of the
+  -- the other way round, each empty transition of the cut automaton is an empty one of the uncut automaton, or leads to a copy of the
   -- same state
   wires-origin : (x : Nested A) (X : States) → Settled-by (Empty M (whole x)) X
       → Settled-by (Wire M x) (λ q. X (origin x q))

@@ -15,6 +15,7 @@ pub mod TwoWalks
 pub mod Visits
 mod Copies
 pub mod Same
+pub mod SameEmpty
 pub mod Unmoved
 pub mod Sweeps
 pub mod Models

@@ -8,18 +8,29 @@ use native.Mathlib.Nat.{not-suc-le-zero, zero-add, add-zero}
 use native.Mathlib.Numerals.{add-one}
 use native.Mathlib.Decide.{decLt}
 use lib.ListN.{length, getD, take, drop, set, take-append-drop, length-drop}
-use lib.Seq.{getD-set-same, getD-set-other, take-at, drop-drop, length-take-le}
+use lib.Seq.{getD-set-same, getD-set-other, take-at, take-length, drop-drop, length-take-le}
 use Rattle.language.specs.Tree.{Tree, leaf, catenation, union, star, nodes}
 use Rattle.language.specs.Nested.{Nested}
 use Rattle.tree.specs.Leaf.{Leaf}
 use Rattle.tree.specs.Limits.{most-pieces, most-records}
-use Rattle.tree.specs.Layout.{record-size, labelled-record, record-at, label-at}
+use Rattle.tree.specs.Layout.{
+  record-size,
+  labelled-record,
+  record-at,
+  kind-at,
+  character-at,
+  one-if-class,
+  class-records,
+  label-with,
+  label-at,
+}
 use Rattle.tree.specs.Cut.{one, cut-only, open-size, edge, nest, wanted}
 use Rattle.tree.specs.Parts.{pieces-below, below-each}
 use Rattle.tree.specs.Nesting.{pieces-below-edge, pieces-below-nest}
-use Rattle.tree.specs.Records.{encode, labels, piece-count, Good}
+use Rattle.tree.specs.Records.{encode, labels, piece-count, class-numbers, class-count, Good}
 use Rattle.tree.specs.Lengths.{length-encode, length-labels}
-use Rattle.tree.specs.Readback.{Labels-of, labels-of-good, good-unique}
+use Rattle.tree.specs.ClassNumbers.{numbers-in, numbers-labels, Same-kinds, class-records-are, taken-ranks}
+use Rattle.tree.specs.Readback.{Labels-of, kinds-of-tree, labels-of-good, good-unique}
 use Rattle.tree.specs.Pieces.{cut-up, good-small}
 use Rattle.tree.specs.Numbering.{child-piece}
 use Rattle.tree.specs.Seats.{Seat, seats, seat-at, left-apart, right-apart, cut-edges}
@@ -37,7 +48,7 @@ use Rattle.tree.specs.Decide.{Taken, Compared, Agrees}
 
 -- two answers that fit are the same
 pub decided-unique : (bytes : List ℕ) (a b : Decided) → Judged bytes a → Judged bytes b → a ≡ b
-decided-unique bytes (good n p) (good m q) a b =
+decided-unique bytes (good n p k) (good m q l) a b =
     let same : a .fits .tree ≡ b .fits .tree = good-unique bytes (a .fits .tree) (b .fits .tree) (a .fits .is-good)
     (b .fits .is-good) in
     cc (
@@ -45,11 +56,14 @@ decided-unique bytes (good n p) (good m q) a b =
       b .fits .records-are,
       a .fits .pieces-are,
       b .fits .pieces-are,
+      a .fits .classes-are,
+      b .fits .classes-are,
       ap (nodes {A = Leaf}) same,
       ap piece-count same,
+      ap class-count same,
     )
-decided-unique bytes (good n p) not-good a b = absurd (b .fits (a .fits .tree) (a .fits .is-good))
-decided-unique bytes not-good (good n p) a b = absurd (a .fits (b .fits .tree) (b .fits .is-good))
+decided-unique bytes (good n p k) not-good a b = absurd (b .fits (a .fits .tree) (a .fits .is-good))
+decided-unique bytes not-good (good n p k) a b = absurd (a .fits (b .fits .tree) (b .fits .is-good))
 decided-unique bytes not-good not-good a b = refl
 
 -- none yet
@@ -67,6 +81,16 @@ taken-more list ls i v inside is-label taken = record { each = λ r h. by-place 
         let here : r ≡ i = omega arith in
         rw here (getD-set-same ls i v 0 inside ∙ is-label)
 
+-- the label of record i, by its kind, its character and the class leaves before it
+pub label-by : (list : List ℕ) (i kind character classes : ℕ) → kind ≡ kind-at list i → character ≡ character-at list i
+    → classes ≡ class-records list i → label-with kind character classes ≡ label-at list i
+label-by list i kind character classes is-kind is-character before = rw (is-kind, is-character, before)
+
+-- the class leaves before the next record
+pub classes-more : (list : List ℕ) (i kind classes here : ℕ) → kind ≡ kind-at list i → classes ≡ class-records list i
+    → here ≡ one-if-class kind → classes + here ≡ class-records list (i + 1)
+classes-more list i kind classes here is-kind before is-one = rw (add-one i, before, is-one, is-kind)
+
 -- all of them, taken off into the front of a longer list
 pub front-labels : (list ls taken : List ℕ) → length list % record-size ≡ 0
     → length list / record-size ≤ length ls
@@ -79,6 +103,17 @@ front-labels list ls taken whole room long shown =
     let front : take (length list / record-size) (taken ++ drop (length list / record-size) ls) ≡ taken =
     take-at taken (drop (length list / record-size) ls) (length list / record-size) (long ∙ n) in
     rw front (record { long = omega arith; each = λ r h. shown .each r (omega arith) })
+
+-- and the class leaves counted on the way
+pub front-classes : (list ls front : List ℕ) (classes : ℕ) → length list % record-size ≡ 0
+    → length list / record-size ≤ length ls → Labels-of list front
+    → classes ≡ class-records list (length (take (length list / record-size) ls))
+    → classes ≡ class-records list (length front)
+front-classes list ls front classes whole room shown counted =
+    let n : length (take (length list / record-size) ls) ≡ length list / record-size =
+    length-take-le (length list / record-size) ls room in
+    let same : length (take (length list / record-size) ls) ≡ length front = omega (arith, shown .long) in
+    counted ∙ ap (class-records list) same
 
 -- none yet
 pub agrees-none : (ls list : List ℕ) → Agrees ls list 0
@@ -174,30 +209,48 @@ module _ (bytes ls : List ℕ) (shown : Labels-of bytes ls) where
   -- not good: the labels are those of no tree
   pub not-by-labels : (Postorder ls → ⊥) → Judged bytes not-good
   not-by-labels h =
-      record { fits = λ t g. h (record { tree = t; same = labels-of-good bytes ls t (g .of-tree) shown }) }
+      record {
+        fits = λ t g. h (record { tree = t; same = labels-of-good bytes ls t (g .of-tree) (g .ranked) shown });
+      }
 
   -- not good: the tree has more than 128 pieces
   pub not-by-pieces : (pieces : ℕ) → Counts-pieces ls pieces → most-pieces < pieces → Judged bytes not-good
   not-by-pieces pieces c h =
-      record { fits = λ t g. omega (arith, c .count t (labels-of-good bytes ls t (g .of-tree) shown), g .few) }
+      record {
+        fits = λ t g. omega (arith, c .count t (labels-of-good bytes ls t (g .of-tree) (g .ranked) shown), g .few);
+      }
 
   -- not good: a record is not the tree's
   pub not-by-records : Compared ls bytes false → Judged bytes not-good
   not-by-records c =
-      record { fits = λ t g. c .if-not refl t (labels-of-good bytes ls t (g .of-tree) shown) (g .of-tree) }
+      record { fits = λ t g. c .if-not refl t (labels-of-good bytes ls t (g .of-tree) (g .ranked) shown) (g .of-tree) }
 
-  -- good: every record is the tree's
-  pub good-by-records : (pieces : ℕ) → Postorder ls → Counts-pieces ls pieces → pieces ≤ most-pieces
-      → Compared ls bytes true → Judged bytes (good (length ls) pieces)
-  good-by-records pieces o c few same =
+  -- the records of class leaves are where the labels of the list's tree say so
+  kinds-by-tree : (t : Tree Leaf) → bytes ≡ encode t → ls ≡ labels t → Same-kinds bytes ls (length ls)
+  kinds-by-tree t of-tree same = rw (of-tree, same) (kinds-of-tree t (length (labels t)) (omega (arith, length-labels t)))
+
+  -- good: every record is the tree's; then the number of each class leaf is its rank, which its label was made of
+  pub good-by-records : (pieces classes : ℕ) → Postorder ls → Counts-pieces ls pieces → pieces ≤ most-pieces
+      → classes ≡ class-records bytes (length ls) → Compared ls bytes true
+      → Judged bytes (good (length ls) pieces classes)
+  good-by-records pieces classes o c few counted same =
       let t : Tree Leaf = o .tree in
       let count : pieces ≡ piece-count t = c .count t (o .same) in
+      let of-tree : bytes ≡ encode t = same .if-so refl t (o .same) in
+      let kinds : Same-kinds bytes ls (length ls) = kinds-by-tree t of-tree (o .same) in
+      let numbers : numbers-in (take (length ls) ls) ≡ class-numbers t =
+      ap numbers-in (take-length ls ∙ o .same) ∙ numbers-labels t in
       record {
         fits = record {
           tree = t;
-          is-good = record { of-tree = same .if-so refl t (o .same); few = rw (← count) few };
+          is-good = record {
+            of-tree = of-tree;
+            few = rw (← count) few;
+            ranked = record { each = rw numbers at (taken-ranks bytes ls (length ls) kinds (shown .each)) };
+          };
           records-are = ap length (o .same) ∙ length-labels t;
           pieces-are = count;
+          classes-are = counted ∙ class-records-are bytes ls (length ls) kinds ∙ ap length numbers;
         };
       }
 
@@ -239,7 +292,7 @@ counts-below bytes ls sizes opens cuts shown measured = record { told = by-tree 
     by-tree : (t : Tree Leaf) → Good bytes t → (r : ℕ) → r < nodes t
         → getD cuts (r + 1) 0 ≡ getD (below-each (cut-up t)) r 0
     by-tree t g r h =
-        let e : ls ≡ labels t = labels-of-good bytes ls t (g .of-tree) shown in
+        let e : ls ≡ labels t = labels-of-good bytes ls t (g .of-tree) (g .ranked) shown in
         measured .counted t e .slot (r + 1) (omega (arith, ap length e, length-labels t))
         ∙ rw add-one (ap (λ (l : List ℕ). getD l r 0) (sym (below-seats t 0 1)))
 

@@ -10,7 +10,7 @@ use Rattle.tree.specs.Layout.{
   record-size,
   two-bytes,
   record-of,
-  labelled-record,
+  four-numbers,
   Holds-number,
   kind-at,
   character-at,
@@ -40,18 +40,17 @@ shows before after r kind character left right piece e small-left small-right sm
       piece-is = omega (arith, at 6 (record-size * r + 6) (omega arith), at 7 (record-size * r + 6 + 1) (omega arith));
     }
 
--- numbers stored two bytes at a time, side by side, are the record made of them
+-- numbers stored two bytes at a time, side by side, are the four numbers
 pub written-in-turn : (a b c d e : List ℕ) (at label left right piece : ℕ) → b ≡ sets a at (two-bytes label)
     → c ≡ sets b (at + 2) (two-bytes left) → d ≡ sets c (at + 4) (two-bytes right)
     → e ≡ sets d (at + 6) (two-bytes piece)
-    → e ≡ sets a at (labelled-record label left right piece)
+    → e ≡ sets a at (four-numbers label left right piece)
 written-in-turn a b c d e at label left right piece p q r s = rw (s, r, q, p) (simp towards-suc)
 
 -- a record put into a list
-pub record-put : (list : List ℕ) (at label left right piece : ℕ) → at + record-size ≤ length list
-    → sets list at (labelled-record label left right piece)
-    ≡ take at list ++ labelled-record label left right piece ++ drop (at + record-size) list
-record-put list at label left right piece room = sets-eq (labelled-record label left right piece) list at room
+pub record-put : (list : List ℕ) (at : ℕ) (bytes : List ℕ) → length bytes ≡ record-size → at + record-size ≤ length list
+    → sets list at bytes ≡ take at list ++ bytes ++ drop (at + record-size) list
+record-put list at bytes long room = rw long at (sets-eq bytes list at (rw long room))
 
 -- the first two elements of what is left of a list
 two-more : (list : List ℕ) (at : ℕ) → at + 2 ≤ length list
@@ -81,7 +80,7 @@ pub record Holds-fields (list : List ℕ) (at label left right piece : ℕ) : Ty
 -- then they are that record
 pub record-same : (list : List ℕ) (at label left right piece : ℕ) → at + record-size ≤ length list
     → Holds-fields list at label left right piece
-    → take record-size (drop at list) ≡ labelled-record label left right piece
+    → take record-size (drop at list) ≡ four-numbers label left right piece
 record-same list at label left right piece room h =
     record-bytes list at room
     ∙ rw (
@@ -97,7 +96,7 @@ record-same list at label left right piece room h =
 
 -- and only then
 pub record-holds : (list : List ℕ) (at label left right piece : ℕ) → at + record-size ≤ length list
-    → take record-size (drop at list) ≡ labelled-record label left right piece
+    → take record-size (drop at list) ≡ four-numbers label left right piece
     → Holds-fields list at label left right piece
 record-holds list at label left right piece room e =
     let bytes = record-bytes list at room in

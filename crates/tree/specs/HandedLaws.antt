@@ -1,5 +1,5 @@
 -- The records hand their piece numbers to their children, from the last to the first.
-use Prim.Native.Nat.{ℕ, _+_, _*_, _-_, _%_, _≤_, _<_}
+use Prim.Native.Nat.{ℕ, _+_, _-_, _≤_, _<_}
 use mathlib.Core.Path.{_≡_, refl, ap, sym, subst, _∙_}
 use mathlib.Core.Logic.{_⊎_, inl, inr, ⊎-elim}
 use mathlib.Core.Bool.{Bool}
@@ -16,7 +16,6 @@ use Rattle.tree.specs.Cut.{open-size, one, cut-left, cut-right}
 use Rattle.tree.specs.Limits.{most-nodes, most-labels}
 use Rattle.tree.specs.Numbering.{child-piece}
 use Rattle.tree.specs.Records.{labels}
-use borrow.Author.Tests.{ne-eqb}
 use Rattle.tree.specs.Gathered.{cut-sum}
 use Rattle.tree.specs.GatheredLaws.{pieces-at-most-nodes}
 use Rattle.tree.specs.WrittenLaws.{seat-small}
@@ -41,7 +40,7 @@ use Rattle.tree.specs.Seats.{
   held,
   Around,
 }
-use Rattle.tree.specs.SeatsLaws.{held-seat, held-whole, length-seats, seats-seated, around}
+use Rattle.tree.specs.SeatsLaws.{leaf-left, leaf-right, held-seat, held-whole, length-seats, seats-seated, around}
 use Rattle.tree.specs.Handed.{size-of, Waits, here, before, Filled, Gives, piece-of, new-of, Handed, Pieced}
 
 -- no slot that waits is slot 0
@@ -156,20 +155,14 @@ gives-more f t i left right a b slots h room left-le right-le l r for-left for-r
 -- where there is a left or only child, a number of it is its own
 of-left-there : (u : Tree Leaf) (i size k : ℕ) → 1 ≤ left-slot (root-label u) i size → of-left (λ (s : Tree Leaf). k) u
     ≡ k
-of-left-there (leaf (Leaf.character a)) i size k h =
-    let character : (1 + 256 * a) % 256 ≡ 1 = omega arith in
-    let none : left-slot (root-label (leaf (Leaf.character a))) i size ≡ 0 = rw character in
-    absurd (omega arith)
+of-left-there (leaf a) i size k h = absurd (omega (arith, leaf-left a i size))
 of-left-there (catenation s t) i size k h = refl
 of-left-there (union s t) i size k h = refl
 of-left-there (star s) i size k h = refl
 
 -- and where there is a right child
 of-right-there : (u : Tree Leaf) (i k : ℕ) → 1 ≤ right-slot (root-label u) i → of-right (λ (t : Tree Leaf). k) u ≡ k
-of-right-there (leaf (Leaf.character a)) i k h =
-    let none : right-slot (root-label (leaf (Leaf.character a))) i ≡ 0 =
-    rw (ne-eqb (1 + 256 * a) 2 (omega arith), ne-eqb (1 + 256 * a) 3 (omega arith)) in
-    absurd (omega arith)
+of-right-there (leaf a) i k h = absurd (omega (arith, leaf-right a i))
 of-right-there (catenation s t) i k h = refl
 of-right-there (union s t) i k h = refl
 of-right-there (star s) i k h = absurd (omega arith)

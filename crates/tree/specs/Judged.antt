@@ -5,22 +5,23 @@ use mathlib.Core.List.{List}
 use lib.ListN.{getD}
 use Rattle.language.specs.Tree.{Tree, nodes}
 use Rattle.tree.specs.Leaf.{Leaf}
-use Rattle.tree.specs.Records.{piece-count, Good}
+use Rattle.tree.specs.Records.{piece-count, class-count, Good}
 use Rattle.tree.specs.Parts.{below-each}
 use Rattle.tree.specs.Pieces.{cut-up}
 use Rattle.tree.specs.declared.good.Decided.{Decided}
 use Rattle.tree.specs.declared.good.Decided.the-variants.{Good as good, NotGood as not-good}
 
 -- the list is good, for a tree with these counts
-pub record Good-with (bytes : List ℕ) (records pieces : ℕ) : Type 0 where
+pub record Good-with (bytes : List ℕ) (records pieces classes : ℕ) : Type 0 where
   pub tree : Tree Leaf
   pub is-good : Good bytes tree
   pub records-are : records ≡ nodes tree
   pub pieces-are : pieces ≡ piece-count tree
+  pub classes-are : classes ≡ class-count tree
 
 -- the answer fits the list
 abbrev pub Fits-answer : List ℕ → Decided → Type 0
-Fits-answer bytes (good records pieces) = Good-with bytes records pieces
+Fits-answer bytes (good records pieces classes) = Good-with bytes records pieces classes
 Fits-answer bytes not-good = (t : Tree Leaf) → Good bytes t → ⊥
 
 -- the promise of deciding: the answer fits

@@ -1,8 +1,10 @@
 -- The layout of a tree record. No other file of definitions knows which byte holds what:
---   byte 0 the kind · byte 1 the character · bytes 2-3 the left or only child · bytes 4-5 the right child
---   · bytes 6-7 the piece; numbers little-endian.
-use Prim.Native.Nat.{ℕ, _+_, _*_, _%_, _/_}
+--   byte 0 the kind · byte 1 the character · bytes 2-3 the left or only child, or the number of a class · bytes 4-5 the
+--   right child · bytes 6-7 the piece; numbers little-endian.
+use Prim.Native.Nat.{ℕ, zero, suc, _+_, _*_, _%_, _/_}
 use mathlib.Core.Path.{_≡_}
+use mathlib.Core.Bool.{cond}
+use lib.Dec.{eqb}
 use mathlib.Core.List.{List, [], _∷_, _++_}
 use lib.ListN.{getD, take, drop}
 
@@ -23,6 +25,13 @@ union-kind = 3
 abbrev pub star-kind : ℕ
 star-kind = 4
 
+abbrev pub class-kind : ℕ
+class-kind = 5
+
+-- how many bytes a class record has: a bit for each value of a byte
+abbrev pub class-record-size : ℕ
+class-record-size = 32
+
 -- what stands in the place of a child's record number where there is no child
 abbrev pub no-child : ℕ
 no-child = 65535
@@ -39,9 +48,19 @@ record-of kind character left right piece = kind ∷ character ∷ (two-bytes le
 abbrev pub label-of : (kind character : ℕ) → ℕ
 label-of kind character = kind + 256 * character
 
--- the bytes of a record whose kind and character are given by its label
+-- four numbers side by side: kind and character, left or only child, right child, piece
+abbrev pub four-numbers : (first left right piece : ℕ) → List ℕ
+four-numbers first left right piece = two-bytes first ++ two-bytes left ++ two-bytes right ++ two-bytes piece
+
+-- the label of a class leaf, which tells its number: of no other kind is it 5 more than a multiple of 8
+abbrev pub class-label : (number : ℕ) → ℕ
+class-label number = class-kind + 8 * number
+
+-- the bytes of a record that has this label: of a class leaf the children do not count
 abbrev pub labelled-record : (label left right piece : ℕ) → List ℕ
-labelled-record label left right piece = record-of (label % 256) (label / 256 % 256) left right piece
+labelled-record label left right piece =
+    cond (eqb (label % 8) class-kind) (record-of class-kind 0 (label / 8) no-child piece)
+    (four-numbers label left right piece)
 
 -- the number in two bytes of a list, from the place `at` on
 abbrev pub number-at : List ℕ → (at : ℕ) → ℕ
@@ -64,10 +83,6 @@ kind-at list r = getD list (record-size * r) 0
 abbrev pub character-at : List ℕ → (r : ℕ) → ℕ
 character-at list r = getD list (record-size * r + 1) 0
 
--- kind and character as one number
-abbrev pub label-at : List ℕ → (r : ℕ) → ℕ
-label-at list r = label-of (kind-at list r) (character-at list r)
-
 -- the record number of the left or only child
 abbrev pub left-at : List ℕ → (r : ℕ) → ℕ
 left-at list r = number-at list (record-size * r + 2)
@@ -87,3 +102,20 @@ pub record Shows (list : List ℕ) (r kind character left right piece : ℕ) : T
   pub left-is : left-at list r ≡ left
   pub right-is : right-at list r ≡ right
   pub piece-is : piece-at list r ≡ piece
+
+-- one for the kind of a class leaf's record
+abbrev pub one-if-class : (kind : ℕ) → ℕ
+one-if-class kind = cond (eqb kind class-kind) 1 0
+
+-- how many of the first n records of a list are those of class leaves
+abbrev pub class-records : List ℕ → (n : ℕ) → ℕ
+class-records list zero = 0
+class-records list (suc n) = class-records list n + one-if-class (kind-at list n)
+
+-- the label of a record of this kind with `classes` class leaves before it: a class leaf has its rank for its number
+abbrev pub label-with : (kind character classes : ℕ) → ℕ
+label-with kind character classes = cond (eqb kind class-kind) (class-label classes) (label-of kind character)
+
+-- the label that record r of a list asks for
+abbrev pub label-at : List ℕ → (r : ℕ) → ℕ
+label-at list r = label-with (kind-at list r) (character-at list r) (class-records list r)

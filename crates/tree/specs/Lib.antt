@@ -37,6 +37,7 @@ pub mod Handed
 pub mod HandedLaws
 pub mod Recording
 pub mod RecordingLaws
+pub mod ClassNumbers
 pub mod Readback
 pub mod NumbersShown
 pub mod Depth

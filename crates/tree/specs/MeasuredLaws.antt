@@ -87,7 +87,7 @@ right-slot-le l i = by-test (eqb l (label-of catenation-kind 0) || eqb l (label-
 
 -- nor is a left child's
 pub left-slot-le : (l i size : ℕ) → left-slot l i size ≤ i
-left-slot-le l i size = by-test (eqb (l % 256) character-kind)
+left-slot-le l i size = by-test (eqb (l % 4) character-kind)
   where
     by-test : (b : Bool) → cond b 0 (i - size) ≤ i
     by-test true = omega arith

@@ -9,13 +9,13 @@ use mathlib.Core.List.{List, [], _∷_, _++_, append-assoc, append-nil}
 use native.Mathlib.Omega.{arith}
 use lib.Dec.{eqb}
 use lib.Seq.{append-snoc}
-use borrow.Author.Tests.{eqb-true}
+use borrow.Author.Tests.{eqb-true, ne-eqb}
 use Rattle.language.specs.Tree.{Tree, leaf, catenation, union, star}
 use Rattle.tree.specs.Leaf.{Leaf}
-use Rattle.tree.specs.Layout.{label-of, character-kind, catenation-kind, union-kind, star-kind}
+use Rattle.tree.specs.Layout.{label-of, character-kind, catenation-kind, union-kind, star-kind, class-kind}
 use Rattle.tree.specs.Records.{labels, leaf-label}
 
--- what a label asks for: a leaf with a character, a node over the last two trees or over the last one, or nothing that
+-- what a label asks for: a leaf, a node over the last two trees or over the last one, or nothing that
 -- a tree has
 pub data Asked : Type 0 where
   a-leaf : Leaf → Asked
@@ -24,12 +24,14 @@ pub data Asked : Type 0 where
   a-star : Asked
   nothing : Asked
 
--- what is asked for, by the label's low byte and, of a node with children, by all of it
+-- what is asked for: of a character by the label's low byte, of a class by what is left of it by 8, else by all of it
 abbrev pub asked : ℕ → Asked
 asked label =
     cond (eqb (label % 256) character-kind) (a-leaf (Leaf.character (label / 256)))
     (cond (eqb label (label-of catenation-kind 0)) a-catenation
-    (cond (eqb label (label-of union-kind 0)) a-union (cond (eqb label (label-of star-kind 0)) a-star nothing)))
+    (cond (eqb label (label-of union-kind 0)) a-union
+    (cond (eqb label (label-of star-kind 0)) a-star
+    (cond (eqb (label % 8) class-kind) (a-leaf (Leaf.class (label / 8))) nothing))))
 
 -- the stack, last tree first, after one label; none where the trees that it asks for are not there
 abbrev pub pushed : Asked → List (Tree Leaf) → Option (List (Tree Leaf))
@@ -66,6 +68,14 @@ asked-leaf (Leaf.character a) =
     let kind : (1 + 256 * a) % 256 ≡ 1 = omega arith in
     let character : (1 + 256 * a) / 256 ≡ a = omega arith in
     rw (kind, character)
+asked-leaf (Leaf.class k) =
+    let no-character : eqb ((5 + 8 * k) % 256) 1 ≡ false = ne-eqb ((5 + 8 * k) % 256) 1 (omega arith) in
+    let no-catenation : eqb (5 + 8 * k) 2 ≡ false = ne-eqb (5 + 8 * k) 2 (omega arith) in
+    let no-union : eqb (5 + 8 * k) 3 ≡ false = ne-eqb (5 + 8 * k) 3 (omega arith) in
+    let no-star : eqb (5 + 8 * k) 4 ≡ false = ne-eqb (5 + 8 * k) 4 (omega arith) in
+    let kind : (5 + 8 * k) % 8 ≡ 5 = omega arith in
+    let number : (5 + 8 * k) / 8 ≡ k = omega arith in
+    rw (no-character, no-catenation, no-union, no-star, kind, number)
 
 -- the labels of a tree put that tree on the stack
 pub built-labels : (t : Tree Leaf) (rest : List ℕ) (stack : List (Tree Leaf)) → built (labels t ++ rest) stack
@@ -92,22 +102,25 @@ Asks label a-union = label ≡ label-of union-kind 0
 Asks label a-star = label ≡ label-of star-kind 0
 Asks label nothing = Unit {0}
 
--- by the four tests
-tested : (label : ℕ) (is-leaf is-catenation is-union is-star : Bool)
-    → eqb (label % 256) character-kind ≡ is-leaf → eqb label (label-of catenation-kind 0) ≡ is-catenation
+-- by the five tests
+tested : (label : ℕ) (is-character is-catenation is-union is-star is-class : Bool)
+    → eqb (label % 256) character-kind ≡ is-character → eqb label (label-of catenation-kind 0) ≡ is-catenation
     → eqb label (label-of union-kind 0) ≡ is-union → eqb label (label-of star-kind 0) ≡ is-star
+    → eqb (label % 8) class-kind ≡ is-class
     → Asks label
-    (cond is-leaf (a-leaf (Leaf.character (label / 256)))
-    (cond is-catenation a-catenation (cond is-union a-union (cond is-star a-star nothing))))
-tested label true b c d e f g h = omega (arith, eqb-true (label % 256) character-kind e)
-tested label false true c d e f g h = eqb-true _ _ f
-tested label false false true d e f g h = eqb-true _ _ g
-tested label false false false true e f g h = eqb-true _ _ h
-tested label false false false false e f g h = tt
+    (cond is-character (a-leaf (Leaf.character (label / 256)))
+    (cond is-catenation a-catenation
+    (cond is-union a-union (cond is-star a-star (cond is-class (a-leaf (Leaf.class (label / 8))) nothing)))))
+tested label true b c d l e f g h m = omega (arith, eqb-true (label % 256) character-kind e)
+tested label false true c d l e f g h m = eqb-true _ _ f
+tested label false false true d l e f g h m = eqb-true _ _ g
+tested label false false false true l e f g h m = eqb-true _ _ h
+tested label false false false false true e f g h m = omega (arith, eqb-true (label % 8) class-kind m)
+tested label false false false false false e f g h m = tt
 
 -- what a label asks for has that label
 pub asked-says : (label : ℕ) → Asks label (asked label)
-asked-says label = tested label _ _ _ _ refl refl refl refl
+asked-says label = tested label _ _ _ _ _ refl refl refl refl refl
 
 -- the trees of a stack, if there is one, have these labels
 abbrev pub Holds-labels : Option (List (Tree Leaf)) → List ℕ → Type 0

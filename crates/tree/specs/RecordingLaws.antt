@@ -8,14 +8,14 @@ use lib.ListN.{length, getD, take, drop}
 use lib.Seq.{sets, take-add, take-at, take-all, drop-append-add, length-take-le, drop-drop}
 use Rattle.language.specs.Tree.{Tree, nodes}
 use Rattle.tree.specs.Leaf.{Leaf}
-use Rattle.tree.specs.Layout.{record-size, labelled-record, two-bytes}
+use Rattle.tree.specs.Layout.{record-size, labelled-record}
 use Rattle.tree.specs.Fields.{record-put}
 use Rattle.tree.specs.Records.{labels, encode}
 use Rattle.tree.specs.Lengths.{length-labels, length-encode}
-use Rattle.tree.specs.Seats.{Seat, seat, seats, seat-at, root-label, left-slot, right-slot, of-right}
+use Rattle.tree.specs.Seats.{Seat, seats, seat-at, root-label}
 use Rattle.tree.specs.SeatsLaws.{length-seats}
 use Rattle.tree.specs.Written.{seat-record, child-number, written}
-use Rattle.tree.specs.WrittenLaws.{encode-written, drop-written, label-bytes}
+use Rattle.tree.specs.WrittenLaws.{encode-written, drop-written, labelled-seat}
 use Rattle.tree.specs.Measured.{Postorder, node}
 use Rattle.tree.specs.MeasuredLaws.{in-tree, label-is, Slots}
 use Rattle.tree.specs.Recording.{Recorded, Written-so-far}
@@ -66,16 +66,7 @@ one-more list before part k whole inside next =
     ∙ take-at part (drop (k + record-size) list) record-size whole) in
     rw (first, last, more)
 
--- the fields of a seat's record are its bytes
-fields-of : (u : Tree Leaf) (i p n left right : ℕ) → root-label u < 65536
-    → left ≡ child-number (left-slot (root-label u) i (of-right nodes u))
-    → right ≡ child-number (right-slot (root-label u) i)
-    → labelled-record (root-label u) left right p ≡ seat-record i (seat u p n)
-fields-of u i p n left right small is-left is-right =
-    ap (λ (l : List ℕ). l ++ two-bytes left ++ two-bytes right ++ two-bytes p) (label-bytes u small)
-    ∙ rw (is-left, is-right)
-
--- those of record i
+-- the record that the slots of record i's children give is its seat's
 pub fields-are : (t : Tree Leaf) (i left right label left-number right-number piece : ℕ) (sizes : List ℕ)
     → Slots t i left right sizes → label ≡ root-label (node t i) → label < 65536
     → left-number ≡ child-number left → right-number ≡ child-number right → piece ≡ seat-at (seats t 0 1) i .piece
@@ -84,7 +75,7 @@ fields-are t i left right label left-number right-number piece sizes k is-label 
     let x : Seat = seat-at (seats t 0 1) i in
     ap (λ (l : ℕ). labelled-record l left-number right-number piece) is-label
     ∙ ap (λ (p : ℕ). labelled-record (root-label (node t i)) left-number right-number p) is-piece
-    ∙ fields-of (x .tree) i (x .piece) (x .new) left-number right-number (rw is-label at small)
+    ∙ labelled-seat (x .tree) i (x .piece) (x .new) left-number right-number (rw is-label at small)
     (is-left ∙ ap child-number (k .left-is)) (is-right ∙ ap child-number (k .right-is))
 
 -- record i is put in
@@ -108,7 +99,8 @@ written-more ls before after next i left right label left-number right-number pi
         fields-are t i left right label left-number right-number piece sizes (facts t e .0)
         (is-label ∙ label-is ls t i e k) small is-left is-right (facts t e .1) in
         let more : record-size * (i + 1) ≡ record-size * i + record-size = omega arith in
-        put ∙ record-put after (record-size * i) label left-number right-number piece room
-        ∙ rw (s .bytes t e, here, more)
+        put ∙ ap (λ (l : List ℕ). sets after (record-size * i) l) here
+        ∙ record-put after (record-size * i) (seat-record i (seat-at (seats t 0 1) i)) refl room
+        ∙ rw (s .bytes t e, more)
         (one-more (encode t) before (seat-record i (seat-at (seats t 0 1) i)) (record-size * i) refl
         (omega (arith, length-encode t)) (record-of-list t i k))

@@ -52,3 +52,11 @@ too-few-words = 12
 -- a bit past the last state is set, or the two bits of a shared state differ
 abbrev pub words-not-marks : ℕ
 words-not-marks = 13
+
+-- a class is not of its form, is left open, or has a range whose first byte is above its last; or a `]` outside a class
+abbrev pub class-faulty : ℕ
+class-faulty = 14
+
+-- the class buffer is shorter than the class records
+abbrev pub class-buffer-too-short : ℕ
+class-buffer-too-short = 15

@@ -1,7 +1,6 @@
 -- The seat of a record: the subtree whose root it holds, its piece, and the number of the first new piece below it. A
 -- tree's seats stand in the order of its records. A slot is a record's number plus 1, and slot 0 stands for a child
--- that is not there: so a star is a pair without a right child, a character a pair without any, and one rule serves all
--- four kinds.
+-- that is not there: so a star is a pair without a right child, a leaf a pair without any, and one rule serves all kinds.
 use Prim.Native.Nat.{ℕ, _+_, _-_, _%_, _≤_, _<_}
 use mathlib.Core.Path.{_≡_}
 use mathlib.Core.Bool.{Bool, cond, _||_}
@@ -141,9 +140,10 @@ of-right-seat f x =
 abbrev pub right-slot : (label i : ℕ) → ℕ
 right-slot label i = cond (eqb label (label-of catenation-kind 0) || eqb label (label-of union-kind 0)) i 0
 
--- the slot of the left or only child, when the right child has `size` nodes
+-- the slot of the left or only child, when the right child has `size` nodes; a leaf's label is 1 more than a multiple
+-- of 4, and no other is
 abbrev pub left-slot : (label i size : ℕ) → ℕ
-left-slot label i size = cond (eqb (label % 256) character-kind) 0 (i - size)
+left-slot label i size = cond (eqb (label % 4) character-kind) 0 (i - size)
 
 -- where the children of record i, with the seat x, are found
 pub record Around (xs : List Seat) (i : ℕ) (x : Seat) : Type 0 where

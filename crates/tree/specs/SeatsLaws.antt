@@ -1,12 +1,11 @@
 -- Each seat of a tree's list stands behind all that is under it, so a record's children are found by their slots.
 use Prim.Native.Nat.{ℕ, zero, suc, _+_, _*_, _-_, _%_, _<_}
 use mathlib.Core.Path.{_≡_, refl, ap, sym, _∙_}
-use mathlib.Core.Bool.{Bool, false}
+use mathlib.Core.Bool.{Bool}
 use mathlib.Core.List.{List, [], _∷_, _++_, map, map-append, append-assoc, append-nil}
 use native.Mathlib.Omega.{arith}
 use native.Mathlib.Nat.{not-suc-le-zero, le-of-suc-le-suc, sub-zero, zero-add}
 use native.Mathlib.Decide.{decLt}
-use lib.Dec.{eqb}
 use borrow.Author.Tests.{ne-eqb}
 use lib.ListN.{length, length-append, List·getD-append}
 use lib.Seq.{getD-append-add, getD-at, getD-append-seam}
@@ -15,7 +14,7 @@ use Rattle.tree.specs.Leaf.{Leaf}
 use Rattle.tree.specs.Cut.{one, wanted, cut-only, open-size}
 use Rattle.tree.specs.Choice.{only-left}
 use Rattle.tree.specs.Numbering.{child-piece, Nodewise, at-left, at-right, Walker, walked}
-use Rattle.tree.specs.Records.{labels}
+use Rattle.tree.specs.Records.{labels, leaf-label}
 use Rattle.tree.specs.Seats.{
   left-piece,
   left-new,
@@ -32,6 +31,8 @@ use Rattle.tree.specs.Seats.{
   Seated,
   held,
   label,
+  right-slot,
+  left-slot,
   Around,
 }
 
@@ -180,6 +181,15 @@ held-whole f t p n =
     let one-part : seats t p n ≡ [] ++ seats t p n ++ [] = sym (append-nil (seats t p n)) in
     ap (λ (l : List Seat). held f l (nodes t)) one-part ∙ held-root f [] [] (seat t p n) (nodes t) (zero-add (nodes t))
 
+-- a leaf has no child
+pub leaf-left : (a : Leaf) (i size : ℕ) → left-slot (leaf-label a) i size ≡ 0
+leaf-left (Leaf.character a) i size = let kind : (1 + 256 * a) % 4 ≡ 1 = omega arith in rw kind
+leaf-left (Leaf.class k) i size = let kind : (5 + 8 * k) % 4 ≡ 1 = omega arith in rw kind
+
+pub leaf-right : (a : Leaf) (i : ℕ) → right-slot (leaf-label a) i ≡ 0
+leaf-right (Leaf.character a) i = rw (ne-eqb (1 + 256 * a) 2 (omega arith), ne-eqb (1 + 256 * a) 3 (omega arith))
+leaf-right (Leaf.class k) i = rw (ne-eqb (5 + 8 * k) 2 (omega arith), ne-eqb (5 + 8 * k) 3 (omega arith))
+
 -- a pair's children end at its own record and where the right child begins
 pair-around : (xs before after : List Seat) (i : ℕ) (l r x : Seat) → xs ≡ before ++ (under l ++ under r ++ (x ∷ []))
     ++ after
@@ -204,11 +214,8 @@ star-around xs before after i l x whole ends f =
 
 -- the children stand where their slots say
 around-root : (xs : List Seat) (i : ℕ) (u : Tree Leaf) (p n : ℕ) → Seat-of xs i (seat u p n) → Around xs i (seat u p n)
-around-root xs i (leaf (Leaf.character a)) p n s =
-    let character : (1 + 256 * a) % 256 ≡ 1 = omega arith in
-    let no-catenation : eqb (1 + 256 * a) 2 ≡ false = ne-eqb (1 + 256 * a) 2 (omega arith) in
-    let no-union : eqb (1 + 256 * a) 3 ≡ false = ne-eqb (1 + 256 * a) 3 (omega arith) in
-    record { inside = omega arith; left = λ f. rw character; right = λ f. rw (no-catenation, no-union) }
+around-root xs i (leaf a) p n s =
+    record { inside = omega arith; left = λ f. rw (leaf-left a i 0); right = λ f. rw (leaf-right a i) }
 around-root xs i (catenation s t) p n w =
     let u = catenation s t in
     let children = pair-around xs (w .before) (w .after) i (seat s (left-piece u p n) (left-new u n))

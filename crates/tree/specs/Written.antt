@@ -6,7 +6,7 @@ use lib.Dec.{eqb}
 use Rattle.language.specs.Tree.{Tree, leaf, catenation, union, star, nodes}
 use Rattle.tree.specs.Leaf.{Leaf}
 use Rattle.tree.specs.Layout.{record-of, no-child, catenation-kind, union-kind, star-kind}
-use Rattle.tree.specs.Records.{leaf-kind, leaf-character}
+use Rattle.tree.specs.Records.{leaf-kind, leaf-character, leaf-number}
 use Rattle.tree.specs.Seats.{Seat, label, of-right, left-slot, right-slot, cut-edges}
 
 -- the kind of a tree's root
@@ -27,11 +27,19 @@ root-character (star s) = 0
 abbrev pub child-number : ℕ → ℕ
 child-number slot = cond (eqb slot 0) no-child (slot - 1)
 
+-- what stands in the place of a left or only child whose slot is given: a leaf has there what is its own
+abbrev pub left-number : Tree Leaf → (slot : ℕ) → ℕ
+left-number (leaf a) slot = leaf-number a
+left-number (catenation s t) slot = child-number slot
+left-number (union s t) slot = child-number slot
+left-number (star s) slot = child-number slot
+
 -- the record of a seat, when its number is i
 abbrev pub seat-record : ℕ → Seat → List ℕ
 seat-record i x =
     record-of (root-kind (x .tree)) (root-character (x .tree))
-    (child-number (left-slot (label x) i (of-right nodes (x .tree)))) (child-number (right-slot (label x) i)) (x .piece)
+    (left-number (x .tree) (left-slot (label x) i (of-right nodes (x .tree)))) (child-number (right-slot (label x) i))
+    (x .piece)
 
 -- the records of some seats, the first of which has the number i
 abbrev pub written : ℕ → List Seat → List ℕ

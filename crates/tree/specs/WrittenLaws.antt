@@ -16,15 +16,14 @@ use Rattle.tree.specs.Cut.{one, wanted, cut-only, open-size}
 use Rattle.tree.specs.Layout.{
   record-size,
   record-of,
-  two-bytes,
+  labelled-record,
   no-child,
-  character-kind,
   catenation-kind,
   union-kind,
   star-kind,
 }
 use Rattle.tree.specs.Numbering.{child-piece, numbered}
-use Rattle.tree.specs.Records.{records, encode, piece-count}
+use Rattle.tree.specs.Records.{records, encode, piece-count, leaf-kind, leaf-character, leaf-number, leaf-label}
 use Rattle.tree.specs.Seats.{
   Seat,
   seat,
@@ -32,6 +31,9 @@ use Rattle.tree.specs.Seats.{
   seat-at,
   no-seat,
   root-label,
+  of-right,
+  left-slot,
+  right-slot,
   right-piece,
   right-new,
   past-left,
@@ -40,8 +42,8 @@ use Rattle.tree.specs.Seats.{
   of-left,
   cut-edges,
 }
-use Rattle.tree.specs.SeatsLaws.{length-seats}
-use Rattle.tree.specs.Written.{root-kind, root-character, child-number, seat-record, written, Small}
+use Rattle.tree.specs.SeatsLaws.{leaf-left, leaf-right, length-seats}
+use Rattle.tree.specs.Written.{child-number, seat-record, written, Small}
 
 -- two lists of seats, one after the other
 written-append : (i : ℕ) (xs ys : List Seat) → written i (xs ++ ys) ≡ written i xs ++ written (i + length xs) ys
@@ -80,16 +82,14 @@ star-record : (p first m : ℕ) → 1 ≤ m → record-of star-kind 0 (first + m
     ≡ record-of star-kind 0 (child-number (first + m - 0)) no-child p
 star-record p first m h = rw (number-of (first + m - 0) (first + m - 1) (omega arith))
 
--- a leaf's children are none
-leaf-record : (a p first : ℕ) → record-of character-kind a no-child no-child p
-    ≡ seat-record first (seat (leaf (Leaf.character a)) p 0)
-leaf-record a p first =
-    let character : (1 + 256 * a) % 256 ≡ 1 = omega arith in
-    rw (character, ne-eqb (1 + 256 * a) 2 (omega arith), ne-eqb (1 + 256 * a) 3 (omega arith))
+-- a leaf has no right child
+leaf-record : (a : Leaf) (p n first : ℕ)
+    → record-of (leaf-kind a) (leaf-character a) (leaf-number a) no-child p ≡ seat-record first (seat (leaf a) p n)
+leaf-record a p n first = rw (leaf-right a first)
 
 -- the records of a tree are those of its seats
 writes : (t : Tree Leaf) (first p n : ℕ) → Writes (seats t p n) first (records t (numbered t (wanted t) p n) first)
-writes (leaf (Leaf.character a)) first p n = record { so = leaf-record a p first }
+writes (leaf a) first p n = record { so = leaf-record a p n first }
 writes (catenation s t) first p n =
     let e = length-seats s in
     let f = length-seats t in
@@ -135,17 +135,32 @@ drop-written i (suc j) (x ∷ xs) h =
     ∙ ap (λ (l : List ℕ). seat-record (i + suc j) (seat-at xs j) ++ l)
     (sym (ap (λ (k : ℕ). drop k (seat-record i x ++ rest)) next ∙ past (record-size * j + record-size)))
 
--- the first two bytes of a record are its label
-pub label-bytes : (u : Tree Leaf) → root-label u < 65536 → two-bytes (root-label u)
-    ≡ root-kind u ∷ root-character u ∷ []
-label-bytes (leaf (Leaf.character a)) h =
+-- the record that a leaf's label asks for is the leaf's
+leaf-labelled : (a : Leaf) (p : ℕ) → leaf-label a < 65536 → labelled-record (leaf-label a) no-child no-child p
+    ≡ record-of (leaf-kind a) (leaf-character a) (leaf-number a) no-child p
+leaf-labelled (Leaf.character a) p h =
+    let no-class : (1 + 256 * a) % 8 ≡ 1 = omega arith in
     let kind : (1 + 256 * a) % 256 ≡ 1 = omega arith in
     let character : (1 + 256 * a) / 256 ≡ a = omega arith in
     let byte : a % 256 ≡ a = omega arith in
-    rw (kind, character, byte)
-label-bytes (catenation s t) h = refl
-label-bytes (union s t) h = refl
-label-bytes (star s) h = refl
+    rw (no-class, kind, character, byte)
+leaf-labelled (Leaf.class k) p h =
+    let kind : (5 + 8 * k) % 8 ≡ 5 = omega arith in
+    let number : (5 + 8 * k) / 8 ≡ k = omega arith in
+    rw (kind, number)
+
+-- the record that a root's label asks for, with the numbers of its children, is its seat's
+pub labelled-seat : (u : Tree Leaf) (i p n left right : ℕ) → root-label u < 65536
+    → left ≡ child-number (left-slot (root-label u) i (of-right nodes u))
+    → right ≡ child-number (right-slot (root-label u) i)
+    → labelled-record (root-label u) left right p ≡ seat-record i (seat u p n)
+labelled-seat (leaf a) i p n left right small is-left is-right =
+    let no-left : left ≡ no-child = is-left ∙ ap child-number (leaf-left a i 0) in
+    let no-right : right ≡ no-child = is-right ∙ ap child-number (leaf-right a i) in
+    rw (no-left, no-right) (leaf-labelled a p small ∙ leaf-record a p n i)
+labelled-seat (catenation s t) i p n left right small is-left is-right = rw (is-left, is-right)
+labelled-seat (union s t) i p n left right small is-left is-right = rw (is-left, is-right)
+labelled-seat (star s) i p n left right small is-left is-right = rw (is-left, is-right)
 
 -- each seat's numbers do
 Each-small : ℕ → List Seat → Type 0

@@ -4,7 +4,8 @@ use crate::layout::RECORD_SIZE;
 use crate::layout::character_at;
 use crate::layout::is_record;
 use crate::layout::kind_at;
-use crate::layout::label_of;
+use crate::layout::label_with;
+use crate::layout::one_if_class;
 use crate::limits::MOST_PIECES;
 use crate::limits::MOST_RECORDS;
 use crate::limits::SLOT_COUNT;
@@ -17,7 +18,7 @@ ghost use mathlib.Core.Path.{_≡_};
 ghost use Prim.Native.Nat.{_*_, _/_, _%_, _≤_};
 ghost use lib.ListN.{length};
 ghost use Rattle.tree.specs.Limits.{most-labels, most-records, slot-count};
-ghost use Rattle.tree.specs.Layout.{record-size};
+ghost use Rattle.tree.specs.Layout.{record-size, class-records};
 ghost use Rattle.tree.specs.Measured.{Postorder, Sized, Room-to-measure, Measured};
 ghost use Rattle.tree.specs.Handed.{Pieced};
 ghost use Rattle.tree.specs.Readback.{Labels-of};
@@ -26,22 +27,31 @@ ghost use Rattle.tree.specs.Decide.{Taken, Compared};
 
 // What deciding on a list answers.
 pub enum Decided {
-    Good { records: usize, pieces: usize },
+    Good {
+        records: usize,
+        pieces: usize,
+        classes: usize,
+    },
     NotGood,
 }
 
-// Takes the labels off a list.
-fn take_labels(list: &[u8], labels: &mut [u16])
+// Takes the labels off a list, and counts its class leaves.
+fn take_labels(list: &[u8], labels: &mut [u16]) -> usize
     requires { ⌜ record-size * length (now labels) ≤ length (now list) ⌝ }
+    requires { ⌜ length (now labels) ≤ most-records ⌝ }
     ensures { λ _. ⌜ Taken (now (list .entry)) (now (labels .exit)) (length (now (labels .entry))) ⌝ }
+    ensures { λ r. ⌜ r ≡ class-records (now (list .entry)) (length (now (labels .entry))) ⌝ }
 {
+    let mut classes = 0;
     let mut i = 0;
     while i < labels.len() {
         let kind = kind_at(list, i);
         let character = character_at(list, i);
-        labels[i] = label_of(kind, character);
+        labels[i] = label_with(kind, character, classes);
+        classes += one_if_class(kind);
         i += 1;
     }
+    classes
 }
 
 // Whether the list is that of the tree with these labels, by the sizes and the pieces in the slots.
@@ -81,9 +91,10 @@ fn is_list(list: &[u8], labels: &[u16], sizes: &[u16], opens: &[u16], cuts: &[u1
     compare(list, labels, sizes, &pieces)
 }
 
-// Decides on a list with these labels, and measures its tree.
-fn decide_by(list: &[u8], labels: &[u16], cuts: &mut [u16]) -> Decided
+// Decides on a list with these labels and as many class leaves, and measures its tree.
+fn decide_by(list: &[u8], labels: &[u16], classes: usize, cuts: &mut [u16]) -> Decided
     requires { ⌜ Labels-of (now list) (now labels) ⌝ }
+    requires { ⌜ classes ≡ class-records (now list) (length (now labels)) ⌝ }
     requires { ⌜ (length (now labels) ≤ most-records) × (length (now cuts) ≡ slot-count) ⌝ }
     ensures { λ r. ⌜ Judged (now (list .entry)) r ⌝ }
     ensures { λ _. ⌜ Counts-below (now (list .entry)) (now (cuts .exit)) ⌝ }
@@ -101,6 +112,7 @@ fn decide_by(list: &[u8], labels: &[u16], cuts: &mut [u16]) -> Decided
         return Decided::Good {
             records: labels.len(),
             pieces,
+            classes,
         };
     }
     Decided::NotGood
@@ -114,11 +126,11 @@ fn decide_in(list: &[u8], labels: &mut [u16], cuts: &mut [u16]) -> Decided
     ensures { λ _. ⌜ Counts-below (now (list .entry)) (now (cuts .exit)) ⌝ }
 {
     let n = list.len() / RECORD_SIZE;
-    take_labels(list, &mut labels[..n]);
-    decide_by(list, &labels[..n], cuts)
+    let classes = take_labels(list, &mut labels[..n]);
+    decide_by(list, &labels[..n], classes, cuts)
 }
 
-// Decides whether a list is good, and counts its records and pieces. Of a good list, `cuts` tells the pieces below each
+// Decides whether a list is good, and counts its records, pieces and class leaves. Of a good list, `cuts` tells the pieces below each
 // record's node. No good list has more than 1,920 records.
 pub fn decide_with(list: &[u8], cuts: &mut [u16]) -> Decided
     requires { ⌜ length (now cuts) ≡ slot-count ⌝ }
@@ -135,7 +147,7 @@ pub fn decide_with(list: &[u8], cuts: &mut [u16]) -> Decided
     decide_in(list, &mut labels, cuts)
 }
 
-// Decides whether a list is good, and counts its records and pieces.
+// Decides whether a list is good, and counts its records, pieces and class leaves.
 pub fn decide(list: &[u8]) -> Decided
     ensures { λ r. ⌜ Judged (now (list .entry)) r ⌝ }
 {

@@ -1,15 +1,20 @@
 // The layout of a tree record: no other file of code knows which byte holds what.
 ghost use mathlib.Core.Path.{_≡_};
 ghost use Prim.Native.Nat.{_+_, _*_, _%_, _/_, _≤_, _<_};
-ghost use lib.ListN.{length};
+ghost use lib.ListN.{length, take, drop};
 ghost use lib.Seq.{sets};
 ghost use Rattle.tree.specs.Says.{Says};
+ghost use Rattle.tree.specs.Limits.{most-labels};
 ghost use Rattle.tree.specs.Layout.{
   record-size,
   two-bytes,
+  four-numbers,
   labelled-record,
   record-at,
   label-of,
+  class-label,
+  one-if-class,
+  label-with,
   number-at,
   Holds-number,
   kind-at,
@@ -31,7 +36,12 @@ pub const UNION: u8 = 3;
 
 pub const STAR: u8 = 4;
 
-// A character's label, but for the character, and the labels of the other kinds.
+pub const CLASS: u8 = 5;
+
+// How many bytes a class record has.
+pub const CLASS_RECORD_SIZE: usize = 32;
+
+// A character's label, but for the character, a class leaf's, but for its number, and the labels of the other kinds.
 pub const CHARACTER_LABEL: u16 = CHARACTER as u16;
 
 pub const CATENATION_LABEL: u16 = CATENATION as u16;
@@ -39,6 +49,8 @@ pub const CATENATION_LABEL: u16 = CATENATION as u16;
 pub const UNION_LABEL: u16 = UNION as u16;
 
 pub const STAR_LABEL: u16 = STAR as u16;
+
+pub const CLASS_LABEL: u16 = CLASS as u16;
 
 // What stands in the place of a child's record number where there is no child.
 pub const NO_CHILD: u16 = 65535;
@@ -55,6 +67,32 @@ pub fn label_of(kind: u8, character: u8) -> u16
     ensures { λ r. ⌜ r ≡ label-of kind character ⌝ }
 {
     kind as u16 + 256 * (character as u16)
+}
+
+// The label of a class leaf with this number.
+pub fn class_label(number: usize) -> u16
+    requires { ⌜ number ≤ most-labels ⌝ }
+    ensures { λ r. ⌜ r ≡ class-label number ⌝ }
+{
+    CLASS_LABEL + 8 * (number as u16)
+}
+
+// 1 for the kind of a class leaf's record.
+pub fn one_if_class(kind: u8) -> usize
+    ensures { λ r. ⌜ (r ≡ one-if-class kind) × (r ≤ 1) ⌝ }
+{
+    if kind == CLASS { 1 } else { 0 }
+}
+
+// The label of a record of this kind with `classes` class leaves before it.
+pub fn label_with(kind: u8, character: u8, classes: usize) -> u16
+    requires { ⌜ classes ≤ most-labels ⌝ }
+    ensures { λ r. ⌜ r ≡ label-with kind character classes ⌝ }
+{
+    if kind == CLASS {
+        return class_label(classes);
+    }
+    label_of(kind, character)
 }
 
 // The number in two bytes, the low one first.
@@ -128,17 +166,29 @@ fn write_number(out: &mut [u8], at: usize, n: u16)
     out[at + 1] = high(n);
 }
 
-// Writes a record, its kind and character given by the label, and nothing else.
+// Writes the four numbers of a record, and nothing else.
+fn write_numbers(out: &mut [u8], at: usize, first: u16, left: u16, right: u16, piece: u16)
+    requires { ⌜ at + record-size ≤ length (now out) ⌝ }
+    ensures { λ _. ⌜ now (out .exit) ≡ sets (now (out .entry)) at (four-numbers first left right piece) ⌝ }
+{
+    write_number(out, at, first);
+    write_number(out, at + 2, left);
+    write_number(out, at + 4, right);
+    write_number(out, at + 6, piece);
+}
+
+// Writes a record that has this label, and nothing else.
 pub fn write_record(out: &mut [u8], i: usize, label: u16, left: u16, right: u16, piece: u16)
     requires { ⌜ record-size * i + record-size ≤ length (now out) ⌝ }
     ensures { λ _. ⌜ now (out .exit) ≡ sets (now (out .entry)) (record-size * i)
         (labelled-record label left right piece) ⌝ }
 {
     let at = RECORD_SIZE * i;
-    write_number(out, at, label);
-    write_number(out, at + 2, left);
-    write_number(out, at + 4, right);
-    write_number(out, at + 6, piece);
+    if label % 8 == CLASS_LABEL {
+        write_numbers(out, at, CLASS_LABEL, label / 8, NO_CHILD, piece);
+    } else {
+        write_numbers(out, at, label, left, right, piece);
+    }
 }
 
 // Whether two bytes hold this number.
@@ -152,13 +202,12 @@ fn holds_number(list: &[u8], at: usize, n: u16) -> bool
     list[at + 1] == high(n)
 }
 
-// Whether a record is the one with these fields, its kind and character given by the label.
-pub fn is_record(list: &[u8], i: usize, label: u16, left: u16, right: u16, piece: u16) -> bool
-    requires { ⌜ record-size * i + record-size ≤ length (now list) ⌝ }
-    ensures { λ b. ⌜ Says (record-at (now (list .entry)) i ≡ labelled-record label left right piece) b ⌝ }
+// Whether the bytes from a place on hold the four numbers of a record.
+fn holds_numbers(list: &[u8], at: usize, first: u16, left: u16, right: u16, piece: u16) -> bool
+    requires { ⌜ at + record-size ≤ length (now list) ⌝ }
+    ensures { λ b. ⌜ Says (take record-size (drop at (now (list .entry))) ≡ four-numbers first left right piece) b ⌝ }
 {
-    let at = RECORD_SIZE * i;
-    if !holds_number(list, at, label) {
+    if !holds_number(list, at, first) {
         return false;
     }
     if !holds_number(list, at + 2, left) {
@@ -168,4 +217,16 @@ pub fn is_record(list: &[u8], i: usize, label: u16, left: u16, right: u16, piece
         return false;
     }
     holds_number(list, at + 6, piece)
+}
+
+// Whether a record is the one that has this label, these children and this piece.
+pub fn is_record(list: &[u8], i: usize, label: u16, left: u16, right: u16, piece: u16) -> bool
+    requires { ⌜ record-size * i + record-size ≤ length (now list) ⌝ }
+    ensures { λ b. ⌜ Says (record-at (now (list .entry)) i ≡ labelled-record label left right piece) b ⌝ }
+{
+    let at = RECORD_SIZE * i;
+    if label % 8 == CLASS_LABEL {
+        return holds_numbers(list, at, CLASS_LABEL, label / 8, NO_CHILD, piece);
+    }
+    holds_numbers(list, at, label, left, right, piece)
 }

@@ -1,6 +1,7 @@
 // Whether labels are those of one tree in postorder: a count of the trees that wait for a parent.
 use crate::layout::CATENATION_LABEL;
 use crate::layout::CHARACTER_LABEL;
+use crate::layout::CLASS_LABEL;
 use crate::layout::STAR_LABEL;
 use crate::layout::UNION_LABEL;
 ghost use mathlib.Core.Path.{_≡_};
@@ -36,6 +37,9 @@ fn depth_with(label: u16, depth: usize) -> usize
     }
     if label == STAR_LABEL {
         return depth;
+    }
+    if label % 8 == CLASS_LABEL {
+        return depth + 1;
     }
     0
 }

@@ -26,3 +26,7 @@ pub const TEXT_TOO_LONG: u8 = 11;
 pub const TOO_FEW_WORDS: u8 = 12;
 // A bit past the last state is set, or the two bits of a shared state differ.
 pub const WORDS_NOT_MARKS: u8 = 13;
+// A class is not of its form, or a `]` stands outside a class.
+pub const CLASS_FAULTY: u8 = 14;
+// The class buffer is shorter than the class records.
+pub const CLASS_BUFFER_TOO_SHORT: u8 = 15;

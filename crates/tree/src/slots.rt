@@ -27,7 +27,7 @@ pub fn left_slot(label: u16, i: usize, size: u16) -> usize
     requires { ⌜ size ≤ i ⌝ }
     ensures { λ r. ⌜ (r ≡ left-slot label i size) × (r ≤ i) ⌝ }
 {
-    if label % 256 == CHARACTER_LABEL {
+    if label % 4 == CHARACTER_LABEL {
         return 0;
     }
     i - size as usize

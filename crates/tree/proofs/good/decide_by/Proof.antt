@@ -50,7 +50,7 @@ piece-count-requires c κs =
     let o = c .before .before .before in
     let s = start o in (
       o .before .one-tree .ensures .if-so (not-false _ (o .if1 .left)),
-      (omega arith, record { for-sizes = search needs; for-opens = search needs; for-cuts = s .pre .1 .1 }),
+      (omega arith, record { for-sizes = search needs; for-opens = search needs; for-cuts = s .pre .1 .1 .1 }),
     )
 
 same-length : tie.Need-same-length
@@ -99,7 +99,8 @@ returns-3 c =
     let o = ordered m in
     let s = start o in (
       good-by-records (s .args .list .now) (s .args .labels .now) (s .pre .0) (m .piece-count .result)
-          (o .before .one-tree .ensures .if-so (not-false _ (o .if1 .left))) (m .piece-count .ensures .1) (omega arith)
+          (s .args .classes) (o .before .one-tree .ensures .if-so (not-false _ (o .if1 .left)))
+          (m .piece-count .ensures .1) (omega arith) (s .pre .1 .0)
           (subst (λ (b : Bool). Compared (s .args .labels .now) (s .args .list .now) b) (c .if3 .taken)
           (c .before .is-list .ensures)),
       counts-below (s .args .list .now) (s .args .labels .now) (m .piece-count .last .1 .0)

@@ -8,7 +8,7 @@ use lib.ListN.{length, take, drop}
 use lib.Seq.{length-take-le}
 use Rattle.tree.specs.Layout.{record-size}
 use Rattle.tree.specs.Readback.{Labels-of}
-use Rattle.tree.specs.DecideLaws.{front-labels}
+use Rattle.tree.specs.DecideLaws.{front-labels, front-classes}
 use borrow.Author.Needs.{needs}
 use Rattle.tree.proofs.good.decide_in.Statement.{statement}
 use Rattle.tree.proofs.good.decide_in.Tie as tie
@@ -31,7 +31,8 @@ slice-aggregate-take-labels c =
 take-labels-requires : tie.Need-take-labels-requires
 take-labels-requires c κs =
     let s = lent c in
-    omega (arith, length-take-le (length (s .args .list .now) / record-size) (s .args .labels .now) (omega arith))
+    let long = length-take-le (length (s .args .list .now) / record-size) (s .args .labels .now) (omega arith) in
+    (omega arith, omega arith)
 
 -- the labels taken off
 front : (c : tie.After-take-labels)
@@ -41,7 +42,7 @@ front : (c : tie.After-take-labels)
 front c =
     let s = start c in
     front-labels (s .args .list .now) (s .args .labels .now) (c .take-labels .last .1 .0) (s .pre .0 .0) (omega arith)
-    (c .take-labels .kept .1 .0) (c .take-labels .ensures)
+    (c .take-labels .kept .1 .0) (c .take-labels .ensures .0)
 
 slice-reshare-prefix-decide-by : tie.Need-slice-reshare-prefix-decide-by
 slice-reshare-prefix-decide-by c = search needs
@@ -52,7 +53,16 @@ slice-aggregate-decide-by c = omega (arith, front (c .before .before .before) .l
 decide-by-requires : tie.Need-decide-by-requires
 decide-by-requires c κs =
     let t = c .before .before .before .before in
-    (front t, (omega (arith, front t .long), start t .pre .1 .1))
+    let s = start t in
+    let n = length (s .args .list .now) / record-size in
+    let labels = take n (t .take-labels .last .1 .0 ++ drop n (s .args .labels .now)) in (
+      front t,
+      (
+        front-classes (s .args .list .now) (s .args .labels .now) labels (t .take-labels .result) (s .pre .0 .0)
+            (omega arith) (front t) (t .take-labels .ensures .1),
+        (omega (arith, front t .long), s .pre .1 .1),
+      ),
+    )
 
 same-length : tie.Need-same-length
 same-length c = search needs

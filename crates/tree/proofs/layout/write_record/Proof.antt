@@ -1,61 +1,41 @@
--- `tree::layout::write_record` meets its contract: numbers written side by side are the record made of them.
-use Prim.Native.Nat.{_*_}
+-- `tree::layout::write_record` meets its contract: the numbers written are those of the record that the label asks for,
+-- computed by the branch taken.
+use borrow.Author.Tests.{eq-eqb, ne-eqb}
 use borrow.Author.Needs.{needs}
-use Rattle.tree.specs.Layout.{record-size}
-use Rattle.tree.specs.Fields.{written-in-turn}
 use Rattle.tree.proofs.layout.write_record.Statement.{statement}
 use Rattle.tree.proofs.layout.write_record.Tie as tie
 
 mul-at : tie.Need-mul-at
 mul-at c = search needs
 
-write-number-requires : tie.Need-write-number-requires
-write-number-requires c κs = search needs
+write-numbers-requires : tie.Need-write-numbers-requires
+write-numbers-requires c κs = search needs
 
-add-write-number : tie.Need-add-write-number
-add-write-number c = search needs
-
-write-number-requires-2 : tie.Need-write-number-requires-2
-write-number-requires-2 c κs = search needs
-
-add-write-number-2 : tie.Need-add-write-number-2
-add-write-number-2 c = search needs
-
-write-number-requires-3 : tie.Need-write-number-requires-3
-write-number-requires-3 c κs = search needs
-
-add-write-number-3 : tie.Need-add-write-number-3
-add-write-number-3 c = search needs
-
-write-number-requires-4 : tie.Need-write-number-requires-4
-write-number-requires-4 c κs = search needs
+write-numbers-requires-2 : tie.Need-write-numbers-requires-2
+write-numbers-requires-2 c κs = search needs
 
 same-length : tie.Need-same-length
 same-length c = search needs
 
 returns : tie.Need-returns
 returns c =
-    let piece = c .before .before in
-    let right = piece .before .before .before .before in
-    let left = right .before .before .before .before in
-    let label = left .before .before .before .before in
-    let s = label .before .before .before in
-    written-in-turn (s .args .out .now) (label .write-number .last .0) (left .write-number2 .last .0)
-    (right .write-number3 .last .0) (piece .write-number4 .last .0) (record-size * s .args .i) (s .args .label)
-    (s .args .left) (s .args .right) (s .args .piece) (label .write-number .ensures) (left .write-number2 .ensures)
-    (right .write-number3 .ensures) (piece .write-number4 .ensures)
+    let w = c .before .before in rw (eq-eqb _ _ (w .before .before .if1 .taken)) (w .write-numbers .ensures)
+
+same-length-2 : tie.Need-same-length-2
+same-length-2 c = search needs
+
+returns-2 : tie.Need-returns-2
+returns-2 c =
+    let w = c .before .before in rw (ne-eqb _ _ (w .before .before .if1 .left)) (w .write-numbers2 .ensures)
 
 pub write-record-spec : {M : Type 1} → statement M
 write-record-spec =
     tie.close
     (tie.spec
     mul-at
-    write-number-requires
-    add-write-number
-    write-number-requires-2
-    add-write-number-2
-    write-number-requires-3
-    add-write-number-3
-    write-number-requires-4
+    write-numbers-requires
+    write-numbers-requires-2
     same-length
-    returns)
+    returns
+    same-length-2
+    returns-2)

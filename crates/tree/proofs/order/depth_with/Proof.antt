@@ -37,12 +37,25 @@ returns-4 c = simp (
   eq-eqb _ _ (c .if4 .taken),
 )
 
+add-result-2 : tie.Need-add-result-2
+add-result-2 c = search needs
+
 returns-5 : tie.Need-returns-5
 returns-5 c = simp (
-  ne-eqb _ _ (c .before .before .before .if1 .left),
-  ne-eqb _ _ (c .before .before .if2 .left),
-  ne-eqb _ _ (c .before .if3 .left),
-  ne-eqb _ _ (c .if4 .left),
+  ne-eqb _ _ (c .before .before .before .before .if1 .left),
+  ne-eqb _ _ (c .before .before .before .if2 .left),
+  ne-eqb _ _ (c .before .before .if3 .left),
+  ne-eqb _ _ (c .before .if4 .left),
+  eq-eqb _ _ (c .if5 .taken),
+)
+
+returns-6 : tie.Need-returns-6
+returns-6 c = simp (
+  ne-eqb _ _ (c .before .before .before .before .if1 .left),
+  ne-eqb _ _ (c .before .before .before .if2 .left),
+  ne-eqb _ _ (c .before .before .if3 .left),
+  ne-eqb _ _ (c .before .if4 .left),
+  ne-eqb _ _ (c .if5 .left),
 )
 
 pub depth-with-spec : {M : Type 1} → statement M
@@ -56,4 +69,6 @@ depth-with-spec =
     one-less-requires-2
     returns-3
     returns-4
-    returns-5)
+    add-result-2
+    returns-5
+    returns-6)
