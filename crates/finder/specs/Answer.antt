@@ -1,12 +1,13 @@
 -- The numbers that match and search give back, for each case of their answers.
 use Prim.Native.Nat.{ℕ}
 use mathlib.Core.Bool.{Bool, true, false}
-use Rattle.tree.specs.RefusalNumbers.{list-not-good, text-too-long}
+use Rattle.tree.specs.RefusalNumbers.{list-not-good, text-too-long, class-buffer-too-short}
 use Rattle.finder.specs.declared.Matched.{Matched}
 use Rattle.finder.specs.declared.Matched.the-variants.{
   Yes,
   No,
   NotGood as Match-not-good,
+  TooFewClasses as Match-too-few-classes,
   TooLong as Match-too-long,
 }
 use Rattle.finder.specs.declared.Searched.{Searched}
@@ -14,6 +15,7 @@ use Rattle.finder.specs.declared.Searched.the-variants.{
   Found,
   Nothing,
   NotGood as Search-not-good,
+  TooFewClasses as Search-too-few-classes,
   TooLong as Search-too-long,
 }
 use Rattle.finder.specs.declared.numbers.Numbers.{Numbers}
@@ -35,6 +37,7 @@ abbrev pub match-numbers : Matched → Numbers
 match-numbers Yes = answering true
 match-numbers No = answering false
 match-numbers Match-not-good = refusing list-not-good
+match-numbers Match-too-few-classes = refusing class-buffer-too-short
 match-numbers Match-too-long = refusing text-too-long
 
 -- the numbers of each answer of a search
@@ -42,4 +45,5 @@ abbrev pub search-numbers : Searched → Numbers
 search-numbers (Found start end) = finding start end
 search-numbers Nothing = answering false
 search-numbers Search-not-good = refusing list-not-good
+search-numbers Search-too-few-classes = refusing class-buffer-too-short
 search-numbers Search-too-long = refusing text-too-long

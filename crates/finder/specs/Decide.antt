@@ -1,11 +1,12 @@
 -- Whether a text lies in the language can be computed: by trying every way to split the text.
-use Prim.Native.Nat.{ℕ, zero, suc}
+use Prim.Native.Nat.{ℕ, zero, suc, _+_, _*_, _/_, _%_, _^_}
 use mathlib.Core.Bool.{Bool, true, false, _&&_, _||_}
 use mathlib.Core.List.{List, [], _∷_}
-use lib.ListN.{length}
+use lib.ListN.{length, getD}
 use lib.Dec.{eqb}
 use Rattle.language.specs.Tree.{Tree, leaf, catenation, union, star}
-use Rattle.tree.specs.Leaf.{Leaf, character, has-empty}
+use Rattle.tree.specs.Layout.{class-record-size}
+use Rattle.tree.specs.Leaf.{Leaf, character, class, has-empty}
 
 -- some way to split the text into two passes the test
 unfoldable pub any-split : (List ℕ → List ℕ → Bool) → List ℕ → Bool
@@ -39,13 +40,14 @@ module _ {A : Type 0} (tests : Tests A) where
   matched (star s) w = any-repeat (matched s) (length w) w
 
 -- whether a leaf of an expression's tree takes the byte
-abbrev pub takes-byte : Leaf → ℕ → Bool
-takes-byte (character c) b = eqb c b
+abbrev pub takes-byte : (classes : List ℕ) → Leaf → ℕ → Bool
+takes-byte classes (character c) b = eqb c b
+takes-byte classes (class k) b = eqb (getD classes (class-record-size * k + b / 8) 0 / 2 ^ (b % 8) % 2) 1
 
 -- the tests on a leaf of an expression's tree
-abbrev pub leaf-tests : Tests Leaf
-leaf-tests = record { takes = takes-byte; has-empty = has-empty }
+abbrev pub leaf-tests : (classes : List ℕ) → Tests Leaf
+leaf-tests classes = record { takes = takes-byte classes; has-empty = has-empty }
 
 -- whether a text lies in the language of an expression's tree
-abbrev pub matches : Tree Leaf → List ℕ → Bool
-matches = matched leaf-tests
+abbrev pub matches : (classes : List ℕ) → Tree Leaf → List ℕ → Bool
+matches classes = matched (leaf-tests classes)

@@ -10,7 +10,7 @@ use borrow.Author.Tests.{eqb-true, eq-eqb}
 use Rattle.language.specs.Tree.{Tree, leaf, catenation, union, star}
 use Rattle.language.specs.Meaning.{Meaning}
 use Rattle.language.specs.Language.{Repeated, none, more, Language}
-use Rattle.tree.specs.Leaf.{Leaf, character, meaning, Matches}
+use Rattle.tree.specs.Leaf.{Leaf, character, class, meaning, Matches}
 use Rattle.finder.specs.Decide.{
   any-split,
   any-repeat,
@@ -150,23 +150,30 @@ module _ {A : Type 0} (M : Meaning A) (exact : Exact M) where
   pub matched-exactly : (t : Tree A) (w : List ℕ) → (member t w ≡ true) ↔ Language M t w
   matched-exactly t w = (matched-found t w, matched-passes t w)
 
--- a leaf of an expression's tree takes exactly the bytes that its test says
-pub takes-exactly : (a : Leaf) (b : ℕ) → (takes-byte a b ≡ true) ↔ meaning .Takes a b
-takes-exactly (character c) b = (eqb-true c b, eq-eqb c b)
+module _ (classes : List ℕ) where
+  -- a leaf of an expression's tree takes exactly the bytes that its test says
+  pub takes-exactly : (a : Leaf) (b : ℕ) → (takes-byte classes a b ≡ true) ↔ (meaning classes) .Takes a b
+  takes-exactly (character c) b = (eqb-true c b, eq-eqb c b)
+  takes-exactly (class k) b = (eqb-true _ 1, eq-eqb _ 1)
 
--- the tests on such a leaf say exactly what it means
-abbrev pub leaf-exact : Exact meaning
-leaf-exact = record { tests = leaf-tests; takes-exactly = takes-exactly; empty-exactly = λ a. (λ e. e, λ e. e) }
+  -- the tests on such a leaf say exactly what it means
+  abbrev pub leaf-exact : Exact (meaning classes)
+  leaf-exact = record {
+    tests = leaf-tests classes;
+    takes-exactly = takes-exactly;
+    empty-exactly = λ a. (λ e. e, λ e. e);
+  }
 
--- the test says exactly whether a text lies in the language of an expression's tree
-pub matches-exactly : (t : Tree Leaf) (w : List ℕ) → (matches t w ≡ true) ↔ Matches t w
-matches-exactly = matched-exactly meaning leaf-exact
+  -- the test says exactly whether a text lies in the language of an expression's tree
+  pub matches-exactly : (t : Tree Leaf) (w : List ℕ) → (matches classes t w ≡ true) ↔ Matches classes t w
+  matches-exactly = matched-exactly (meaning classes) leaf-exact
 
--- an answer that is yes exactly when the text lies in the language is this one
-pub matches-answer : (test : Bool) (t : Tree Leaf) (w : List ℕ) → (test ≡ true) ↔ Matches t w → test ≡ matches t w
-matches-answer true t w says = sym (matches-exactly t w .1 (says .0 refl))
-matches-answer false t w says = go (matches t w) refl
-  where
-    go : (other : Bool) → matches t w ≡ other → false ≡ other
-    go true e = absurd (false≢true (says .1 (matches-exactly t w .0 e)))
-    go false e = refl
+  -- an answer that is yes exactly when the text lies in the language is this one
+  pub matches-answer : (test : Bool) (t : Tree Leaf) (w : List ℕ) → (test ≡ true) ↔ Matches classes t w
+      → test ≡ matches classes t w
+  matches-answer true t w says = sym (matches-exactly t w .1 (says .0 refl))
+  matches-answer false t w says = go (matches classes t w) refl
+    where
+      go : (other : Bool) → matches classes t w ≡ other → false ≡ other
+      go true e = absurd (false≢true (says .1 (matches-exactly t w .0 e)))
+      go false e = refl

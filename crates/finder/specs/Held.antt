@@ -129,19 +129,19 @@ tidy-clean (below x) ws e =
     (ltb-true (getD ws 0 0) (2 ^ width x) (also-first _ _ e), tidy-clean x (drop 1 ws) (also-second _ _ e))
 
 -- the words hold the marks of a tree after a text
-unfoldable pub holds-after : Tree Leaf → List ℕ → List ℕ → Bool
-holds-after t text words =
+unfoldable pub holds-after : (classes : List ℕ) → Tree Leaf → List ℕ → List ℕ → Bool
+holds-after classes t text words =
     let x : Nested Leaf = cut-up t in
     also (tidy (below x) words) (agrees x (getD words 0 0) 0 (drop 1 words)
-    (after-test meaning leaf-exact x text (start-test meaning leaf-exact x)))
+    (after-test (meaning classes) (leaf-exact classes) x text (start-test (meaning classes) (leaf-exact classes) x)))
 
 -- they do where the test passes
-pub held-after : (t : Tree Leaf) (text words : List ℕ) → holds-after t text words ≡ true
-    → Holding t text words
+pub held-after : (classes : List ℕ) (t : Tree Leaf) (text words : List ℕ) → holds-after classes t text words ≡ true
+    → Holding classes t text words
 unfolding holds-after
-held-after t text words e =
+held-after classes t text words e =
     let x : Nested Leaf = cut-up t in
-    let computed = computed-models meaning leaf-exact x text in
+    let computed = computed-models (meaning classes) (leaf-exact classes) x text in
     let same : whole x ≡ t = stated t .same-tree in
     record {
       clean = tidy-clean (below x) words (also-first _ _ e);

@@ -20,7 +20,7 @@ use Rattle.tree.specs.Pieces.{cut-up, stated}
 use Rattle.tables.specs.Words.{Holds, Set-of}
 use Rattle.tables.specs.Tables.{Holding, Answered}
 use Rattle.marks.specs.Answer.{marking}
-use Rattle.marks.specs.Promise.{Hold, Starts, started, Steps, stepped}
+use Rattle.marks.specs.Promise.{Hold, Classed, Starts, started, Steps, stepped}
 use Rattle.marks.specs.Inner.{holding-marks}
 
 -- a word for each piece and no more
@@ -35,25 +35,26 @@ no-others t before after e f =
     ∙ sym (drop-of-length-le before {i = piece-count t} (omega arith))
 
 -- a step from the set that the words hold marks what the plain simulation marks after one more byte
-same-set : (t : Tree Leaf) (w : List ℕ) (b : ℕ) (before : List ℕ) → Holding t w before → (p : State)
-    → After meaning t (w ++ (b ∷ [])) (Started meaning t) p ↔ Stepped meaning t b (Set-of (cut-up t) before) p
-same-set t w b before holding p =
+same-set : (classes : List ℕ) (t : Tree Leaf) (w : List ℕ) (b : ℕ) (before : List ℕ) → Holding classes t w before → (p : State)
+    → After (meaning classes) t (w ++ (b ∷ [])) (Started (meaning classes) t) p ↔ Stepped (meaning classes) t b (Set-of (cut-up t) before) p
+same-set classes t w b before holding p =
     let x : Nested Leaf = cut-up t in
-    let X : States = After meaning t w (Started meaning t) in
+    let X : States = After (meaning classes) t w (Started (meaning classes) t) in
     let same : (q : State) → X q ↔ Set-of x before q =
     models-origins x (Holds x before) X (holding .modelled)
-    (subst (λ (s : Tree Leaf). X ⊆ State-of s) (sym (stated t .same-tree)) (reached-state meaning t w)) in
-    rw (after-step meaning t w b (Started meaning t))
-    (stepped-more meaning t b (λ q. same q .0) p, stepped-more meaning t b (λ q. same q .1) p)
+    (subst (λ (s : Tree Leaf). X ⊆ State-of s) (sym (stated t .same-tree)) (reached-state (meaning classes) t w)) in
+    rw (after-step (meaning classes) t w b (Started (meaning classes) t))
+    (stepped-more (meaning classes) t b (λ q. same q .0) p, stepped-more (meaning classes) t b (λ q. same q .1) p)
 
-module _ {list : List ℕ} {t : Tree Leaf} (good : Good list t) (before after : List ℕ) (accepts : Bool)
+module _ {list classes : List ℕ} {t : Tree Leaf} (good : Good list t) (classed : Classed classes t) (before after : List ℕ) (accepts : Bool)
     (lent : As-many t before) (left : As-many t after) where
   -- the words that hold the marks before the first byte are what a start leaves
-  pub starts-by : Answered t [] after accepts → Starts list before after (marking accepts)
+  pub starts-by : Answered classes t [] after accepts → Starts list classes before after (marking accepts)
   starts-by a =
       started (record {
         t = t;
         good = good;
+        classed = classed;
         enough = omega arith;
         hold = record {
           marks = a .holding .modelled;
@@ -62,18 +63,19 @@ module _ {list : List ℕ} {t : Tree Leaf} (good : Good list t) (before after : 
           same-length = left ∙ sym lent;
         };
         marks = refl;
-        answer = Iff·trans (a .answer) (Iff·symm (accepts-exactly meaning t []));
+        answer = Iff·trans (a .answer) (Iff·symm (accepts-exactly (meaning classes) t []));
       })
 
   -- those that hold the marks after one more byte are what a step leaves
-  pub steps-by : (w : List ℕ) (b : ℕ) → Holding t w before → Answered t (w ++ (b ∷ [])) after accepts
-      → Steps list b before after (marking accepts)
+  pub steps-by : (w : List ℕ) (b : ℕ) → Holding classes t w before → Answered classes t (w ++ (b ∷ [])) after accepts
+      → Steps list classes b before after (marking accepts)
   steps-by w b from a =
-      let same = same-set t w b before from in
+      let same = same-set classes t w b before from in
       stepped (record {
         made = record {
           t = t;
           good = good;
+          classed = classed;
           enough = omega arith;
           hold = record {
             marks = λ q has. Iff·trans (a .holding .modelled q has) (same (origin (cut-up t) q));
@@ -83,7 +85,7 @@ module _ {list : List ℕ} {t : Tree Leaf} (good : Good list t) (before after : 
           };
           marks = refl;
           answer =
-              Iff·trans (a .answer) (Iff·trans (Iff·symm (accepts-exactly meaning t (w ++ (b ∷ [])))) (same accepting));
+              Iff·trans (a .answer) (Iff·trans (Iff·symm (accepts-exactly (meaning classes) t (w ++ (b ∷ [])))) (same accepting));
         };
         from-marks = holding-marks from;
       })

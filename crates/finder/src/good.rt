@@ -17,12 +17,19 @@ ghost use Rattle.finder.specs.Found.{Answers};
 ghost use Rattle.finder.specs.Parts.{answer-of, is-part};
 
 // The part in the language that starts earliest and then ends furthest; of the whole text alone where `whole` says so.
-pub fn find_good(list: &[u8], cuts: &[u16], count: usize, text: &[u8], whole: bool) -> Span
+pub fn find_good(
+    list: &[u8],
+    classes: &[u8],
+    cuts: &[u16],
+    count: usize,
+    text: &[u8],
+    whole: bool,
+) -> Span
     requires { ⌜ Decided-good (now list) (now cuts) count ⌝ }
     ensures { λ r. ⌜ (whole ≡ true → (t : Tree Leaf) → Good (now (list .entry)) t
-        → (is-part r ≡ true) ↔ Matches t (now (text .entry))) ⌝ }
+        → (is-part r ≡ true) ↔ Matches (now (classes .entry)) t (now (text .entry))) ⌝ }
     ensures { λ r. ⌜ (whole ≡ false → (t : Tree Leaf) → Good (now (list .entry)) t
-        → Answers (Matches t) (now (text .entry)) (answer-of r)) ⌝ }
+        → Answers (Matches (now (classes .entry)) t) (now (text .entry)) (answer-of r)) ⌝ }
 {
     let mut reach = [0u64; TABLE_SIZE];
     let mut codes = [0u16; TABLE_SIZE];
@@ -40,9 +47,9 @@ pub fn find_good(list: &[u8], cuts: &[u16], count: usize, text: &[u8], whole: bo
         &mut tops,
     );
     if !whole {
-        return first_part(&reach, &codes, &runs, &stands, &tops, count, text);
+        return first_part(&reach, &codes, &runs, &stands, &tops, count, classes, text);
     }
-    if text_matches(&reach, &codes, &runs, &stands, &tops, count, text) {
+    if text_matches(&reach, &codes, &runs, &stands, &tops, count, classes, text) {
         Span::At {
             start: 0,
             end: text.len(),

@@ -10,6 +10,7 @@ ghost use Rattle.finder.specs.Answer.{match-numbers, search-numbers};
 ghost use Rattle.finder.specs.Promise.{Match-answers, Search-answers};
 use tree::good::Decided;
 use tree::good::decide_with;
+use tree::layout::CLASS_RECORD_SIZE;
 use tree::limits::LONGEST_TEXT;
 use tree::limits::SLOT_COUNT;
 
@@ -20,6 +21,8 @@ pub enum Matched {
     No,
     // The list is not good.
     NotGood,
+    // Some class leaf has no record in the class buffer.
+    TooFewClasses,
     // The text is over 65,536 bytes.
     TooLong,
 }
@@ -32,23 +35,33 @@ pub enum Searched {
     Nothing,
     // The list is not good.
     NotGood,
+    // Some class leaf has no record in the class buffer.
+    TooFewClasses,
     // The text is over 65,536 bytes.
     TooLong,
 }
 
 // Whether the whole text is in the language of the list's tree.
-pub fn is_match(list: &[u8], text: &[u8]) -> Matched
-    ensures { λ r. ⌜ Match-answers (now (list .entry)) (now (text .entry)) (match-numbers r) ⌝ }
+pub fn is_match(list: &[u8], classes: &[u8], text: &[u8]) -> Matched
+    ensures { λ r. ⌜ Match-answers (now (list .entry)) (now (classes .entry)) (now (text .entry)) (match-numbers r) ⌝ }
 {
     let mut cuts = [0u16; SLOT_COUNT];
     let decided = decide_with(list, &mut cuts);
-    let Decided::Good { records: _, pieces } = decided else {
+    let Decided::Good {
+        records: _,
+        pieces,
+        classes: leaves,
+    } = decided
+    else {
         return Matched::NotGood;
     };
+    if classes.len() / CLASS_RECORD_SIZE < leaves {
+        return Matched::TooFewClasses;
+    }
     if LONGEST_TEXT < text.len() {
         return Matched::TooLong;
     }
-    let part = good::find_good(list, &cuts, pieces, text, true);
+    let part = good::find_good(list, classes, &cuts, pieces, text, true);
     match part {
         Span::At { start: _, end: _ } => Matched::Yes,
         Span::Nothing => Matched::No,
@@ -56,18 +69,26 @@ pub fn is_match(list: &[u8], text: &[u8]) -> Matched
 }
 
 // The part of the text that starts earliest and then ends furthest, of those in the language of the list's tree.
-pub fn search(list: &[u8], text: &[u8]) -> Searched
-    ensures { λ r. ⌜ Search-answers (now (list .entry)) (now (text .entry)) (search-numbers r) ⌝ }
+pub fn search(list: &[u8], classes: &[u8], text: &[u8]) -> Searched
+    ensures { λ r. ⌜ Search-answers (now (list .entry)) (now (classes .entry)) (now (text .entry)) (search-numbers r) ⌝ }
 {
     let mut cuts = [0u16; SLOT_COUNT];
     let decided = decide_with(list, &mut cuts);
-    let Decided::Good { records: _, pieces } = decided else {
+    let Decided::Good {
+        records: _,
+        pieces,
+        classes: leaves,
+    } = decided
+    else {
         return Searched::NotGood;
     };
+    if classes.len() / CLASS_RECORD_SIZE < leaves {
+        return Searched::TooFewClasses;
+    }
     if LONGEST_TEXT < text.len() {
         return Searched::TooLong;
     }
-    let part = good::find_good(list, &cuts, pieces, text, false);
+    let part = good::find_good(list, classes, &cuts, pieces, text, false);
     match part {
         Span::At { start, end } => Searched::Found { start, end },
         Span::Nothing => Searched::Nothing,

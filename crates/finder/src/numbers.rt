@@ -1,6 +1,7 @@
 // The numbers that a match and a search give back.
 use crate::Matched;
 use crate::Searched;
+use tree::refusal_numbers::CLASS_BUFFER_TOO_SHORT;
 use tree::refusal_numbers::LIST_NOT_GOOD;
 use tree::refusal_numbers::TEXT_TOO_LONG;
 ghost use mathlib.Core.Path.{_≡_};
@@ -48,6 +49,7 @@ pub fn match_numbers(answer: Matched) -> Numbers
         Matched::Yes => answering(true),
         Matched::No => answering(false),
         Matched::NotGood => refusing(LIST_NOT_GOOD),
+        Matched::TooFewClasses => refusing(CLASS_BUFFER_TOO_SHORT),
         Matched::TooLong => refusing(TEXT_TOO_LONG),
     }
 }
@@ -66,6 +68,7 @@ pub fn search_numbers(answer: Searched) -> Numbers
         },
         Searched::Nothing => answering(false),
         Searched::NotGood => refusing(LIST_NOT_GOOD),
+        Searched::TooFewClasses => refusing(CLASS_BUFFER_TOO_SHORT),
         Searched::TooLong => refusing(TEXT_TOO_LONG),
     }
 }

@@ -45,6 +45,7 @@ fn furthest_end(
     stands: &[u8],
     tops: &[u8],
     count: usize,
+    classes: &[u8],
     first: &[u64],
     empty: bool,
     text: &[u8],
@@ -53,11 +54,11 @@ fn furthest_end(
     requires { ⌜ Ready (now reach) (now codes) (now runs) (now stands) (now tops) count ⌝ }
     requires { ⌜ (start ≤ length (now text)) × (length (now first) ≡ most-pieces) ⌝ }
     requires { ⌜ ((t : Tree Leaf) → Prepared t (now reach) (now codes) (now runs) (now stands) (now tops) count
-        → Answered t [] (now first) empty) ⌝ }
+        → Answered (now classes) t [] (now first) empty) ⌝ }
     ensures { λ r.
         ⌜ ((t : Tree Leaf)
         → Prepared t (now (reach .entry)) (now (codes .entry)) (now (runs .entry)) (now (stands .entry))
-        (now (tops .entry)) count → Furthest (Matches t) (now (text .entry)) start (end-of r)) ⌝ }
+        (now (tops .entry)) count → Furthest (Matches (now (classes .entry)) t) (now (text .entry)) start (end-of r)) ⌝ }
 {
     let mut words = [0u64; MOST_PIECES];
     copy(first, count, &mut words);
@@ -74,6 +75,7 @@ fn furthest_end(
             stands,
             tops,
             count,
+            classes,
             &mut words,
             text[end],
         );
@@ -93,13 +95,14 @@ pub fn first_part(
     stands: &[u8],
     tops: &[u8],
     count: usize,
+    classes: &[u8],
     text: &[u8],
 ) -> Span
     requires { ⌜ Ready (now reach) (now codes) (now runs) (now stands) (now tops) count ⌝ }
     ensures { λ r.
         ⌜ ((t : Tree Leaf)
         → Prepared t (now (reach .entry)) (now (codes .entry)) (now (runs .entry)) (now (stands .entry))
-        (now (tops .entry)) count → Answers (Matches t) (now (text .entry)) (answer-of r)) ⌝ }
+        (now (tops .entry)) count → Answers (Matches (now (classes .entry)) t) (now (text .entry)) (answer-of r)) ⌝ }
 {
     let mut first = [0u64; MOST_PIECES];
     let empty = begin(reach, codes, runs, stands, tops, count, &mut first);
@@ -112,6 +115,7 @@ pub fn first_part(
             stands,
             tops,
             count,
+            classes,
             &first,
             empty,
             text,

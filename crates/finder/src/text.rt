@@ -20,13 +20,14 @@ pub fn text_matches(
     stands: &[u8],
     tops: &[u8],
     count: usize,
+    classes: &[u8],
     text: &[u8],
 ) -> bool
     requires { ⌜ Ready (now reach) (now codes) (now runs) (now stands) (now tops) count ⌝ }
     ensures { λ r.
         ⌜ ((t : Tree Leaf)
         → Prepared t (now (reach .entry)) (now (codes .entry)) (now (runs .entry)) (now (stands .entry))
-        (now (tops .entry)) count → (r ≡ true) ↔ Matches t (now (text .entry))) ⌝ }
+        (now (tops .entry)) count → (r ≡ true) ↔ Matches (now (classes .entry)) t (now (text .entry))) ⌝ }
 {
     let mut words = [0u64; MOST_PIECES];
     let mut yes = begin(reach, codes, runs, stands, tops, count, &mut words);
@@ -35,7 +36,17 @@ pub fn text_matches(
         if nothing_left(&words, count) {
             return false;
         }
-        yes = advance(reach, codes, runs, stands, tops, count, &mut words, text[i]);
+        yes = advance(
+            reach,
+            codes,
+            runs,
+            stands,
+            tops,
+            count,
+            classes,
+            &mut words,
+            text[i],
+        );
         i += 1;
     }
     yes

@@ -1,25 +1,37 @@
 -- What an answer tells, by its cases: that of `tree::good::decide_with`, and that of a start or a step.
-use Prim.Native.Nat.{ℕ, suc}
+use Prim.Native.Nat.{ℕ, suc, _/_, _≤_, _<_}
 use mathlib.Core.Path.{_≡_, sym, subst}
 use mathlib.Core.List.{List, [], _∷_}
 use native.Mathlib.Omega.{arith}
 use lib.ListN.{length, getD}
 use denote.Enum.Declared.{tagOf}
 use Rattle.tree.specs.Limits.{slot-count}
-use Rattle.tree.specs.RefusalNumbers.{list-not-good, too-few-words, words-not-marks}
+use Rattle.tree.specs.RefusalNumbers.{list-not-good, too-few-words, words-not-marks, class-buffer-too-short}
+use Rattle.language.specs.Tree.{Tree}
+use Rattle.tree.specs.Leaf.{Leaf}
+use Rattle.tree.specs.Layout.{class-record-size}
+use Rattle.tree.specs.Records.{Good}
+use Rattle.tree.specs.Readback.{good-unique}
 use Rattle.tree.specs.Judged.{Judged, Counts-below}
 use Rattle.tree.specs.declared.good.Decided.{Decided}
 use Rattle.tree.specs.declared.good.Decided.the-variants.{Good as good, NotGood as not-good}
 use Rattle.tree.proofs.good.Decided.{the-type}
 use Rattle.tables.specs.Given.{Decided-good}
 use Rattle.marks.specs.declared.MarksAnswer.{MarksAnswer}
-use Rattle.marks.specs.declared.MarksAnswer.the-variants.{Marked, NotGood, TooFewWords, NotMarks}
+use Rattle.marks.specs.declared.MarksAnswer.the-variants.{
+  Marked,
+  NotGood,
+  TooFewClasses,
+  TooFewWords,
+  NotMarks,
+}
 use Rattle.marks.proofs.MarksAnswer.{the-type as answer-type}
 use Rattle.marks.specs.Answer.{refusing, numbers}
-use Rattle.marks.specs.Promise.{Not-good}
+use Rattle.marks.specs.Promise.{Not-good, Classed, Too-few-classes}
 
 -- the list is good, and its tree is measured
-pub told-good : {list cuts : List ℕ} {answer : Decided} {records pieces : ℕ} → answer ≡ good records pieces
+pub told-good : {list cuts : List ℕ} {answer : Decided} {records pieces leaves : ℕ}
+    → answer ≡ good records pieces leaves
     → Judged list answer × Counts-below list cuts → length cuts ≡ slot-count → Decided-good list cuts pieces
 told-good {list} e decided room =
     let fits = subst (Judged list) e (decided .0) .fits in
@@ -31,19 +43,35 @@ told-good {list} e decided room =
       pieces-are = fits .pieces-are;
     }
 
+module _ {list : List ℕ} (classes : List ℕ) {answer : Decided} {records pieces leaves : ℕ}
+    (e : answer ≡ good records pieces leaves) (judged : Judged list answer) where
+  -- by the number of its class leaves there are class records enough
+  pub told-classed : leaves ≤ length classes / class-record-size → (t : Tree Leaf) → Good list t → Classed classes t
+  told-classed enough t is-good =
+      let told = subst (Judged list) e judged .fits in
+      subst (λ (s : Tree Leaf). Classed classes s) (good-unique list (told .tree) t (told .is-good) is-good)
+      (omega (arith, told .classes-are))
+
+  -- or too few
+  pub told-too-few-classes : length classes / class-record-size < leaves → Too-few-classes list classes
+  told-too-few-classes few =
+      let told = subst (Judged list) e judged .fits in
+      (told .tree, told .is-good, omega (arith, told .classes-are))
+
 -- the list is not good
 pub told-not-good : {list : List ℕ} (answer : Decided) → tagOf the-type answer ≡ 1 → Judged list answer → Not-good list
-told-not-good (good records pieces) tag judged = absurd (omega arith)
+told-not-good (good records pieces leaves) tag judged = absurd (omega arith)
 told-not-good not-good tag judged = judged .fits
 
 -- the refusals of a start or a step, in the order of its cases
 abbrev refusals : List ℕ
-refusals = list-not-good ∷ too-few-words ∷ words-not-marks ∷ []
+refusals = list-not-good ∷ class-buffer-too-short ∷ too-few-words ∷ words-not-marks ∷ []
 
 -- a case past the first is a refusal
 pub told-refusal : (answer : MarksAnswer) (place : ℕ) → tagOf answer-type answer ≡ suc place
     → numbers answer ≡ refusing (getD refusals place 0)
 told-refusal (Marked accepting) place tag = absurd (omega arith)
 told-refusal NotGood place tag = let at : 0 ≡ place = omega arith in rw (sym at)
-told-refusal TooFewWords place tag = let at : 1 ≡ place = omega arith in rw (sym at)
-told-refusal NotMarks place tag = let at : 2 ≡ place = omega arith in rw (sym at)
+told-refusal TooFewClasses place tag = let at : 1 ≡ place = omega arith in rw (sym at)
+told-refusal TooFewWords place tag = let at : 2 ≡ place = omega arith in rw (sym at)
+told-refusal NotMarks place tag = let at : 3 ≡ place = omega arith in rw (sym at)

@@ -1,9 +1,15 @@
 -- The numbers that a start or a step gives back: one definition for each case of its answer, by the table of refusals.
 use Prim.Native.Nat.{ℕ}
 use mathlib.Core.Bool.{Bool, false}
-use Rattle.tree.specs.RefusalNumbers.{list-not-good, too-few-words, words-not-marks}
+use Rattle.tree.specs.RefusalNumbers.{list-not-good, too-few-words, words-not-marks, class-buffer-too-short}
 use Rattle.marks.specs.declared.MarksAnswer.{MarksAnswer}
-use Rattle.marks.specs.declared.MarksAnswer.the-variants.{Marked, NotGood, TooFewWords, NotMarks}
+use Rattle.marks.specs.declared.MarksAnswer.the-variants.{
+  Marked,
+  NotGood,
+  TooFewClasses,
+  TooFewWords,
+  NotMarks,
+}
 -- the refusal's number, 0 for none, and its place; whether the root's accepting state is now marked
 pub use Rattle.marks.specs.declared.numbers.Numbers.{Numbers}
 
@@ -19,5 +25,6 @@ marking accepting = record { refusal = 0; place = 0; accepting = accepting }
 abbrev pub numbers : MarksAnswer → Numbers
 numbers (Marked accepting) = marking accepting
 numbers NotGood = refusing list-not-good
+numbers TooFewClasses = refusing class-buffer-too-short
 numbers TooFewWords = refusing too-few-words
 numbers NotMarks = refusing words-not-marks

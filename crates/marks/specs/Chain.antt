@@ -13,16 +13,16 @@ use Rattle.marks.specs.Answer.{Numbers, marking}
 use Rattle.marks.specs.Promise.{Starts, Steps}
 
 -- from the words `before`, over the bytes of w: the last call gave back n and left the words `after`
-pub data Chain (list before : List ℕ) : (w after : List ℕ) → Numbers → Type 0 where
-  begun : {after : List ℕ} {n : Numbers} → Starts list before after n → Chain list before [] after n
-  further : {w after later : List ℕ} {n m : Numbers} {byte : ℕ} → Chain list before w after n
-      → Steps list byte after later m → Chain list before (w ++ (byte ∷ [])) later m
+pub data Chain (list classes before : List ℕ) : (w after : List ℕ) → Numbers → Type 0 where
+  begun : {after : List ℕ} {n : Numbers} → Starts list classes before after n → Chain list classes before [] after n
+  further : {w after later : List ℕ} {n m : Numbers} {byte : ℕ} → Chain list classes before w after n
+      → Steps list classes byte after later m → Chain list classes before (w ++ (byte ∷ [])) later m
 
 -- the last call of a chain over w was not refused: it says whether w is in the language, the words hold the marks after
 -- w, and those past the pieces are as before
-pub record Follows (t : Tree Leaf) (w before after : List ℕ) (n : Numbers) : Type 0 where
+pub record Follows (classes : List ℕ) (t : Tree Leaf) (w before after : List ℕ) (n : Numbers) : Type 0 where
   pub marks : n ≡ marking (n .accepting)
-  pub answer : (n .accepting ≡ true) ↔ Matches t w
-  pub holding : Holding t w after
+  pub answer : (n .accepting ≡ true) ↔ Matches classes t w
+  pub holding : Holding classes t w after
   pub others : drop (piece-count t) after ≡ drop (piece-count t) before
   pub same-length : length after ≡ length before

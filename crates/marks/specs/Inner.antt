@@ -91,14 +91,14 @@ pub narrow : (t : Tree Leaf) → width (cut-up t) ≤ most-states
 narrow t = small-narrow (cut-up t) (stated t .every-small .0)
 
 -- the marks to start with, and whether the accepting state is among them
-pub record Begun (t : Tree Leaf) (before after : List ℕ) (yes' : Bool) : Type 0 where
-  pub hold : Hold t (Started meaning t) before after
-  pub answer : (yes' ≡ true) ↔ Started meaning t accepting
+pub record Begun (classes : List ℕ) (t : Tree Leaf) (before after : List ℕ) (yes' : Bool) : Type 0 where
+  pub hold : Hold t (Started (meaning classes) t) before after
+  pub answer : (yes' ≡ true) ↔ Started (meaning classes) t accepting
 
 -- the marks after one more byte, from the set that the words held before, and whether the accepting state is among them
-pub record Advanced (t : Tree Leaf) (byte : ℕ) (before after : List ℕ) (yes' : Bool) : Type 0 where
-  pub hold : Hold t (Stepped meaning t byte (Set-of (cut-up t) before)) before after
-  pub answer : (yes' ≡ true) ↔ Stepped meaning t byte (Set-of (cut-up t) before) accepting
+pub record Advanced (classes : List ℕ) (t : Tree Leaf) (byte : ℕ) (before after : List ℕ) (yes' : Bool) : Type 0 where
+  pub hold : Hold t (Stepped (meaning classes) t byte (Set-of (cut-up t) before)) before after
+  pub answer : (yes' ≡ true) ↔ Stepped (meaning classes) t byte (Set-of (cut-up t) before) accepting
 
 -- the tables are those of a tree of which the words are marks, but for agreement
 pub record Running (reach codes runs stands tops : List ℕ) (count : ℕ) (words : List ℕ) : Type 0 where
@@ -195,11 +195,11 @@ module _ {t : Tree Leaf} {reach codes runs stands tops : List ℕ} {count : ℕ}
       refl refl refl (prepared .planned) (sym prepared-count)
 
   -- from words with the root's start alone marked, closed twice, and the first of them put into the lent words
-  pub begun : (marked closed lent after : List ℕ) (yes' : Bool) → Start-marked (cut-up t) marked
+  pub begun : (classes marked closed lent after : List ℕ) (yes' : Bool) → Start-marked (cut-up t) marked
       → Closed-twice reach runs stands tops count marked closed
       → count ≤ length closed → count ≤ length lent → after ≡ take count closed ++ drop count lent
-      → Tells (Bit (getD after 0 0) (getD tops 0 0)) yes' → Begun t lent after yes'
-  begun marked closed lent after yes' starts twice enough room put told =
+      → Tells (Bit (getD after 0 0) (getD tops 0 0)) yes' → Begun classes t lent after yes'
+  begun classes marked closed lent after yes' starts twice enough room put told =
       let x = cut-up t in
       let on = prepared-run (start-clean x marked starts) (start-nearly x marked starts)
       (start-closed x marked starts) in
@@ -207,10 +207,10 @@ module _ {t : Tree Leaf} {reach codes runs stands tops : List ℕ} {count : ℕ}
       let same : take count after ≡ take count closed = ap (take count) put
       ∙ take-at (take count closed) (drop count lent) count front in
       let agree : Agree x (Holds x after) (Holds x closed) = same-front x count after closed prepared-count same in
-      let models : Models x (Holds x after) (Started meaning t) =
-      subst (λ (s : Tree Leaf). Models x (Holds x after) (Started meaning s)) (stated t .same-tree)
-      (models-same x (Started meaning (whole x)) agree
-      (closed-start reach runs stands tops count x marked closed twice on (start-holds x marked starts)))
+      let models : Models x (Holds x after) (Started (meaning classes) t) =
+      subst (λ (s : Tree Leaf). Models x (Holds x after) (Started (meaning classes) s)) (stated t .same-tree)
+      (models-same x (Started (meaning classes) (whole x)) agree
+      (closed-start reach runs stands tops count x marked closed twice on classes (start-holds x marked starts)))
       in
       record {
         hold = record {
@@ -221,11 +221,11 @@ module _ {t : Tree Leaf} {reach codes runs stands tops : List ℕ} {count : ℕ}
           same-length = ap length put ∙ length-append (take count closed) (drop count lent)
               ∙ omega (arith, front, length-drop count lent);
         };
-        answer = answer-told after (Started meaning t) yes' models told;
+        answer = answer-told after (Started (meaning classes) t) yes' models told;
       }
 
   -- words that were moved are the run of the pieces
-  pub moved-run : {byte : ℕ} {before moved : List ℕ} → Moved-closed reach codes before moved byte count
+  pub moved-run : {classes : List ℕ} {byte : ℕ} {before moved : List ℕ} → Moved-closed reach classes codes before moved byte count
       → Clean (cut-up t) before → Run-of reach runs stands tops count (cut-up t) moved
   moved-run went clean =
       let x = cut-up t in
@@ -237,19 +237,19 @@ module _ {t : Tree Leaf} {reach codes runs stands tops : List ℕ} {count : ℕ}
       (all-narrow t) clean) (closed-nearly (closed .0)) (closed .1)
 
   -- from words moved along the byte, and closed twice
-  pub advanced : (byte : ℕ) (before moved after : List ℕ) (yes' : Bool) → Marks-of t before
-      → Moved-closed reach codes before moved byte count → Closed-twice reach runs stands tops count moved after
+  pub advanced : {classes : List ℕ} (byte : ℕ) (before moved after : List ℕ) (yes' : Bool) → Marks-of t before
+      → Moved-closed reach classes codes before moved byte count → Closed-twice reach runs stands tops count moved after
       → length after ≡ length moved → Tells (Bit (getD after 0 0) (getD tops 0 0)) yes'
-      → Advanced t byte before after yes'
-  advanced byte before moved after yes' marks went twice long told =
+      → Advanced classes t byte before after yes'
+  advanced {classes} byte before moved after yes' marks went twice long told =
       let x = cut-up t in
       let tables : Pieces = record { codes = codes; runs = runs; stands = stands; tops = tops } in
       let room : 1 + run x ≤ count = omega (arith, prepared-count) in
       let on = moved-run went (marks .clean) in
-      let models : Models x (Holds x after) (Stepped meaning t byte (Set-of x before)) =
-      subst (λ (s : Tree Leaf). Models x (Holds x after) (Stepped meaning s byte (Set-of x before)))
+      let models : Models x (Holds x after) (Stepped (meaning classes) t byte (Set-of x before)) =
+      subst (λ (s : Tree Leaf). Models x (Holds x after) (Stepped (meaning classes) s byte (Set-of x before)))
       (stated t .same-tree)
-      (closed-step reach runs stands tops count x moved after twice on byte (Holds x before) (Set-of x before)
+      (closed-step reach runs stands tops count x moved after twice on classes byte (Holds x before) (Set-of x before)
       (alike-models x (Holds x before) (marks .agreeing))
       (moved-keeps went tables x refl (prepared .planned) (prepared .reached) room (narrow t) (all-narrow t)
       (marks .clean))
@@ -264,39 +264,39 @@ module _ {t : Tree Leaf} {reach codes runs stands tops : List ℕ} {count : ℕ}
               (twice .others ∙ ext-drop count moved before (moved-length went) (moved-others went));
           same-length = long ∙ moved-length went;
         };
-        answer = answer-told after (Stepped meaning t byte (Set-of x before)) yes' models told;
+        answer = answer-told after (Stepped (meaning classes) t byte (Set-of x before)) yes' models told;
       }
 
 -- words that hold the marks after a text are marks
-pub holding-marks : {t : Tree Leaf} {w words : List ℕ} → Holding t w words → Marks-of t words
-holding-marks {t} {w} {words} holding = record {
+pub holding-marks : {classes : List ℕ} {t : Tree Leaf} {w words : List ℕ} → Holding classes t w words → Marks-of t words
+holding-marks {classes} {t} {w} {words} holding = record {
   clean = holding .clean;
-  agreeing = models-alike (cut-up t) (Holds (cut-up t) words) (After meaning t w (Started meaning t))
+  agreeing = models-alike (cut-up t) (Holds (cut-up t) words) (After (meaning classes) t w (Started (meaning classes) t))
       (holding .modelled);
 }
 
 -- after the start the words hold the marks after the empty text
-pub answered-first : {t : Tree Leaf} {before after : List ℕ} {yes' : Bool} → Begun t before after yes'
-    → Answered t [] after yes'
-answered-first {t} begins =
+pub answered-first : {classes : List ℕ} {t : Tree Leaf} {before after : List ℕ} {yes' : Bool} → Begun classes t before after yes'
+    → Answered classes t [] after yes'
+answered-first {classes} {t} begins =
     record {
       holding = holding-first (begins .hold .marks) (begins .hold .clean);
       answer =
-          Iff·trans (begins .answer) (accepts-exactly meaning t []);
+          Iff·trans (begins .answer) (accepts-exactly (meaning classes) t []);
     }
 
 -- words of which the first are put in the place of others answer the same
-pub answered-copy : {t : Tree Leaf} {reach codes runs stands tops w after : List ℕ} {count : ℕ} {yes' : Bool}
+pub answered-copy : {classes : List ℕ} {t : Tree Leaf} {reach codes runs stands tops w after : List ℕ} {count : ℕ} {yes' : Bool}
     (from to : List ℕ) → Prepared t reach codes runs stands tops count
-    → count ≤ length from → after ≡ take count from ++ drop count to → Answered t w from yes' → Answered t w after yes'
-answered-copy {t} {w = w} {after = after} {count = count} from to prepared enough put answered =
+    → count ≤ length from → after ≡ take count from ++ drop count to → Answered classes t w from yes' → Answered classes t w after yes'
+answered-copy {classes} {t} {w = w} {after = after} {count = count} from to prepared enough put answered =
     let x = cut-up t in
     let same : take count after ≡ take count from =
     ap (take count) put ∙ take-at (take count from) (drop count to) count (length-take-le count from enough)
     in
     record {
       holding = record {
-        modelled = models-same x (After meaning t w (Started meaning t))
+        modelled = models-same x (After (meaning classes) t w (Started (meaning classes) t))
             (same-front x count after from (prepared-count prepared) same) (answered .holding .modelled);
         clean = same-clean x count after from (prepared-count prepared) same (answered .holding .clean);
       };
@@ -304,17 +304,17 @@ answered-copy {t} {w = w} {after = after} {count = count} from to prepared enoug
     }
 
 -- after one more byte they hold the marks after one more byte
-pub answered-next : {t : Tree Leaf} {w before after : List ℕ} {b : ℕ} {yes' : Bool} → Holding t w before
-    → Advanced t b before after yes' → Answered t (w ++ (b ∷ [])) after yes'
-answered-next {t} {w} {before} {after} {b} {yes'} holding went =
+pub answered-next : {classes : List ℕ} {t : Tree Leaf} {w before after : List ℕ} {b : ℕ} {yes' : Bool} → Holding classes t w before
+    → Advanced classes t b before after yes' → Answered classes t (w ++ (b ∷ [])) after yes'
+answered-next {classes} {t} {w} {before} {after} {b} {yes'} holding went =
     let x = cut-up t in
-    let X = After meaning t w (Started meaning t) in
+    let X = After (meaning classes) t w (Started (meaning classes) t) in
     let states : X ⊆ State-of (whole x) = subst (λ (s : Tree Leaf). X ⊆ State-of s) (sym (stated t .same-tree))
-    (reached-state meaning t w) in
+    (reached-state (meaning classes) t w) in
     let same : (p : State) → X p ↔ Set-of x before p = models-origins x (Holds x before) X (holding .modelled) states in
-    let stepped : (p : State) → Stepped meaning t b (Set-of x before) p ↔ Stepped meaning t b X p =
-    λ p. (stepped-more meaning t b (λ q. same q .1) p, stepped-more meaning t b (λ q. same q .0) p) in
-    let held : Holding t (w ++ (b ∷ [])) after =
+    let stepped : (p : State) → Stepped (meaning classes) t b (Set-of x before) p ↔ Stepped (meaning classes) t b X p =
+    λ p. (stepped-more (meaning classes) t b (λ q. same q .1) p, stepped-more (meaning classes) t b (λ q. same q .0) p) in
+    let held : Holding classes t (w ++ (b ∷ [])) after =
     holding-next holding (λ q has. Iff·trans (went .hold .marks q has) (stepped (origin x q)))
     (went .hold .clean) in
     record {
@@ -325,9 +325,9 @@ answered-next {t} {w} {before} {after} {b} {yes'} holding went =
     }
 
 -- words that were moved can be closed, where the marks are from `from` up to `to`
-pub moved-closable : {reach codes runs stands tops : List ℕ} {count byte from to : ℕ} {before moved : List ℕ}
+pub moved-closable : {reach classes codes runs stands tops : List ℕ} {count byte from to : ℕ} {before moved : List ℕ}
     → Running reach codes runs stands tops count before
-    → Moved-closed reach codes before moved byte count → ((o : ℕ) → o < from → getD moved o 0 ≡ 0)
+    → Moved-closed reach classes codes before moved byte count → ((o : ℕ) → o < from → getD moved o 0 ≡ 0)
     → ((o : ℕ) → to ≤ o → o < count → getD moved o 0 ≡ 0)
     → Closable reach runs stands tops count from to moved
 moved-closable {count = count} {moved = moved} running went none-before none-after =

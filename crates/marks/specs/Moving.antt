@@ -1,5 +1,5 @@
 -- Moving along a byte: one word, all words, and all words with each piece closed.
-mod Codes
+pub mod Codes
 pub mod Leaves
 pub mod WordMoved
 pub mod WordsMoved

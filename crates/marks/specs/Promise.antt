@@ -1,6 +1,6 @@
 -- What start and step promise, row by row of the table of refusals: the numbers given back, and every word that was
 -- lent.
-use Prim.Native.Nat.{ℕ, _≤_, _<_}
+use Prim.Native.Nat.{ℕ, _*_, _≤_, _<_}
 use mathlib.Core.Path.{_≡_}
 use mathlib.Core.Bool.{true}
 use mathlib.Core.Logic.{_↔_}
@@ -9,9 +9,10 @@ use lib.ListN.{length, drop}
 use Rattle.language.specs.Tree.{Tree}
 use Rattle.language.specs.Automaton.{States, accepting, Started, Stepped}
 use Rattle.language.specs.Nested.{Models}
-use Rattle.tree.specs.RefusalNumbers.{list-not-good, too-few-words, words-not-marks}
+use Rattle.tree.specs.RefusalNumbers.{list-not-good, too-few-words, words-not-marks, class-buffer-too-short}
 use Rattle.tree.specs.Leaf.{Leaf, meaning}
-use Rattle.tree.specs.Records.{Good, piece-count}
+use Rattle.tree.specs.Layout.{class-record-size}
+use Rattle.tree.specs.Records.{Good, piece-count, class-count}
 use Rattle.tables.specs.Words.{Holds, Clean, Agreeing, Set-of}
 use Rattle.tree.specs.Pieces.{cut-up}
 use Rattle.marks.specs.Answer.{Numbers, refusing, marking}
@@ -29,6 +30,10 @@ pub record Marks-of (t : Tree Leaf) (words : List ℕ) : Type 0 where
   pub clean : Clean (cut-up t) words
   pub agreeing : Agreeing (cut-up t) words
 
+-- the class buffer has a record for each class leaf of t
+abbrev pub Classed : (classes : List ℕ) → Tree Leaf → Type 0
+Classed classes t = class-record-size * class-count t ≤ length classes
+
 -- a refusal gives back its number, and leaves every word as it was
 pub record Refused (number : ℕ) (why : Type 0) (before after : List ℕ) (n : Numbers) : Type 0 where
   pub because : why
@@ -36,9 +41,10 @@ pub record Refused (number : ℕ) (why : Type 0) (before after : List ℕ) (n : 
   pub unchanged : after ≡ before
 
 -- the marks X of the list's tree are made, and the accepting state is among them or not
-pub record Made (list : List ℕ) (X : Tree Leaf → States) (before after : List ℕ) (n : Numbers) : Type 0 where
+pub record Made (list classes : List ℕ) (X : Tree Leaf → States) (before after : List ℕ) (n : Numbers) : Type 0 where
   pub t : Tree Leaf
   pub good : Good list t
+  pub classed : Classed classes t
   pub enough : piece-count t ≤ length before
   pub hold : Hold t (X t) before after
   pub marks : n ≡ marking (n .accepting)
@@ -48,29 +54,38 @@ pub record Made (list : List ℕ) (X : Tree Leaf → States) (before after : Lis
 abbrev pub Not-good : List ℕ → Type 0
 Not-good list = (t : Tree Leaf) → Good list t → ⊥
 
--- the list is good, and fewer words are lent than there are pieces
-abbrev pub Too-few : List ℕ → List ℕ → Type 0
-Too-few list words = (t : Tree Leaf) × Good list t × (length words < piece-count t)
+-- the list is good, and the class buffer has no record for some class leaf
+abbrev pub Too-few-classes : (list classes : List ℕ) → Type 0
+Too-few-classes list classes = (t : Tree Leaf) × Good list t × (length classes < class-record-size * class-count t)
 
--- the list is good, there are words enough, and they are no marks of it
-abbrev pub Not-marks : List ℕ → List ℕ → Type 0
-Not-marks list words = (t : Tree Leaf) × Good list t × (piece-count t ≤ length words) × (Marks-of t words → ⊥)
+-- the list is good, there are class records enough, and fewer words are lent than there are pieces
+abbrev pub Too-few : (list classes words : List ℕ) → Type 0
+Too-few list classes words = (t : Tree Leaf) × Good list t × Classed classes t × (length words < piece-count t)
+
+-- the list is good, there are class records and words enough, and the words are no marks of it
+abbrev pub Not-marks : (list classes words : List ℕ) → Type 0
+Not-marks list classes words =
+    (t : Tree Leaf) × Good list t × Classed classes t × (piece-count t ≤ length words) × (Marks-of t words → ⊥)
 
 -- what start gives back, and the words afterwards: they hold the closing of the root's start
-pub data Starts (list before after : List ℕ) (n : Numbers) : Type 0 where
-  start-not-good : Refused list-not-good (Not-good list) before after n → Starts list before after n
-  start-too-few : Refused too-few-words (Too-few list before) before after n → Starts list before after n
-  started : Made list (λ t. Started meaning t) before after n → Starts list before after n
+pub data Starts (list classes before after : List ℕ) (n : Numbers) : Type 0 where
+  start-not-good : Refused list-not-good (Not-good list) before after n → Starts list classes before after n
+  start-too-few-classes : Refused class-buffer-too-short (Too-few-classes list classes) before after n
+      → Starts list classes before after n
+  start-too-few : Refused too-few-words (Too-few list classes before) before after n → Starts list classes before after n
+  started : Made list classes (λ t. Started (meaning classes) t) before after n → Starts list classes before after n
 
 -- from marks, the states that a path from a marked state reading the byte and then any number of empty transitions
 -- leads to
-pub record Moves-on (list : List ℕ) (byte : ℕ) (before after : List ℕ) (n : Numbers) : Type 0 where
-  pub made : Made list (λ t. Stepped meaning t byte (Set-of (cut-up t) before)) before after n
+pub record Moves-on (list classes : List ℕ) (byte : ℕ) (before after : List ℕ) (n : Numbers) : Type 0 where
+  pub made : Made list classes (λ t. Stepped (meaning classes) t byte (Set-of (cut-up t) before)) before after n
   pub from-marks : Marks-of (made .t) before
 
 -- what step gives back, and the words afterwards
-pub data Steps (list : List ℕ) (byte : ℕ) (before after : List ℕ) (n : Numbers) : Type 0 where
-  step-not-good : Refused list-not-good (Not-good list) before after n → Steps list byte before after n
-  step-too-few : Refused too-few-words (Too-few list before) before after n → Steps list byte before after n
-  step-not-marks : Refused words-not-marks (Not-marks list before) before after n → Steps list byte before after n
-  stepped : Moves-on list byte before after n → Steps list byte before after n
+pub data Steps (list classes : List ℕ) (byte : ℕ) (before after : List ℕ) (n : Numbers) : Type 0 where
+  step-not-good : Refused list-not-good (Not-good list) before after n → Steps list classes byte before after n
+  step-too-few-classes : Refused class-buffer-too-short (Too-few-classes list classes) before after n
+      → Steps list classes byte before after n
+  step-too-few : Refused too-few-words (Too-few list classes before) before after n → Steps list classes byte before after n
+  step-not-marks : Refused words-not-marks (Not-marks list classes before) before after n → Steps list classes byte before after n
+  stepped : Moves-on list classes byte before after n → Steps list classes byte before after n

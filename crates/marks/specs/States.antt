@@ -21,10 +21,12 @@ use Rattle.marks.specs.Promise.{
   Made,
   Starts,
   start-not-good,
+  start-too-few-classes,
   start-too-few,
   started,
   Steps,
   step-not-good,
+  step-too-few-classes,
   step-too-few,
   step-not-marks,
   stepped,
@@ -48,9 +50,9 @@ refused-flag t a = (
   λ says. absurd (omega (arith, ap (λ (m : Numbers). m .refusal) (a .refuses), says .0)),
 )
 
-module _ {list : List ℕ} {t : Tree Leaf} (good : Good list t) where
+module _ {list classes : List ℕ} {t : Tree Leaf} (good : Good list t) where
   -- that of marks made says what their words hold
-  made-flag : {X : Tree Leaf → States} {before after : List ℕ} {n : Numbers} → Made list X before after n
+  made-flag : {X : Tree Leaf → States} {before after : List ℕ} {n : Numbers} → Made list classes X before after n
       → (n .accepting ≡ true) ↔ Accepting-marked t after n
   made-flag {X} {before} {after} {n} made =
       let marked = Iff·trans (Iff·symm (made .hold .marks accepting tt)) (accepting-holds (cut-up (made .t)) after) in
@@ -60,16 +62,18 @@ module _ {list : List ℕ} {t : Tree Leaf} (good : Good list t) where
       (good-unique list (made .t) t (made .good) good) (λ e. (none, says .0 e), λ accepts. says .1 (accepts .1))
 
   -- the flag of a start is set exactly when nothing is refused and the root's accepting state is marked
-  pub starts-flag : {before after : List ℕ} {n : Numbers} → Starts list before after n
+  pub starts-flag : {before after : List ℕ} {n : Numbers} → Starts list classes before after n
       → (n .accepting ≡ true) ↔ Accepting-marked t after n
   starts-flag (start-not-good a) = refused-flag t a
+  starts-flag (start-too-few-classes a) = refused-flag t a
   starts-flag (start-too-few a) = refused-flag t a
   starts-flag (started made) = made-flag made
 
   -- so it is with a step
-  pub steps-flag : {byte : ℕ} {before after : List ℕ} {n : Numbers} → Steps list byte before after n
+  pub steps-flag : {byte : ℕ} {before after : List ℕ} {n : Numbers} → Steps list classes byte before after n
       → (n .accepting ≡ true) ↔ Accepting-marked t after n
   steps-flag (step-not-good a) = refused-flag t a
+  steps-flag (step-too-few-classes a) = refused-flag t a
   steps-flag (step-too-few a) = refused-flag t a
   steps-flag (step-not-marks a) = refused-flag t a
   steps-flag (stepped on) = made-flag (on .made)

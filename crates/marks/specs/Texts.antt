@@ -26,40 +26,40 @@ use Rattle.marks.specs.BitsOfWords.Spots.{bit-at, held-at, holds-held, o
 pub all-words : (t : Tree Leaf) → 1 + run (cut-up t) ≡ piece-count t
 all-words t = stated t .all-pieces
 
-module _ {t : Tree Leaf} {w words : List ℕ} (holding : Holding t w words) where
+module _ {classes : List ℕ} {t : Tree Leaf} {w words : List ℕ} (holding : Holding classes t w words) where
   -- where the words of the pieces are 0, no state is marked after the text
-  none-marked : All-zero (piece-count t) words → (p : State) → After meaning t w (Started meaning t) p → ⊥
+  none-marked : All-zero (piece-count t) words → (p : State) → After (meaning classes) t w (Started (meaning classes) t) p → ⊥
   none-marked zeros p reached =
       let (q, has, stands) = origin-onto (cut-up t) p
-      (rw (stated t .same-tree) (reached-state meaning t w p reached)) in
+      (rw (stated t .same-tree) (reached-state (meaning classes) t w p reached)) in
       zero-holds (cut-up t) words (rw (all-words t) zeros) q has (holding .modelled q has .1 (rw stands reached))
 
   -- and no text that begins with it is in the language
-  pub nothing-left : All-zero (piece-count t) words → (v : List ℕ) → Matches t (w ++ v) → ⊥
-  nothing-left zeros v = none-longer meaning t w v (none-marked zeros)
+  pub nothing-left : All-zero (piece-count t) words → (v : List ℕ) → Matches classes t (w ++ v) → ⊥
+  nothing-left zeros v = none-longer (meaning classes) t w v (none-marked zeros)
 
   -- the last state of piece 0 is the root's accepting state: it is marked exactly when the text is in the language
-  pub accepting-answer : Bit (getD words 0 0) (width (cut-up t) - 1) ↔ Matches t w
+  pub accepting-answer : Bit (getD words 0 0) (width (cut-up t) - 1) ↔ Matches classes t w
   accepting-answer =
       let x : Nested Leaf = cut-up t in
       iff-trans (bit-at (getD words 0 0) (omega (arith, number-accepting x)))
       (iff-trans (held-at words (sym (own-spot x accepting tt)))
       (iff-trans (holds-held x words accepting tt .1, holds-held x words accepting tt .0)
-      (iff-trans (holding .modelled accepting tt) (accepts-exactly meaning t w))))
+      (iff-trans (holding .modelled accepting tt) (accepts-exactly (meaning classes) t w))))
 
   -- after one byte more they hold what a step with it marks
   pub holding-next : {b : ℕ} {later : List ℕ}
-      → Models (cut-up t) (Holds (cut-up t) later) (Stepped meaning t b (After meaning t w (Started meaning t)))
+      → Models (cut-up t) (Holds (cut-up t) later) (Stepped (meaning classes) t b (After (meaning classes) t w (Started (meaning classes) t)))
       → Clean (cut-up t) later
-      → Holding t (w ++ (b ∷ [])) later
+      → Holding classes t (w ++ (b ∷ [])) later
   holding-next {b} {later} models clean =
       record {
         modelled = subst (λ (X : States). Models (cut-up t) (Holds (cut-up t) later) X)
-            (sym (after-step meaning t w b (Started meaning t))) models;
+            (sym (after-step (meaning classes) t w b (Started (meaning classes) t))) models;
         clean = clean;
       }
 
 -- before the first byte they hold what the start marks
-pub holding-first : {t : Tree Leaf} {words : List ℕ} → Models (cut-up t) (Holds (cut-up t) words) (Started meaning t)
-    → Clean (cut-up t) words → Holding t [] words
+pub holding-first : {classes : List ℕ} {t : Tree Leaf} {words : List ℕ} → Models (cut-up t) (Holds (cut-up t) words) (Started (meaning classes) t)
+    → Clean (cut-up t) words → Holding classes t [] words
 holding-first models clean = record { modelled = models; clean = clean }

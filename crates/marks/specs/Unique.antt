@@ -1,17 +1,19 @@
 -- What start and step promise leaves no choice: the numbers given back and every word afterwards are determined, and
--- each refusal is given exactly when the table says so, in the order 10, 12, 13.
-use Prim.Native.Nat.{ℕ, _+_, _≤_, _<_}
+-- each refusal is given exactly when the table says so, in the order 10, 15, 12, 13.
+use Prim.Native.Nat.{ℕ, _+_, _*_, _≤_, _<_}
 use native.Mathlib.Omega.{arith}
 use mathlib.Core.Path.{_≡_, refl, sym, ap, _∙_, subst}
-use mathlib.Core.Bool.{Bool, true, false}
+use mathlib.Core.Bool.{Bool, true, false, cond}
 use mathlib.Core.Logic.{_↔_, Iff·symm, Iff·trans}
 use mathlib.Core.List.{List, _++_}
 use lib.ListN.{length, take, take-append-drop}
+use lib.Dec.{eqb}
 use Rattle.language.specs.Tree.{Tree}
 use Rattle.language.specs.Automaton.{accepting, States, Started, Stepped}
-use Rattle.tree.specs.RefusalNumbers.{list-not-good, too-few-words, words-not-marks}
+use Rattle.tree.specs.RefusalNumbers.{list-not-good, too-few-words, words-not-marks, class-buffer-too-short}
 use Rattle.tree.specs.Leaf.{Leaf, meaning}
-use Rattle.tree.specs.Records.{Good, piece-count}
+use Rattle.tree.specs.Layout.{class-record-size}
+use Rattle.tree.specs.Records.{Good, piece-count, class-count}
 use Rattle.tree.specs.Readback.{good-unique}
 use Rattle.tables.specs.Words.{run, Set-of}
 use Rattle.tree.specs.Pieces.{cut-up}
@@ -24,20 +26,30 @@ use Rattle.marks.specs.Promise.{
   Refused,
   Made,
   Not-good,
+  Classed,
+  Too-few-classes,
   Too-few,
   Not-marks,
   Starts,
   start-not-good,
+  start-too-few-classes,
   start-too-few,
   started,
   Steps,
   step-not-good,
+  step-too-few-classes,
   step-too-few,
   step-not-marks,
   stepped,
 }
 use Rattle.marks.specs.declared.MarksAnswer.{MarksAnswer}
-use Rattle.marks.specs.declared.MarksAnswer.the-variants.{Marked, NotGood, TooFewWords, NotMarks}
+use Rattle.marks.specs.declared.MarksAnswer.the-variants.{
+  Marked,
+  NotGood,
+  TooFewClasses,
+  TooFewWords,
+  NotMarks,
+}
 
 -- words enough that hold the same set, and are as before past the pieces, are the same
 hold-unique : (t : Tree Leaf) (X : States) (before after after' : List ℕ) → piece-count t ≤ length before
@@ -72,11 +84,11 @@ other-number : {k j : ℕ} {why : Type 0} {before after : List ℕ} {n : Numbers
 other-number a e other = other (sym (ap (λ (n : Numbers). n .refusal) (a .refuses)) ∙ e)
 
 -- marks that are made have none
-none-refused : {list before after : List ℕ} {X : Tree Leaf → States} {n : Numbers} {k : ℕ}
-    → Made list X before after n → n .refusal ≡ k → 0 < k → ⊥
+none-refused : {list classes before after : List ℕ} {X : Tree Leaf → States} {n : Numbers} {k : ℕ}
+    → Made list classes X before after n → n .refusal ≡ k → 0 < k → ⊥
 none-refused made e some = omega (arith, ap (λ (n : Numbers). n .refusal) (made .marks))
 
-module _ (list before : List ℕ) where
+module _ (list classes before : List ℕ) where
   -- the list is good, and P holds of its tree
   abbrev Of-list : (Tree Leaf → Type 0) → Type 0
   Of-list P = (t : Tree Leaf) × Good list t × P t
@@ -87,43 +99,59 @@ module _ (list before : List ℕ) where
 
   -- what is answered of the list's tree, where `Fine t` is asked of the words lent and X is made of them
   module _ (X : Tree Leaf → States) (Fine : Tree Leaf → Type 0) where
+    -- some class leaf has no record
+    abbrev Unclassed : Tree Leaf → Type 0
+    Unclassed t = length classes < class-record-size * class-count t
+
     -- fewer words are lent than there are pieces
     abbrev Few : Tree Leaf → Type 0
-    Few t = length before < piece-count t
+    Few t = Classed classes t × (length before < piece-count t)
 
     -- there are words enough, and they are not as asked
     abbrev Bad : Tree Leaf → Type 0
-    Bad t = (piece-count t ≤ length before) × (Fine t → ⊥)
+    Bad t = Classed classes t × (piece-count t ≤ length before) × (Fine t → ⊥)
 
     -- there are words enough, and they are as asked
     abbrev Taken : Tree Leaf → Type 0
-    Taken t = (piece-count t ≤ length before) × Fine t
+    Taken t = Classed classes t × (piece-count t ≤ length before) × Fine t
 
     -- what start and step both promise
     data Gives-back (after : List ℕ) (n : Numbers) : Type 0 where
       not-good : Refused list-not-good (Not-good list) before after n → Gives-back after n
+      too-few-classes : Refused class-buffer-too-short (Of-list Unclassed) before after n → Gives-back after n
       too-few : Refused too-few-words (Of-list Few) before after n → Gives-back after n
       not-marks : Refused words-not-marks (Of-list Bad) before after n → Gives-back after n
-      makes : (made : Made list X before after n) → Fine (made .t) → Gives-back after n
+      makes : (made : Made list classes X before after n) → Fine (made .t) → Gives-back after n
 
     -- the list is good, and the words are taken
-    taken : {after : List ℕ} {n : Numbers} (made : Made list X before after n) → Fine (made .t) → Of-list Taken
-    taken made fine = (made .t, made .good, (made .enough, fine))
+    taken : {after : List ℕ} {n : Numbers} (made : Made list classes X before after n) → Fine (made .t) → Of-list Taken
+    taken made fine = (made .t, made .good, (made .classed, made .enough, fine))
 
-    -- the three exclude each other
+    -- the four exclude each other
+    unclassed-few : (t : Tree Leaf) → Unclassed t → Few t → ⊥
+    unclassed-few t none (classed, few) = omega arith
+
+    unclassed-bad : (t : Tree Leaf) → Unclassed t → Bad t → ⊥
+    unclassed-bad t none (classed, enough, bad) = omega arith
+
+    unclassed-taken : (t : Tree Leaf) → Unclassed t → Taken t → ⊥
+    unclassed-taken t none (classed, enough, fine) = omega arith
+
     few-taken : (t : Tree Leaf) → Few t → Taken t → ⊥
-    few-taken t few (enough, fine) = omega arith
+    few-taken t (_, few) (_, enough, fine) = omega arith
 
     few-bad : (t : Tree Leaf) → Few t → Bad t → ⊥
-    few-bad t few (enough, bad) = omega arith
+    few-bad t (_, few) (_, enough, bad) = omega arith
 
     bad-taken : (t : Tree Leaf) → Bad t → Taken t → ⊥
-    bad-taken t (enough, bad) (enough', fine) = bad fine
+    bad-taken t (_, enough, bad) (_, enough', fine) = bad fine
 
     module _ {after : List ℕ} {n : Numbers} where
       -- so each row of the table is given exactly when it says: 10
       not-good-exactly : Gives-back after n → (n .refusal ≡ list-not-good) ↔ Not-good list
       not-good-exactly (not-good a) = (λ e. a .because, λ why. rw (a .refuses))
+      not-good-exactly (too-few-classes a) =
+          (λ e. absurd (other-number a e (omega arith)), λ why. absurd (why (a .because .0) (a .because .1)))
       not-good-exactly (too-few a) =
           (λ e. absurd (other-number a e (omega arith)), λ why. absurd (why (a .because .0) (a .because .1)))
       not-good-exactly (not-marks a) =
@@ -131,10 +159,24 @@ module _ (list before : List ℕ) where
       not-good-exactly (makes made fine) =
           (λ e. absurd (none-refused made e (omega arith)), λ why. absurd (why (made .t) (made .good)))
 
+      -- 15
+      too-few-classes-exactly : Gives-back after n → (n .refusal ≡ class-buffer-too-short) ↔ Of-list Unclassed
+      too-few-classes-exactly (not-good a) =
+          (λ e. absurd (other-number a e (omega arith)), λ why. absurd (a .because (why .0) (why .1)))
+      too-few-classes-exactly (too-few-classes a) = (λ e. a .because, λ why. rw (a .refuses))
+      too-few-classes-exactly (too-few a) =
+          (λ e. absurd (other-number a e (omega arith)), λ why. absurd (clash unclassed-few why (a .because)))
+      too-few-classes-exactly (not-marks a) =
+          (λ e. absurd (other-number a e (omega arith)), λ why. absurd (clash unclassed-bad why (a .because)))
+      too-few-classes-exactly (makes made fine) =
+          (λ e. absurd (none-refused made e (omega arith)), λ why. absurd (clash unclassed-taken why (taken made fine)))
+
       -- 12
       too-few-exactly : Gives-back after n → (n .refusal ≡ too-few-words) ↔ Of-list Few
       too-few-exactly (not-good a) =
           (λ e. absurd (other-number a e (omega arith)), λ why. absurd (a .because (why .0) (why .1)))
+      too-few-exactly (too-few-classes a) =
+          (λ e. absurd (other-number a e (omega arith)), λ why. absurd (clash unclassed-few (a .because) why))
       too-few-exactly (too-few a) = (λ e. a .because, λ why. rw (a .refuses))
       too-few-exactly (not-marks a) =
           (λ e. absurd (other-number a e (omega arith)), λ why. absurd (clash few-bad why (a .because)))
@@ -145,6 +187,8 @@ module _ (list before : List ℕ) where
       not-marks-exactly : Gives-back after n → (n .refusal ≡ words-not-marks) ↔ Of-list Bad
       not-marks-exactly (not-good a) =
           (λ e. absurd (other-number a e (omega arith)), λ why. absurd (a .because (why .0) (why .1)))
+      not-marks-exactly (too-few-classes a) =
+          (λ e. absurd (other-number a e (omega arith)), λ why. absurd (clash unclassed-bad (a .because) why))
       not-marks-exactly (too-few a) =
           (λ e. absurd (other-number a e (omega arith)), λ why. absurd (clash few-bad (a .because) why))
       not-marks-exactly (not-marks a) = (λ e. a .because, λ why. rw (a .refuses))
@@ -155,6 +199,8 @@ module _ (list before : List ℕ) where
       taken-exactly : Gives-back after n → (n .refusal ≡ 0) ↔ Of-list Taken
       taken-exactly (not-good a) =
           (λ e. absurd (other-number a e (omega arith)), λ why. absurd (a .because (why .0) (why .1)))
+      taken-exactly (too-few-classes a) =
+          (λ e. absurd (other-number a e (omega arith)), λ why. absurd (clash unclassed-taken (a .because) why))
       taken-exactly (too-few a) =
           (λ e. absurd (other-number a e (omega arith)), λ why. absurd (clash few-taken (a .because) why))
       taken-exactly (not-marks a) =
@@ -164,19 +210,21 @@ module _ (list before : List ℕ) where
       -- a number that is not 0 is that of a refusal, and every word is as it was
       refused-by : (k : ℕ) → Gives-back after n → n .refusal ≡ k → 0 < k → (n ≡ refusing k) × (after ≡ before)
       refused-by k (not-good a) e some = (same-refusal a e, a .unchanged)
+      refused-by k (too-few-classes a) e some = (same-refusal a e, a .unchanged)
       refused-by k (too-few a) e some = (same-refusal a e, a .unchanged)
       refused-by k (not-marks a) e some = (same-refusal a e, a .unchanged)
       refused-by k (makes made fine) e some = absurd (none-refused made e some)
 
       -- where there is none, the marks are made
-      made-by : Gives-back after n → n .refusal ≡ 0 → Made list X before after n
+      made-by : Gives-back after n → n .refusal ≡ 0 → Made list classes X before after n
       made-by (not-good a) e = absurd (other-number a e (omega arith))
+      made-by (too-few-classes a) e = absurd (other-number a e (omega arith))
       made-by (too-few a) e = absurd (other-number a e (omega arith))
       made-by (not-marks a) e = absurd (other-number a e (omega arith))
       made-by (makes made fine) e = made
 
     -- where the marks are made, the list's tree determines the rest
-    made-unique : {after after' : List ℕ} {n n' : Numbers} → Made list X before after n → Made list X before after' n'
+    made-unique : {after after' : List ℕ} {n n' : Numbers} → Made list classes X before after n → Made list classes X before after' n'
         → (n ≡ n') × (after ≡ after')
     made-unique {after} {after'} {n} {n'} one other =
         let same : other .t ≡ one .t = good-unique list (other .t) (one .t) (other .good) (one .good) in
@@ -200,6 +248,8 @@ module _ (list before : List ℕ) where
         → (n ≡ n') × (after ≡ after')
     answers-unique (not-good a) b =
         both-refused list-not-good (omega arith) (a .refuses) (a .unchanged) b (not-good-exactly b .1 (a .because))
+    answers-unique (too-few-classes a) b =
+        both-refused class-buffer-too-short (omega arith) (a .refuses) (a .unchanged) b (too-few-classes-exactly b .1 (a .because))
     answers-unique (too-few a) b =
         both-refused too-few-words (omega arith) (a .refuses) (a .unchanged) b (too-few-exactly b .1 (a .because))
     answers-unique (not-marks a) b =
@@ -207,90 +257,112 @@ module _ (list before : List ℕ) where
     answers-unique (makes made fine) b = made-unique made (made-by b (taken-exactly b .1 (taken made fine)))
 
 -- what start promises, in these words: nothing is asked of the words lent
-starts-answers : {list before after : List ℕ} {n : Numbers} → Starts list before after n
-    → Gives-back list before (λ t. Started meaning t) (λ t. Unit {0}) after n
+starts-answers : {list classes before after : List ℕ} {n : Numbers} → Starts list classes before after n
+    → Gives-back list classes before (λ t. Started (meaning classes) t) (λ t. Unit {0}) after n
 starts-answers (start-not-good a) = not-good a
-starts-answers (start-too-few a) = too-few a
+starts-answers (start-too-few-classes a) = too-few-classes a
+starts-answers (start-too-few a) =
+    let (t, good, classed, few) = a .because in
+    too-few (record { because = (t, good, (classed, few)); refuses = a .refuses; unchanged = a .unchanged })
 starts-answers (started made) = makes made tt
 
 -- what step promises: the words lent are marks
-steps-answers : {list : List ℕ} {byte : ℕ} {before after : List ℕ} {n : Numbers} → Steps list byte before after n
-    → Gives-back list before (λ t. Stepped meaning t byte (Set-of (cut-up t) before)) (λ t. Marks-of t before) after n
+steps-answers : {list classes : List ℕ} {byte : ℕ} {before after : List ℕ} {n : Numbers}
+    → Steps list classes byte before after n
+    → Gives-back list classes before (λ t. Stepped (meaning classes) t byte (Set-of (cut-up t) before))
+    (λ t. Marks-of t before) after n
 steps-answers (step-not-good a) = not-good a
-steps-answers (step-too-few a) = too-few a
+steps-answers (step-too-few-classes a) = too-few-classes a
+steps-answers (step-too-few a) =
+    let (t, good, classed, few) = a .because in
+    too-few (record { because = (t, good, (classed, few)); refuses = a .refuses; unchanged = a .unchanged })
 steps-answers (step-not-marks a) =
-    let (t, good, enough, bad) = a .because in
-    not-marks (record { because = (t, good, (enough, bad)); refuses = a .refuses; unchanged = a .unchanged })
+    let (t, good, classed, enough, bad) = a .because in
+    not-marks (record { because = (t, good, (classed, enough, bad)); refuses = a .refuses; unchanged = a .unchanged })
 steps-answers (stepped on) = makes (on .made) (on .from-marks)
 
-module _ {list before : List ℕ} where
+module _ {list classes before : List ℕ} where
   -- two results of start that fit its promise are the same, with every word
-  pub starts-unique : {after after' : List ℕ} {n n' : Numbers} → Starts list before after n
-      → Starts list before after' n' → (n ≡ n') × (after ≡ after')
-  starts-unique a b = answers-unique list before _ _ (starts-answers a) (starts-answers b)
+  pub starts-unique : {after after' : List ℕ} {n n' : Numbers} → Starts list classes before after n
+      → Starts list classes before after' n' → (n ≡ n') × (after ≡ after')
+  starts-unique a b = answers-unique list classes before _ _ (starts-answers a) (starts-answers b)
 
-  module _ {after : List ℕ} {n : Numbers} (s : Starts list before after n) where
+  module _ {after : List ℕ} {n : Numbers} (s : Starts list classes before after n) where
     -- start answers 10 exactly when the list is not good
     pub starts-not-good : (n .refusal ≡ list-not-good) ↔ Not-good list
-    starts-not-good = not-good-exactly list before _ _ (starts-answers s)
+    starts-not-good = not-good-exactly list classes before _ _ (starts-answers s)
 
-    -- 12 exactly when it is good and fewer words are lent than there are pieces
-    pub starts-too-few : (n .refusal ≡ too-few-words) ↔ Too-few list before
-    starts-too-few = too-few-exactly list before _ _ (starts-answers s)
+    -- 15 exactly when it is good and some class leaf has no record
+    pub starts-too-few-classes : (n .refusal ≡ class-buffer-too-short) ↔ Too-few-classes list classes
+    starts-too-few-classes = too-few-classes-exactly list classes before _ _ (starts-answers s)
 
-    -- and no refusal exactly when it is good and there are words enough
-    pub starts-taken : (n .refusal ≡ 0) ↔ ((t : Tree Leaf) × Good list t × (piece-count t ≤ length before))
+    -- 12 exactly when it is good, there are class records enough, and fewer words are lent than there are pieces
+    pub starts-too-few : (n .refusal ≡ too-few-words) ↔ Too-few list classes before
+    starts-too-few =
+        Iff·trans (too-few-exactly list classes before _ _ (starts-answers s))
+        (λ (t, good, few). (t, good, few .0, few .1), λ (t, good, classed, few). (t, good, (classed, few)))
+
+    -- and no refusal exactly when it is good and there are class records and words enough
+    pub starts-taken : (n .refusal ≡ 0)
+        ↔ ((t : Tree Leaf) × Good list t × Classed classes t × (piece-count t ≤ length before))
     starts-taken =
-        Iff·trans (taken-exactly list before _ _ (starts-answers s))
-        (λ (t, good, taken). (t, good, taken .0), λ (t, good, enough). (t, good, (enough, tt)))
+        Iff·trans (taken-exactly list classes before _ _ (starts-answers s)) (
+          λ (t, good, taken). (t, good, taken .0, taken .1),
+          λ (t, good, classed, enough). (t, good, (classed, enough, tt)),
+        )
 
-module _ {list : List ℕ} {byte : ℕ} {before : List ℕ} where
+module _ {list classes : List ℕ} {byte : ℕ} {before : List ℕ} where
   -- two results of step that fit its promise are the same, with every word
-  pub steps-unique : {after after' : List ℕ} {n n' : Numbers} → Steps list byte before after n
-      → Steps list byte before after' n' → (n ≡ n') × (after ≡ after')
-  steps-unique a b = answers-unique list before _ _ (steps-answers a) (steps-answers b)
+  pub steps-unique : {after after' : List ℕ} {n n' : Numbers} → Steps list classes byte before after n
+      → Steps list classes byte before after' n' → (n ≡ n') × (after ≡ after')
+  steps-unique a b = answers-unique list classes before _ _ (steps-answers a) (steps-answers b)
 
-  module _ {after : List ℕ} {n : Numbers} (s : Steps list byte before after n) where
+  module _ {after : List ℕ} {n : Numbers} (s : Steps list classes byte before after n) where
     -- step answers 10 exactly when the list is not good
     pub steps-not-good : (n .refusal ≡ list-not-good) ↔ Not-good list
-    steps-not-good = not-good-exactly list before _ _ (steps-answers s)
+    steps-not-good = not-good-exactly list classes before _ _ (steps-answers s)
 
-    -- 12 exactly when it is good and fewer words are lent than there are pieces
-    pub steps-too-few : (n .refusal ≡ too-few-words) ↔ Too-few list before
-    steps-too-few = too-few-exactly list before _ _ (steps-answers s)
+    -- 15 exactly when it is good and some class leaf has no record
+    pub steps-too-few-classes : (n .refusal ≡ class-buffer-too-short) ↔ Too-few-classes list classes
+    steps-too-few-classes = too-few-classes-exactly list classes before _ _ (steps-answers s)
 
-    -- 13 exactly when it is good, there are words enough, and they are no marks of it
-    pub steps-not-marks : (n .refusal ≡ words-not-marks) ↔ Not-marks list before
+    -- 12 exactly when it is good, there are class records enough, and fewer words are lent than there are pieces
+    pub steps-too-few : (n .refusal ≡ too-few-words) ↔ Too-few list classes before
+    steps-too-few =
+        Iff·trans (too-few-exactly list classes before _ _ (steps-answers s))
+        (λ (t, good, few). (t, good, few .0, few .1), λ (t, good, classed, few). (t, good, (classed, few)))
+
+    -- 13 exactly when it is good, there are class records and words enough, and the words are no marks of it
+    pub steps-not-marks : (n .refusal ≡ words-not-marks) ↔ Not-marks list classes before
     steps-not-marks =
-        Iff·trans (not-marks-exactly list before _ _ (steps-answers s))
-        (λ (t, good, bad). (t, good, bad .0, bad .1), λ (t, good, enough, bad). (t, good, (enough, bad)))
+        Iff·trans (not-marks-exactly list classes before _ _ (steps-answers s)) (
+          λ (t, good, bad). (t, good, bad .0, bad .1, bad .2),
+          λ (t, good, classed, enough, bad). (t, good, (classed, enough, bad)),
+        )
 
-    -- and no refusal exactly when it is good, there are words enough, and they are marks of it
+    -- and no refusal exactly when it is good, there are class records and words enough, and the words are marks of it
     pub steps-taken : (n .refusal ≡ 0)
-        ↔ ((t : Tree Leaf) × Good list t × (piece-count t ≤ length before) × Marks-of t before)
+        ↔ ((t : Tree Leaf) × Good list t × Classed classes t × (piece-count t ≤ length before) × Marks-of t before)
     steps-taken =
-        Iff·trans (taken-exactly list before _ _ (steps-answers s))
-        (λ (t, good, taken). (t, good, taken .0, taken .1), λ (t, good, enough, marks). (t, good, (enough, marks)))
+        Iff·trans (taken-exactly list classes before _ _ (steps-answers s)) (
+          λ (t, good, taken). (t, good, taken .0, taken .1, taken .2),
+          λ (t, good, classed, enough, marks). (t, good, (classed, enough, marks)),
+        )
+
+-- the answer that has these numbers
+abbrev answer-by : Numbers → MarksAnswer
+answer-by n =
+    cond (eqb (n .refusal) list-not-good) NotGood
+    (cond (eqb (n .refusal) class-buffer-too-short) TooFewClasses
+    (cond (eqb (n .refusal) too-few-words) TooFewWords (cond (eqb (n .refusal) words-not-marks) NotMarks (Marked (n .accepting)))))
+
+answer-back : (r : MarksAnswer) → answer-by (numbers r) ≡ r
+answer-back (Marked marked) = refl
+answer-back NotGood = refl
+answer-back TooFewClasses = refl
+answer-back TooFewWords = refl
+answer-back NotMarks = refl
 
 -- an answer is known from its numbers
 pub numbers-injective : (r s : MarksAnswer) → numbers r ≡ numbers s → r ≡ s
-numbers-injective r s e = known r s (ap (λ (n : Numbers). n .refusal) e) (ap (λ (n : Numbers). n .accepting) e)
-  where
-    known : (r s : MarksAnswer) → numbers r .refusal ≡ numbers s .refusal → numbers r .accepting ≡ numbers s .accepting
-        → r ≡ s
-    known (Marked yes') (Marked yes'') e f = ap Marked f
-    known (Marked yes') NotGood e f = absurd (omega arith)
-    known (Marked yes') TooFewWords e f = absurd (omega arith)
-    known (Marked yes') NotMarks e f = absurd (omega arith)
-    known NotGood (Marked yes') e f = absurd (omega arith)
-    known NotGood NotGood e f = refl
-    known NotGood TooFewWords e f = absurd (omega arith)
-    known NotGood NotMarks e f = absurd (omega arith)
-    known TooFewWords (Marked yes') e f = absurd (omega arith)
-    known TooFewWords NotGood e f = absurd (omega arith)
-    known TooFewWords TooFewWords e f = refl
-    known TooFewWords NotMarks e f = absurd (omega arith)
-    known NotMarks (Marked yes') e f = absurd (omega arith)
-    known NotMarks NotGood e f = absurd (omega arith)
-    known NotMarks TooFewWords e f = absurd (omega arith)
-    known NotMarks NotMarks e f = refl
+numbers-injective r s e = sym (answer-back r) ∙ ap answer-by e ∙ answer-back s

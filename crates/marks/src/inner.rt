@@ -7,7 +7,7 @@ use crate::sweep::close_twice;
 use tables::plan::plan;
 ghost use Prim.Native.Nat.{ℕ, _≤_, _<_};
 ghost use mathlib.Core.Path.{_≡_};
-ghost use mathlib.Core.List.{_++_};
+ghost use mathlib.Core.List.{List, _++_};
 ghost use lib.ListN.{length, getD, take, drop};
 ghost use Rattle.language.specs.Tree.{Tree};
 ghost use Rattle.tree.specs.Leaf.{Leaf};
@@ -56,7 +56,8 @@ pub fn copy(from: &[u64], count: usize, to: &mut [u64])
     }
 }
 
-// Marks the root's start alone and closes. Answers whether the root's accepting state is now marked.
+// Marks the root's start alone and closes, which is the same by all class records. Answers whether the root's accepting
+// state is now marked.
 pub fn begin(
     reach: &[u64],
     codes: &[u16],
@@ -69,9 +70,9 @@ pub fn begin(
     requires { ⌜ Ready (now reach) (now codes) (now runs) (now stands) (now tops) count ⌝ }
     requires { ⌜ count ≤ length (now words) ⌝ }
     ensures { λ r.
-        ⌜ ((t : Tree Leaf)
+        ⌜ ((classes : List ℕ) (t : Tree Leaf)
         → Prepared t (now (reach .entry)) (now (codes .entry)) (now (runs .entry)) (now (stands .entry))
-        (now (tops .entry)) count → Begun t (now (words .entry)) (now (words .exit)) r) ⌝ }
+        (now (tops .entry)) count → Begun classes t (now (words .entry)) (now (words .exit)) r) ⌝ }
 {
     let mut marks = [0u64; 128];
     marks[0] = 1;
@@ -119,6 +120,7 @@ pub fn advance(
     stands: &[u8],
     tops: &[u8],
     count: usize,
+    classes: &[u8],
     words: &mut [u64],
     byte: u8,
 ) -> bool
@@ -127,9 +129,9 @@ pub fn advance(
         ⌜ ((t : Tree Leaf)
         → Prepared t (now (reach .entry)) (now (codes .entry)) (now (runs .entry)) (now (stands .entry))
         (now (tops .entry)) count → Marks-of t (now (words .entry))
-        → Advanced t byte (now (words .entry)) (now (words .exit)) r) ⌝ }
+        → Advanced (now (classes .entry)) t byte (now (words .entry)) (now (words .exit)) r) ⌝ }
 {
-    move_all(reach, codes, words, byte, count);
+    move_all(reach, codes, classes, words, byte, count);
     let from = marked_from(words, count);
     let to = marked_to(words, count);
     close_twice(reach, runs, stands, tops, count, from, to, words);

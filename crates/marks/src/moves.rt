@@ -1,7 +1,8 @@
-// Moving along a byte: from each marked start of a leaf that is that byte to the leaf's accepting state, and from there
+// Moving along a byte: from each marked start of a leaf that takes that byte to the leaf's accepting state, and from there
 // inside the piece.
 use crate::bits::lowest;
 use crate::bits::with_bit;
+use crate::classes::takes_byte;
 use crate::close::close;
 use tables::LEAVES_ENTRY;
 use tables::ROW_SIZE;
@@ -16,22 +17,20 @@ ghost use Rattle.tables.specs.Plan.{row-size, row, takes, Moves};
 ghost use Rattle.tables.specs.Tables.{Noted};
 ghost use Rattle.marks.specs.Moving.WordsMovedClosed.{Word-after, Moved-closed};
 
-// The word of a piece, moved along the byte: a state that takes it has the code one above it, and leads to the next
-// state. Only leaves are
-// looked at.
-pub fn moved(reach: &[u64], codes: &[u16], piece: usize, word: u64, byte: u8) -> u64
+// The word of a piece, moved along the byte: a state whose code takes it leads to the next state. Only leaves are looked
+// at.
+pub fn moved(reach: &[u64], codes: &[u16], classes: &[u8], piece: usize, word: u64, byte: u8) -> u64
     requires { ⌜ (row-size * piece + row-size ≤ length (now reach)) × (row-size * piece + row-size ≤ length (now codes))
         × Noted (now reach) (now codes) piece ⌝ }
     ensures { λ r. ⌜ ((x : Nested Leaf) → width x ≤ most-states → row (now (codes .entry)) piece (width x) ≡ takes x
-        → word < 2 ^ width x → Moves x byte word r) ⌝ }
+        → word < 2 ^ width x → Moves (now (classes .entry)) x byte word r) ⌝ }
 {
     let base = ROW_SIZE * piece;
-    let code = byte as u16 + 1;
     let mut rest = word & reach[base + LEAVES_ENTRY];
     let mut picked: u64 = 0;
     while rest != 0 {
         let state = lowest(rest);
-        if codes[base + state] == code {
+        if takes_byte(classes, codes[base + state], byte) {
             picked = with_bit(picked, state);
         }
         rest = rest & (rest - 1);
@@ -41,29 +40,43 @@ pub fn moved(reach: &[u64], codes: &[u16], piece: usize, word: u64, byte: u8) ->
 
 // The word of a piece after the byte: moved, and closed in the piece. A word of no marks stays one, and its tables are
 // not looked at.
-fn word_after(reach: &[u64], codes: &[u16], piece: usize, word: u64, byte: u8) -> u64
+fn word_after(
+    reach: &[u64],
+    codes: &[u16],
+    classes: &[u8],
+    piece: usize,
+    word: u64,
+    byte: u8,
+) -> u64
     requires { ⌜ (row-size * piece + row-size ≤ length (now reach)) × (row-size * piece + row-size ≤ length (now codes))
         × Noted (now reach) (now codes) piece ⌝ }
-    ensures { λ r. ⌜ Word-after (now (reach .entry)) (now (codes .entry)) piece word byte r ⌝ }
+    ensures { λ r. ⌜ Word-after (now (reach .entry)) (now (classes .entry)) (now (codes .entry)) piece word byte r ⌝ }
 {
     if word == 0 {
         return 0;
     }
-    let moved = moved(reach, codes, piece, word, byte);
+    let moved = moved(reach, codes, classes, piece, word, byte);
     close(reach, piece, moved)
 }
 
 // Moves the words of all pieces along the byte, and closes each piece in itself.
-pub fn move_all(reach: &[u64], codes: &[u16], words: &mut [u64], byte: u8, pieces: usize)
+pub fn move_all(
+    reach: &[u64],
+    codes: &[u16],
+    classes: &[u8],
+    words: &mut [u64],
+    byte: u8,
+    pieces: usize,
+)
     requires { ⌜ (row-size * pieces ≤ length (now reach)) × (row-size * pieces ≤ length (now codes))
         × (pieces ≤ length (now words)) ⌝ }
     requires { ⌜ ((k : ℕ) → k < pieces → Noted (now reach) (now codes) k) ⌝ }
-    ensures { λ _. ⌜ Moved-closed (now (reach .entry)) (now (codes .entry)) (now (words .entry)) (now (words .exit))
+    ensures { λ _. ⌜ Moved-closed (now (reach .entry)) (now (classes .entry)) (now (codes .entry)) (now (words .entry)) (now (words .exit))
         byte pieces ⌝ }
 {
     let mut piece = 0;
     while piece < pieces {
-        words[piece] = word_after(reach, codes, piece, words[piece], byte);
+        words[piece] = word_after(reach, codes, classes, piece, words[piece], byte);
         piece += 1;
     }
 }

@@ -1,5 +1,6 @@
 // The numbers of an answer, for callers that print or pack them.
 use crate::MarksAnswer;
+use tree::refusal_numbers::CLASS_BUFFER_TOO_SHORT;
 use tree::refusal_numbers::LIST_NOT_GOOD;
 use tree::refusal_numbers::TOO_FEW_WORDS;
 use tree::refusal_numbers::WORDS_NOT_MARKS;
@@ -27,6 +28,7 @@ pub fn numbers_of(answer: MarksAnswer) -> Numbers
             accepting,
         },
         MarksAnswer::NotGood => refusing(LIST_NOT_GOOD),
+        MarksAnswer::TooFewClasses => refusing(CLASS_BUFFER_TOO_SHORT),
         MarksAnswer::TooFewWords => refusing(TOO_FEW_WORDS),
         MarksAnswer::NotMarks => refusing(WORDS_NOT_MARKS),
     }

@@ -9,7 +9,7 @@ ghost use lib.ListN.{length};
 ghost use Rattle.language.specs.Nested.{Nested};
 ghost use Rattle.language.specs.Settled.{Settled};
 ghost use Rattle.tree.specs.Limits.{most-pieces};
-ghost use Rattle.tree.specs.Leaf.{Leaf, meaning};
+ghost use Rattle.tree.specs.Leaf.{Leaf, byteless};
 ghost use Rattle.tables.specs.Plan.{row-size};
 ghost use Rattle.tables.specs.Words.{word-bits, Bit, Holds};
 ghost use Rattle.marks.specs.BitsOfWords.Bits.{Tells};
@@ -119,7 +119,7 @@ pub fn sweep(
     ensures { λ r.
         ⌜ ((x : Nested Leaf)
         → Sweepable (now (reach .entry)) (now (runs .entry)) (now (stands .entry)) (now (tops .entry)) x piece
-        (now (words .entry)) → r ≡ true → Settled meaning x (Holds x (now (words .exit)))) ⌝ }
+        (now (words .entry)) → r ≡ true → Settled byteless x (Holds x (now (words .exit)))) ⌝ }
 {
     words[0] = close_from(reach, piece, words[0], 0);
     let mut settled = true;

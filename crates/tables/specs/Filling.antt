@@ -10,12 +10,12 @@ use borrow.Author.Tests.{eq-eqb, ne-eqb}
 use lib.ListN.{length, getD, set, length-append, length-set}
 use lib.Seq.{getD-set-same, getD-set-other}
 use Rattle.language.specs.Nested.{Nested, leaf, catenation, union, star, below}
-use Rattle.tree.specs.Leaf.{Leaf, character}
+use Rattle.tree.specs.Leaf.{Leaf, character, class}
 use Rattle.tree.specs.Limits.{most-pieces}
 use Rattle.tree.specs.Layout.{catenation-kind, union-kind, star-kind}
 use Rattle.tables.specs.Words.{width, run}
 use Rattle.tables.specs.Plan
-use Rattle.tables.specs.Plan.{row-size, takes}
+use Rattle.tables.specs.Plan.{row-size, leaf-next, start-code, takes}
 use Rattle.tables.specs.Entries.{
   Lies,
   ends,
@@ -138,22 +138,27 @@ plain-no-stand-in : {u : Site} {k : ℕ} → Plain (tree u) → Stand-in u k →
 plain-no-stand-in plain stand-in = plain
 
 -- no stand-in is at or below a leaf
-no-stand-in-at-leaf : {a f p n i : ℕ} {u : Site} {k : ℕ} → In (site (leaf (character a)) f p n i) u → Stand-in u k → ⊥
+no-stand-in-at-leaf : {a : Leaf} {f p n i : ℕ} {u : Site} {k : ℕ} → In (site (leaf a) f p n i) u → Stand-in u k → ⊥
 no-stand-in-at-leaf here m = plain-no-stand-in tt m
 
+-- neither a character nor a class has the empty text
+no-next : (a : Leaf) (i : ℕ) → leaf-next a i ≡ 0
+no-next (character c) i = refl
+no-next (class k) i = refl
+
 -- a leaf's part
-pub fill-leaf : {list : List ℕ} {a f p n i : ℕ} → Fine list (site (leaf (character a)) f p n i) → (t : Tables)
+pub fill-leaf : {list : List ℕ} {a : Leaf} {f p n i : ℕ} → Fine list (site (leaf a) f p n i) → (t : Tables)
     → Tables-room t
-    → Filled (site (leaf (character a)) f p n i) t (two-entries t (row-size * p + i) (a + 1)) (i + 2)
+    → Filled (site (leaf a) f p n i) t (two-entries t (row-size * p + i) (start-code a)) (i + 2)
 fill-leaf {a = a} {p = p} {i = i} h t room =
     let r = room .of-nexts in
     let q = room .of-codes in
     record {
       ended = refl;
-      words = entry (getD-set-same (t .nexts) (row-size * p + i) 0 0 (omega arith)) ends;
+      words = entry (getD-set-same (t .nexts) (row-size * p + i) 0 0 (omega arith) ∙ sym (no-next a i)) ends;
       words-before = λ j low. getD-set-other (t .nexts) (row-size * p + i) j 0 0 (λ e. omega arith);
-      leaves = codes-lie (t .codes) (row-size * p + i) (a + 1) (omega arith);
-      leaves-before = λ j low. codes-before (t .codes) (row-size * p + i) (a + 1) j low;
+      leaves = codes-lie (t .codes) (row-size * p + i) (start-code a) (omega arith);
+      leaves-before = λ j low. codes-before (t .codes) (row-size * p + i) (start-code a) j low;
       placed = λ u k m. absurd (no-stand-in-at-leaf (m .inside) (m .stands-for));
       others = λ k none. record { stand = refl; root = refl };
     }

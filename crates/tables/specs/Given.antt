@@ -1,15 +1,16 @@
 -- A good list is that of a cut tree whose pieces are small, so its tables can be made.
-use Prim.Native.Nat.{ℕ, _+_, _*_, _-_, _/_, _≤_}
-use mathlib.Core.Path.{_≡_, refl, sym, ap, _∙_}
-use mathlib.Core.List.{List, [], append-nil}
+use Prim.Native.Nat.{ℕ, _+_, _*_, _-_, _/_, _≤_, _<_}
+use mathlib.Core.Path.{_≡_, refl, sym, ap, subst, _∙_}
+use mathlib.Core.List.{List, [], _++_, append-nil}
 use native.Mathlib.Omega.{arith}
-use lib.ListN.{length, getD}
+use lib.ListN.{length, getD, length-append, List·getD-append}
+use lib.Seq.{getD-append-add}
 use Rattle.language.specs.Tree.{Tree, nodes}
 use Rattle.language.specs.Nested.{Nested, leaf, catenation, union, star, below, own}
-use Rattle.tree.specs.Leaf.{Leaf}
+use Rattle.tree.specs.Leaf.{Leaf, character, class}
 use Rattle.tree.specs.Limits.{most-pieces, most-records, most-states, slot-count}
 use Rattle.tree.specs.Layout.{record-size}
-use Rattle.tree.specs.Records.{Good, piece-count}
+use Rattle.tree.specs.Records.{Good, Ranked, piece-count, class-numbers, class-count}
 use Rattle.tree.specs.Parts.{Small, Every-below}
 use Rattle.tree.specs.Stored.{stored}
 use Rattle.tree.specs.Judged.{Counts-below}
@@ -17,7 +18,15 @@ use Rattle.tree.specs.Pieces.{cut-up, stated, good-small, good-tells}
 use Rattle.tables.specs.Words.{width, run}
 use Rattle.tables.specs.Plan.{Planned, Each, Nexts}
 use Rattle.tables.specs.Tables.{Roomy}
-use Rattle.tables.specs.Standing.{here, size, size-positive, length-stored, Plain, Sound}
+use Rattle.tables.specs.Standing.{
+  here,
+  size,
+  size-positive,
+  length-stored,
+  Plain,
+  Sound,
+  Low-numbers,
+}
 use Rattle.tables.specs.Filling.{tables}
 use Rattle.tables.specs.Below.{Top, Listed, slot-below}
 use Rattle.tables.specs.Making.{made-none, made-planned, made-nexts, Making, making-at, Total}
@@ -50,6 +59,42 @@ small-sound (union x y) h = (small-sound x (h .0), small-sound y (h .1))
 small-sound (star x) h = small-sound x h
 small-sound (below x) h = (small-plain x (h .0), small-narrow x (h .0), small-sound x (h .1))
 
+-- each node is a class leaf or is not
+few-classes : (t : Tree Leaf) → class-count t ≤ nodes t
+few-classes (Tree.leaf (character c)) = omega arith
+few-classes (Tree.leaf (class k)) = omega arith
+few-classes (Tree.catenation s t) = simp length-append (omega (arith, few-classes s, few-classes t))
+few-classes (Tree.union s t) = simp length-append (omega (arith, few-classes s, few-classes t))
+few-classes (Tree.star s) = omega (arith, few-classes s)
+
+-- all numbers of a list are low
+abbrev All-low : List ℕ → Type 0
+All-low l = (j : ℕ) → j < length l → getD l j 0 < most-records
+
+-- so are those of its parts
+low-first : (l m : List ℕ) → All-low (l ++ m) → All-low l
+low-first l m low j inside =
+    rw (List·getD-append l m 0 j inside) at (low j (simp length-append (omega arith)))
+
+low-second : (l m : List ℕ) → All-low (l ++ m) → All-low m
+low-second l m low j inside =
+    rw (getD-append-add l m j 0) at (low (length l + j) (simp length-append (omega arith)))
+
+-- and those of the leaves of a tree are where those of its class leaves are
+leaves-low : (t : Tree Leaf) → All-low (class-numbers t) → Low-numbers t
+leaves-low (Tree.leaf (character c)) low = tt
+leaves-low (Tree.leaf (class k)) low = low 0 (omega arith)
+leaves-low (Tree.catenation s t) low =
+    (leaves-low s (low-first (class-numbers s) _ low), leaves-low t (low-second (class-numbers s) _ low))
+leaves-low (Tree.union s t) low =
+    (leaves-low s (low-first (class-numbers s) _ low), leaves-low t (low-second (class-numbers s) _ low))
+leaves-low (Tree.star s) low = leaves-low s low
+
+-- class numbers are ranks, and there are at most 1,920 nodes
+low-numbers : {list : List ℕ} {t : Tree Leaf} → Good list t → Low-numbers t
+low-numbers {list} {t} good =
+    leaves-low t (λ j inside. omega (arith, good .ranked .each j inside, few-classes t, good-small list t good))
+
 -- the list of a good list's tree, cut up
 pub good-top : {list : List ℕ} {t : Tree Leaf} → Good list t → Top list (cut-up t)
 good-top {list} {t} good =
@@ -72,6 +117,7 @@ good-top {list} {t} good =
         narrow = omega (arith, small-narrow x (small .0));
         short = omega (arith, ap nodes (told .cut .same-tree), good-small list t good);
         sound = small-sound x (small .1);
+        numbers = subst Low-numbers (sym (told .cut .same-tree)) (low-numbers good);
       };
       plain = small-plain x (small .0);
       all = ap length (told .bytes-stored) ∙ length-stored x 0 0 1;

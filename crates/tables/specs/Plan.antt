@@ -9,7 +9,7 @@ use mathlib.Core.List.{List, [], _∷_, _++_}
 use lib.ListN.{getD, take, drop}
 use Rattle.language.specs.Automaton.{State, Path-of}
 use Rattle.language.specs.Nested.{Nested, leaf, catenation, union, star, below, Own-empty, Own-reads}
-use Rattle.tree.specs.Leaf.{Leaf, character, has-empty, meaning}
+use Rattle.tree.specs.Leaf.{Leaf, character, class, has-empty, meaning, byteless}
 use Rattle.tables.specs.Words.{word-bits, Bit, width, run, Own, number}
 
 -- how many entries a piece has in a table: one for each bit of a word, of which those of its states come first
@@ -39,11 +39,12 @@ nexts (star x) i exit =
     (2 ^ (i + 1) + 2 ^ (i + (1 + width x))) ∷ (nexts x (i + 1) (2 ^ (i + 1) + 2 ^ (i + (1 + width x))) ++ (exit ∷ []))
 nexts (below x) i exit = 0 ∷ exit ∷ []
 
--- the code of a leaf's start: one more than its character
+-- the code of a leaf's start: even and not 0 for a character, odd for a class, so that it gives back its leaf
 abbrev pub start-code : Leaf → ℕ
-start-code (character c) = c + 1
+start-code (character c) = 2 * (c + 1)
+start-code (class k) = 2 * k + 1
 
--- the codes of the states: a leaf's at its start, else 0, which equals no byte's code: a stand-in reads no byte
+-- the codes of the states: a leaf's at its start, else 0, which is no leaf's code: a stand-in reads no byte
 abbrev pub takes : Nested Leaf → List ℕ
 takes (leaf a) = start-code a ∷ 0 ∷ []
 takes (catenation x y) = 0 ∷ (takes x ++ takes y ++ (0 ∷ []))
@@ -93,7 +94,7 @@ Nexts x words = words ≡ nexts x 0 0
 -- reach from it
 pub record Reaches (x : Nested Leaf) (words : List ℕ) : Type 0 where
   pub exactly : (p q : State) → Own x p → Own x q → Bit (getD words (number x p) 0) (number x q)
-      ↔ Path-of (Own-empty meaning x) p q
+      ↔ Path-of (Own-empty byteless x) p q
   pub clean : (i : ℕ) → i < width x → getD words i 0 < 2 ^ width x
 
 -- in a table, the row of each child piece below x is as P says of the piece; the child pieces are numbered from new
@@ -112,11 +113,11 @@ Each P table x = P x (row table 0 (width x)) × Each-below P table x 1
 -- w
 pub record Closes (x : Nested Leaf) (w r : ℕ) : Type 0 where
   pub exactly : (q : State) → Own x q
-      → Bit r (number x q) ↔ ((p : State) × Own x p × Bit w (number x p) × Path-of (Own-empty meaning x) p q)
+      → Bit r (number x q) ↔ ((p : State) × Own x p × Bit w (number x p) × Path-of (Own-empty byteless x) p q)
   pub clean : r < 2 ^ width x
 
 -- r is the word w of x's top piece, moved along the byte b
-pub record Moves (x : Nested Leaf) (b w r : ℕ) : Type 0 where
+pub record Moves (classes : List ℕ) (x : Nested Leaf) (b w r : ℕ) : Type 0 where
   pub exactly : (q : State) → Own x q
-      → Bit r (number x q) ↔ ((p : State) × Own x p × Bit w (number x p) × Own-reads meaning b x p q)
+      → Bit r (number x q) ↔ ((p : State) × Own x p × Bit w (number x p) × Own-reads (meaning classes) b x p q)
   pub clean : r < 2 ^ width x

@@ -6,13 +6,12 @@ use native.Mathlib.Omega.{arith}
 use native.Mathlib.Decide.{decLt}
 use lib.ListN.{length, getD, length-append}
 use lib.Seq.{getD-append-add}
-use Rattle.language.specs.Tree.{nodes}
+use Rattle.language.specs.Tree.{Tree, nodes}
 use Rattle.language.specs.Nested.{Nested, leaf, catenation, union, star, below, whole}
 use Rattle.tree.specs.Leaf.{Leaf}
 use Rattle.tree.specs.Limits.{most-pieces, most-records, most-states}
 use Rattle.tree.specs.Layout.{
   record-size,
-  character-kind,
   catenation-kind,
   union-kind,
   star-kind,
@@ -22,7 +21,7 @@ use Rattle.tree.specs.Layout.{
   Shows,
 }
 use Rattle.tree.specs.Fields.{shows}
-use Rattle.tree.specs.Records.{leaf-kind, leaf-character}
+use Rattle.tree.specs.Records.{leaf-kind, leaf-character, leaf-number}
 use Rattle.tree.specs.Stored.{stored}
 use Rattle.tables.specs.Words.{width, run}
 
@@ -32,7 +31,7 @@ size x = nodes (whole x)
 
 -- the record of x's root
 abbrev pub root-record : Nested Leaf → (first piece new : ℕ) → List ℕ
-root-record (leaf a) f p n = record-of (leaf-kind a) (leaf-character a) no-child no-child p
+root-record (leaf a) f p n = record-of (leaf-kind a) (leaf-character a) (leaf-number a) no-child p
 root-record (catenation x y) f p n = record-of catenation-kind 0 (f + size x - 1) (f + size x + size y - 1) p
 root-record (union x y) f p n = record-of union-kind 0 (f + size x - 1) (f + size x + size y - 1) p
 root-record (star x) f p n = record-of star-kind 0 (f + size x - 1) no-child p
@@ -144,6 +143,14 @@ Sound (union x y) = Sound x × Sound y
 Sound (star x) = Sound x
 Sound (below x) = Plain x × (width x ≤ most-states) × Sound x
 
+-- the number of each class leaf is below 1,920
+abbrev pub Low-numbers : Tree Leaf → Type 0
+Low-numbers (Tree.leaf (Leaf.character c)) = Unit {0}
+Low-numbers (Tree.leaf (Leaf.class k)) = k < most-records
+Low-numbers (Tree.catenation s t) = Low-numbers s × Low-numbers t
+Low-numbers (Tree.union s t) = Low-numbers s × Low-numbers t
+Low-numbers (Tree.star s) = Low-numbers s
+
 -- the records of the site stand in the list
 pub record Written (list : List ℕ) (s : Site) : Type 0 where
   pub before : List ℕ
@@ -159,6 +166,7 @@ pub record Fine (list : List ℕ) (s : Site) : Type 0 where
   pub narrow : number s + width (tree s) ≤ most-states
   pub short : first s + size (tree s) ≤ most-records
   pub sound : Sound (tree s)
+  pub numbers : Low-numbers (whole (tree s))
 
 -- three parts, and what is before and after them
 regroup : (before xs ys zs after : List ℕ) → before ++ ((xs ++ ys ++ zs) ++ after) ≡ before
@@ -226,6 +234,7 @@ child-fine (catenation-left {x = x} {y = y}) h =
           omega arith;
       short = omega arith;
       sound = h .sound .0;
+      numbers = h .numbers .0;
     }
 child-fine (catenation-right {x = x} {y = y}) h =
     record {
@@ -236,6 +245,7 @@ child-fine (catenation-right {x = x} {y = y}) h =
           omega arith;
       short = omega arith;
       sound = h .sound .1;
+      numbers = h .numbers .1;
     }
 child-fine (union-left {x = x} {y = y}) h =
     record {
@@ -245,6 +255,7 @@ child-fine (union-left {x = x} {y = y}) h =
       narrow = omega arith;
       short = omega arith;
       sound = h .sound .0;
+      numbers = h .numbers .0;
     }
 child-fine (union-right {x = x} {y = y}) h =
     record {
@@ -255,6 +266,7 @@ child-fine (union-right {x = x} {y = y}) h =
           omega arith;
       short = omega arith;
       sound = h .sound .1;
+      numbers = h .numbers .1;
     }
 child-fine (operand {x = x}) h =
     record {
@@ -264,6 +276,7 @@ child-fine (operand {x = x}) h =
       narrow = omega arith;
       short = omega arith;
       sound = h .sound;
+      numbers = h .numbers;
     }
 child-fine (under {x = x}) h =
     record {
@@ -274,6 +287,7 @@ child-fine (under {x = x}) h =
           omega (arith, h .sound .1);
       short = omega arith;
       sound = h .sound .2;
+      numbers = h .numbers;
     }
 
 -- and so is all that lies below it
@@ -298,9 +312,12 @@ root-shows {list} {s = site x f p n i} w r kind character left right own at e sm
 
 module _ {list : List ℕ} {f p n i : ℕ} where
   -- what the record of a node shows, by the node's kind
-  pub leaf-shows : {a : ℕ} → Fine list (site (leaf (Leaf.character a)) f p n i) → (r : ℕ) → r + 1 ≡ f + 1
-      → Shows list r character-kind a no-child no-child p
-  leaf-shows h r at = root-shows (h .written) r _ _ _ _ _ at refl (omega arith) (omega arith) (omega arith)
+  pub leaf-shows : (a : Leaf) → Fine list (site (leaf a) f p n i) → (r : ℕ) → r + 1 ≡ f + 1
+      → Shows list r (leaf-kind a) (leaf-character a) (leaf-number a) no-child p
+  leaf-shows (Leaf.character c) h r at =
+      root-shows (h .written) r _ _ _ _ _ at refl (omega arith) (omega arith) (omega arith)
+  leaf-shows (Leaf.class k) h r at =
+      root-shows (h .written) r _ _ _ _ _ at refl (omega (arith, h .numbers)) (omega arith) (omega arith)
 
   pub catenation-shows : {x y : Nested Leaf} → Fine list (site (catenation x y) f p n i) → (r : ℕ)
       → r + 1 ≡ f + size (catenation x y) → Shows list r catenation-kind 0 (f + size x - 1) (f + size x + size y - 1) p
@@ -317,7 +334,7 @@ module _ {list : List ℕ} {f p n i : ℕ} where
 -- the piece that a node's record shows is the node's
 pub piece-shows : {list : List ℕ} {f p n i : ℕ} (x : Nested Leaf) → Plain x → Fine list (site x f p n i) → (r : ℕ)
     → r + 1 ≡ f + size x → piece-at list r ≡ p
-piece-shows (leaf (Leaf.character a)) plain h r at = leaf-shows h r at .piece-is
+piece-shows (leaf a) plain h r at = leaf-shows a h r at .piece-is
 piece-shows (catenation x y) plain h r at = catenation-shows h r at .piece-is
 piece-shows (union x y) plain h r at = union-shows h r at .piece-is
 piece-shows (star x) plain h r at = star-shows h r at .piece-is

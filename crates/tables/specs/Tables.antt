@@ -42,11 +42,12 @@ pub record Ready (reach codes runs stands tops : List ℕ) (count : ℕ) : Type 
   pub of-tree : (t : Tree Leaf) × Prepared t reach codes runs stands tops count
 
 -- the words hold the marks of the plain simulation after the text w, and no bit past a last state
-pub record Holding (t : Tree Leaf) (w words : List ℕ) : Type 0 where
-  pub modelled : Models (cut-up t) (Holds (cut-up t) words) (After meaning t w (Started meaning t))
+pub record Holding (classes : List ℕ) (t : Tree Leaf) (w words : List ℕ) : Type 0 where
+  pub modelled : Models (cut-up t) (Holds (cut-up t) words)
+      (After (meaning classes) t w (Started (meaning classes) t))
   pub clean : Clean (cut-up t) words
 
 -- the words hold the marks after the text w, and `yes` says whether w is in the language
-pub record Answered (t : Tree Leaf) (w words : List ℕ) (yes : Bool) : Type 0 where
-  pub holding : Holding t w words
-  pub answer : (yes ≡ true) ↔ Matches t w
+pub record Answered (classes : List ℕ) (t : Tree Leaf) (w words : List ℕ) (yes : Bool) : Type 0 where
+  pub holding : Holding classes t w words
+  pub answer : (yes ≡ true) ↔ Matches classes t w

@@ -1,15 +1,18 @@
 -- What the walk of a piece finds at a record, and what it has filled when it leaves it.
 use Prim.Native.Nat.{ℕ, _+_, _*_, _-_, _≤_, _<_}
 use mathlib.Core.Path.{_≡_, sym, ap, subst, _∙_}
+use mathlib.Core.Bool.{cond}
 use mathlib.Core.List.{List}
 use native.Mathlib.Omega.{arith}
 use lib.ListN.{length, getD, set}
+use lib.Dec.{eqb}
 use Rattle.language.specs.Nested.{Nested, leaf, catenation, union, star, below}
-use Rattle.tree.specs.Leaf.{Leaf, character}
+use Rattle.tree.specs.Leaf.{Leaf, character, class}
 use Rattle.tree.specs.Limits.{most-pieces, most-records, most-states}
 use Rattle.tree.specs.Layout.{
   record-size,
   character-kind,
+  class-kind,
   star-kind,
   kind-at,
   character-at,
@@ -17,7 +20,7 @@ use Rattle.tree.specs.Layout.{
   right-at,
   piece-at,
 }
-use Rattle.tables.specs.Plan.{row-size}
+use Rattle.tables.specs.Plan.{row-size, start-code}
 use Rattle.tables.specs.Entries.{wide, thrice}
 use Rattle.tables.specs.Standing.{
   size,
@@ -44,6 +47,8 @@ use Rattle.tables.specs.Filling.{
   Tables,
   tables,
   tables-same,
+  cond-equal,
+  cond-different,
   Tables-room,
   Filled,
   two-entries,
@@ -97,8 +102,7 @@ below-differs h node e same = omega (arith, below-shows h node e, h .later)
 pub visit-stand : {list : List ℕ} {node piece at : ℕ} {s : Site} → Sits list node piece at s
     → (piece-at list node ≡ piece → ⊥) → (t : Tables) → Tables-room t
     → Filled s t (stand-entries t (row-size * piece + at) (piece-at list node) at node) (at + 2)
-visit-stand (sits {x = leaf (character a)} h e) other t room =
-    absurd (other (piece-shows (leaf (character a)) tt h _ e))
+visit-stand (sits {x = leaf a} h e) other t room = absurd (other (piece-shows (leaf a) tt h _ e))
 visit-stand (sits {x = catenation x y} h e) other t room = absurd (other (piece-shows (catenation x y) tt h _ e))
 visit-stand (sits {x = union x y} h e) other t room = absurd (other (piece-shows (union x y) tt h _ e))
 visit-stand (sits {x = star x} h e) other t room = absurd (other (piece-shows (star x) tt h _ e))
@@ -110,28 +114,100 @@ visit-stand {list} {node} {piece} {at} (sits {x = below x} {f = f} {n = n} h e) 
 -- the piece that a record shows is one of 128
 pub stand-few : {list : List ℕ} {node piece at : ℕ} {s : Site} → Sits list node piece at s
     → piece-at list node < most-pieces
-stand-few (sits {x = leaf (character a)} h e) =
-    omega (arith, piece-shows (leaf (character a)) tt h _ e, h .later, h .few)
+stand-few (sits {x = leaf a} h e) = omega (arith, piece-shows (leaf a) tt h _ e, h .later, h .few)
 stand-few (sits {x = catenation x y} h e) = omega (arith, piece-shows (catenation x y) tt h _ e, h .later, h .few)
 stand-few (sits {x = union x y} h e) = omega (arith, piece-shows (union x y) tt h _ e, h .later, h .few)
 stand-few (sits {x = star x} h e) = omega (arith, piece-shows (star x) tt h _ e, h .later, h .few)
 stand-few {node = node} (sits {x = below x} h e) = omega (arith, below-shows h node e, h .few)
 
--- where it shows a character, the site is a leaf
+-- the code that a record shows: that of its leaf, or 0 where it is not a leaf's
+abbrev pub code-at : List ℕ → (node : ℕ) → ℕ
+code-at list node = cond (eqb (kind-at list node) character-kind) (2 * (character-at list node + 1))
+    (cond (eqb (kind-at list node) class-kind) (2 * left-at list node + 1) 0)
+
+-- the record is in the list, its kind is known, and the number of a class is low
+pub record Code-readable (list : List ℕ) (node kind : ℕ) : Type 0 where
+  pub listed : record-size * node + record-size ≤ length list
+  pub of-kind : kind ≡ kind-at list node
+  pub low : kind ≡ class-kind → left-at list node < most-records
+
+-- a character's code
+character-code : (list : List ℕ) (node : ℕ) → kind-at list node ≡ character-kind
+    → code-at list node ≡ 2 * (character-at list node + 1)
+character-code list node e = cond-equal (kind-at list node) character-kind _ _ e
+
+-- a class's
+class-code : (list : List ℕ) (node : ℕ) → kind-at list node ≡ class-kind
+    → code-at list node ≡ 2 * left-at list node + 1
+class-code list node e =
+    cond-different (kind-at list node) character-kind _ _ (λ f. omega arith)
+    ∙ cond-equal (kind-at list node) class-kind _ _ e
+
+-- a record of another kind has none
+no-code : (list : List ℕ) (node : ℕ) → (kind-at list node ≡ character-kind → ⊥) → (kind-at list node ≡ class-kind → ⊥)
+    → code-at list node ≡ 0
+no-code list node other other' =
+    cond-different (kind-at list node) character-kind _ _ other ∙ cond-different (kind-at list node) class-kind _ _ other'
+
+-- so it is by the kind that was read
+module _ {list : List ℕ} {node kind : ℕ} (readable : Code-readable list node kind) where
+  pub code-of-character : kind ≡ character-kind → code-at list node ≡ 2 * (character-at list node + 1)
+  code-of-character e = character-code list node (sym (readable .of-kind) ∙ e)
+
+  pub code-of-class : kind ≡ class-kind → code-at list node ≡ 2 * left-at list node + 1
+  code-of-class e = class-code list node (sym (readable .of-kind) ∙ e)
+
+  pub code-of-none : (kind ≡ character-kind → ⊥) → (kind ≡ class-kind → ⊥) → code-at list node ≡ 0
+  code-of-none other other' =
+      no-code list node (λ e. other (readable .of-kind ∙ e)) (λ e. other' (readable .of-kind ∙ e))
+
+-- the code that a leaf's record shows is its own
+leaf-code : {list : List ℕ} {f p n i : ℕ} (a : Leaf) → Fine list (site (leaf a) f p n i) → (r : ℕ) → r + 1 ≡ f + 1
+    → code-at list r ≡ start-code a
+leaf-code {list} (character c) h r e =
+    let shown = leaf-shows (character c) h r e in
+    character-code list r (shown .kind-is) ∙ ap (λ (d : ℕ). 2 * (d + 1)) (shown .character-is)
+leaf-code {list} (class k) h r e =
+    let shown = leaf-shows (class k) h r e in
+    class-code list r (shown .kind-is) ∙ ap (λ (d : ℕ). 2 * d + 1) (shown .left-is)
+
+-- and is not 0
+coded : (a : Leaf) → start-code a ≡ 0 → ⊥
+coded (character c) e = omega arith
+coded (class k) e = omega arith
+
+-- the record of a node with children shows 0
+inner-code : (list : List ℕ) (node kind : ℕ) → kind-at list node ≡ kind → (kind ≡ character-kind → ⊥)
+    → (kind ≡ class-kind → ⊥) → code-at list node ≡ 0
+inner-code list node kind e other other' = no-code list node (λ f. other (sym e ∙ f)) (λ f. other' (sym e ∙ f))
+
+-- where it shows a code, the site is a leaf
 pub visit-leaf : {list : List ℕ} {node piece at : ℕ} {s : Site} → Sits list node piece at s
-    → piece-at list node ≡ piece → kind-at list node ≡ character-kind → (t : Tables) → Tables-room t
-    → Filled s t (two-entries t (row-size * piece + at) (character-at list node + 1)) (at + 2)
-visit-leaf {list} {node} {piece} {at} (sits {x = leaf (character a)} {f = f} {n = n} h e) own kind t room =
-    subst (λ (b : ℕ). Filled (site (leaf (character a)) f piece n at) t (two-entries t (row-size * piece + at) (b + 1))
-    (at + 2))
-    (sym (leaf-shows h node e .character-is)) (fill-leaf h t room)
-visit-leaf {node = node} (sits {x = catenation x y} h e) own kind t room =
+    → piece-at list node ≡ piece → (code-at list node ≡ 0 → ⊥) → (t : Tables) → Tables-room t
+    → Filled s t (two-entries t (row-size * piece + at) (code-at list node)) (at + 2)
+visit-leaf {list} {node} {piece} {at} (sits {x = leaf a} {f = f} {n = n} h e) own code t room =
+    subst (λ (b : ℕ). Filled (site (leaf a) f piece n at) t (two-entries t (row-size * piece + at) b) (at + 2))
+    (sym (leaf-code a h node e)) (fill-leaf h t room)
+visit-leaf {list} {node} (sits {x = catenation x y} h e) own code t room =
+    absurd (code (inner-code list node _ (catenation-shows h node e .kind-is) (λ f. omega arith) (λ f. omega arith)))
+visit-leaf {list} {node} (sits {x = union x y} h e) own code t room =
+    absurd (code (inner-code list node _ (union-shows h node e .kind-is) (λ f. omega arith) (λ f. omega arith)))
+visit-leaf {list} {node} (sits {x = star x} h e) own code t room =
+    absurd (code (inner-code list node _ (star-shows h node e .kind-is) (λ f. omega arith) (λ f. omega arith)))
+visit-leaf {node = node} (sits {x = below x} h e) own code t room = absurd (below-differs h node e own)
+
+-- the number of a class is low, so that its code can be read
+pub visit-class : {list : List ℕ} {node piece at : ℕ} {s : Site} → Sits list node piece at s
+    → piece-at list node ≡ piece → kind-at list node ≡ class-kind → left-at list node < most-records
+visit-class {node = node} (sits {x = leaf (character c)} h e) own kind =
+    absurd (omega (arith, leaf-shows (character c) h node e .kind-is))
+visit-class {node = node} (sits {x = leaf (class k)} h e) own kind =
+    omega (arith, leaf-shows (class k) h node e .left-is, h .numbers)
+visit-class {node = node} (sits {x = catenation x y} h e) own kind =
     absurd (omega (arith, catenation-shows h node e .kind-is))
-visit-leaf {node = node} (sits {x = union x y} h e) own kind t room =
-    absurd (omega (arith, union-shows h node e .kind-is))
-visit-leaf {node = node} (sits {x = star x} h e) own kind t room =
-    absurd (omega (arith, star-shows h node e .kind-is))
-visit-leaf {node = node} (sits {x = below x} h e) own kind t room = absurd (below-differs h node e own)
+visit-class {node = node} (sits {x = union x y} h e) own kind = absurd (omega (arith, union-shows h node e .kind-is))
+visit-class {node = node} (sits {x = star x} h e) own kind = absurd (omega (arith, star-shows h node e .kind-is))
+visit-class {node = node} (sits {x = below x} h e) own kind = absurd (below-differs h node e own)
 
 -- the left or only child's site
 pub record Kid (list : List ℕ) (node child piece at : ℕ) : Type 0 where
@@ -149,18 +225,18 @@ left-kid {x = x} h e low = record {
       omega (arith, size-positive x);
 }
 
--- where the record shows no character, there is a left or only child
+-- where the record shows no code, there is a left or only child
 pub visit-left : {list : List ℕ} {node piece at : ℕ} {s : Site} → Sits list node piece at s
-    → piece-at list node ≡ piece → (kind-at list node ≡ character-kind → ⊥)
+    → piece-at list node ≡ piece → code-at list node ≡ 0
     → Kid list node (left-at list node) piece (at + 1)
-visit-left {node = node} (sits {x = leaf (character a)} h e) own kind = absurd (kind (leaf-shows h node e .kind-is))
-visit-left {node = node} (sits {x = catenation x y} h e) own kind =
+visit-left {node = node} (sits {x = leaf a} h e) own code = absurd (coded a (sym (leaf-code a h node e) ∙ code))
+visit-left {node = node} (sits {x = catenation x y} h e) own code =
     left-kid (child-fine catenation-left h) (catenation-shows h node e .left-is) (omega arith)
-visit-left {node = node} (sits {x = union x y} h e) own kind =
+visit-left {node = node} (sits {x = union x y} h e) own code =
     left-kid (child-fine union-left h) (union-shows h node e .left-is) (omega arith)
-visit-left {node = node} (sits {x = star x} h e) own kind =
+visit-left {node = node} (sits {x = star x} h e) own code =
     left-kid (child-fine operand h) (star-shows h node e .left-is) (omega arith)
-visit-left {node = node} (sits {x = below x} h e) own kind = absurd (below-differs h node e own)
+visit-left {node = node} (sits {x = below x} h e) own code = absurd (below-differs h node e own)
 
 -- what a child's visit has filled, whatever site sits there
 abbrev pub Visited : (list : List ℕ) (child piece at : ℕ) → (t after : Tables) → ℕ → Type 0
@@ -176,8 +252,8 @@ pub visit-star : {list : List ℕ} {node piece at : ℕ} {s : Site} → Sits lis
     → piece-at list node ≡ piece → kind-at list node ≡ star-kind → (t after : Tables) → Tables-room after → (last : ℕ)
     → Visited list (left-at list node) piece (at + 1) t after last
     → Filled s t (joined after (row-size * piece) (kind-at list node) at last last) (last + 1)
-visit-star {node = node} (sits {x = leaf (character a)} h e) own kind t after room last done =
-    absurd (omega (arith, leaf-shows h node e .kind-is))
+visit-star {list} {node} (sits {x = leaf a} h e) own kind t after room last done =
+    absurd (coded a (sym (leaf-code a h node e) ∙ inner-code list node _ kind (λ f. omega arith) (λ f. omega arith)))
 visit-star {node = node} (sits {x = catenation x y} h e) own kind t after room last done =
     absurd (omega (arith, catenation-shows h node e .kind-is))
 visit-star {node = node} (sits {x = union x y} h e) own kind t after room last done =
@@ -194,24 +270,24 @@ right-kid : {list : List ℕ} {x : Nested Leaf} {f p n i node child at : ℕ} �
 right-kid {list} {p = p} {node = node} {child = child} h e low same =
     subst (λ (k : ℕ). Kid list node child p k) same (left-kid h e low)
 
--- where it shows neither a character nor a star, there is a right child, whose part begins where the left one ended
+-- where it shows no code and no star, there is a right child, whose part begins where the left one ended
 pub visit-right : {list : List ℕ} {node piece at : ℕ} {s : Site} → Sits list node piece at s
-    → piece-at list node ≡ piece → (kind-at list node ≡ character-kind → ⊥) → (kind-at list node ≡ star-kind → ⊥)
+    → piece-at list node ≡ piece → code-at list node ≡ 0 → (kind-at list node ≡ star-kind → ⊥)
     → (t mid : Tables) → (middle : ℕ) → Visited list (left-at list node) piece (at + 1) t mid middle
     → Kid list node (right-at list node) piece middle
-visit-right {node = node} (sits {x = leaf (character a)} h e) own kind other t mid middle done =
-    absurd (kind (leaf-shows h node e .kind-is))
-visit-right {list} {node} (sits {x = catenation x y} h e) own kind other t mid middle done =
+visit-right {node = node} (sits {x = leaf a} h e) own code other t mid middle done =
+    absurd (coded a (sym (leaf-code a h node e) ∙ code))
+visit-right {list} {node} (sits {x = catenation x y} h e) own code other t mid middle done =
     let a = done _
     (kid-sits (left-at list node) (child-fine catenation-left h) (catenation-shows h node e .left-is)) in
     right-kid (child-fine catenation-right h) (catenation-shows h node e .right-is) (omega arith)
     (omega (arith, a .ended))
-visit-right {list} {node} (sits {x = union x y} h e) own kind other t mid middle done =
+visit-right {list} {node} (sits {x = union x y} h e) own code other t mid middle done =
     let a = done _ (kid-sits (left-at list node) (child-fine union-left h) (union-shows h node e .left-is)) in
     right-kid (child-fine union-right h) (union-shows h node e .right-is) (omega arith) (omega (arith, a .ended))
-visit-right {node = node} (sits {x = star x} h e) own kind other t mid middle done =
+visit-right {node = node} (sits {x = star x} h e) own code other t mid middle done =
     absurd (other (star-shows h node e .kind-is))
-visit-right {node = node} (sits {x = below x} h e) own kind other t mid middle done =
+visit-right {node = node} (sits {x = below x} h e) own code other t mid middle done =
     absurd (below-differs h node e own)
 
 -- both children have been visited
@@ -234,28 +310,28 @@ right-sits : {list : List ℕ} {x : Nested Leaf} {f p n i : ℕ} (child : ℕ) �
 right-sits {list} {x} {f} {p} {n} {i} child h e k same =
     subst (λ (m : ℕ). Sits list child p m (site x f p n i)) same (kid-sits child h e)
 
--- where it shows neither a character nor a star, the site is a node with two children
+-- where it shows no code and no star, the site is a node with two children
 pub visit-two : {list : List ℕ} {node piece at : ℕ} {s : Site} → Sits list node piece at s → piece-at list node ≡ piece
-    → (kind-at list node ≡ character-kind → ⊥) → (kind-at list node ≡ star-kind → ⊥)
+    → code-at list node ≡ 0 → (kind-at list node ≡ star-kind → ⊥)
     → (t mid after : Tables) → Tables-room after → (middle last : ℕ)
     → Visited list (left-at list node) piece (at + 1) t mid middle
     → Visited list (right-at list node) piece middle mid after last
     → Filled s t (joined after (row-size * piece) (kind-at list node) at middle last) (last + 1)
-visit-two {node = node} (sits {x = leaf (character a)} h e) own kind other t mid after room middle last done-l done-r =
-    absurd (kind (leaf-shows h node e .kind-is))
-visit-two {list} {node} (sits {x = catenation x y} h e) own kind other t mid after room middle last done-l done-r =
+visit-two {node = node} (sits {x = leaf a} h e) own code other t mid after room middle last done-l done-r =
+    absurd (coded a (sym (leaf-code a h node e) ∙ code))
+visit-two {list} {node} (sits {x = catenation x y} h e) own code other t mid after room middle last done-l done-r =
     let shown = catenation-shows h node e in
     two-visited catenation-joint h (sits h e) t mid after room middle last
     (kid-sits (left-at list node) (child-fine catenation-left h) (shown .left-is)) done-l
     (right-sits (right-at list node) (child-fine catenation-right h) (shown .right-is)) done-r (shown .kind-is)
-visit-two {list} {node} (sits {x = union x y} h e) own kind other t mid after room middle last done-l done-r =
+visit-two {list} {node} (sits {x = union x y} h e) own code other t mid after room middle last done-l done-r =
     let shown = union-shows h node e in
     two-visited union-joint h (sits h e) t mid after room middle last
     (kid-sits (left-at list node) (child-fine union-left h) (shown .left-is)) done-l
     (right-sits (right-at list node) (child-fine union-right h) (shown .right-is)) done-r (shown .kind-is)
-visit-two {node = node} (sits {x = star x} h e) own kind other t mid after room middle last done-l done-r =
+visit-two {node = node} (sits {x = star x} h e) own code other t mid after room middle last done-l done-r =
     absurd (other (star-shows h node e .kind-is))
-visit-two {node = node} (sits {x = below x} h e) own kind other t mid after room middle last done-l done-r =
+visit-two {node = node} (sits {x = below x} h e) own code other t mid after room middle last done-l done-r =
     absurd (below-differs h node e own)
 
 -- a part that was filled ends within the row
@@ -322,21 +398,33 @@ module _ {list : List ℕ} {node piece own kind : ℕ} (met : Of-piece list node
   met-other : (k : ℕ) → (kind ≡ k → ⊥) → kind-at list node ≡ k → ⊥
   met-other k other e = other (met .of-kind ∙ e)
 
+  -- the kind is enough for the code to be read
+  pub code-readable : {at : ℕ} {s : Site} → Sits list node piece at s → Code-readable list node kind
+  code-readable here = record {
+    listed = bounds here .listed;
+    of-kind = met .of-kind;
+    low = λ e. visit-class here met-own (met-kind class-kind e);
+  }
+
+module _ {list : List ℕ} {node piece own kind code : ℕ} (met : Of-piece list node piece own kind)
+    (code-is : code ≡ code-at list node) where
   -- a leaf's record was visited
   pub visited-leaf : {at end : ℕ} {nexts codes words leaves stands roots : List ℕ}
-      → Tables-room (tables nexts codes stands roots) → kind ≡ character-kind → end ≡ at + 2
+      → Tables-room (tables nexts codes stands roots) → (code ≡ 0 → ⊥) → end ≡ at + 2
       → words ≡ set nexts (row-size * piece + at) 0
-      → leaves ≡ set (set codes (row-size * piece + at) (character-at list node + 1)) (row-size * piece + at + 1) 0
+      → leaves ≡ set (set codes (row-size * piece + at) code) (row-size * piece + at + 1) 0
       → Visited list node piece at (tables nexts codes stands roots) (tables words leaves stands roots) end
-  visited-leaf room e g f h s here = filled-as (visit-leaf here met-own (met-kind character-kind e) _ room)
-      (tables-same _ _ f h) g
+  visited-leaf {at} {codes = codes} room some g f h s here =
+      filled-as (visit-leaf here (met-own met) (λ none. some (code-is ∙ none)) _ room)
+      (tables-same _ _ f
+      (h ∙ ap (λ (c : ℕ). set (set codes (row-size * piece + at) c) (row-size * piece + at + 1) 0) code-is)) g
 
   -- the children's records
-  module _ {left : ℕ} (left-is : left ≡ left-at list node) (inner : kind ≡ character-kind → ⊥) {at : ℕ} {t : Tables}
+  module _ {left : ℕ} (left-is : left ≡ left-at list node) (inner : code ≡ 0) {at : ℕ} {t : Tables}
       (ready : Visitable list node piece at t) where
     first-kid : Kid list node left piece (at + 1)
     first-kid = subst (λ (k : ℕ). Kid list node k piece (at + 1)) (sym left-is)
-        (visit-left (ready .sitting) met-own (met-other character-kind inner))
+        (visit-left (ready .sitting) (met-own met) (sym code-is ∙ inner))
 
     -- the left or only child can be visited
     pub left-ready : (left < node) × Visitable list left piece (at + 1) t
@@ -359,15 +447,15 @@ module _ {list : List ℕ} {node piece own kind : ℕ} (met : Of-piece list node
             arith,
             past-left,
             filled-ends (ready .sitting)
-                (visit-star (ready .sitting) met-own (met-kind star-kind e) t mid room middle done-left),
+                (visit-star (ready .sitting) (met-own met) (met-kind met star-kind e) t mid room middle done-left),
             bounds (ready .sitting),
           )
 
       second-kid : {right : ℕ} → right ≡ right-at list node → (kind ≡ star-kind → ⊥) → Kid list node right piece middle
       second-kid right-is other =
           subst (λ (k : ℕ). Kid list node k piece middle) (sym right-is)
-          (visit-right (ready .sitting) met-own (met-other character-kind inner)
-          (met-other star-kind other) t mid middle done-left)
+          (visit-right (ready .sitting) (met-own met) (sym code-is ∙ inner)
+          (met-other met star-kind other) t mid middle done-left)
 
       -- the right child can be visited
       pub right-ready : {right : ℕ} → right ≡ right-at list node → (kind ≡ star-kind → ⊥)
@@ -392,8 +480,8 @@ module _ {list : List ℕ} {node piece own kind : ℕ} (met : Of-piece list node
             past-left,
             filled-ends (kid .sitting) (done-right _ (kid .sitting)),
             filled-ends (ready .sitting)
-                (visit-two (ready .sitting) met-own (met-other character-kind inner)
-                (met-other star-kind other) t mid after full middle last
+                (visit-two (ready .sitting) (met-own met) (sym code-is ∙ inner)
+                (met-other met star-kind other) t mid after full middle last
                 done-left moved),
             bounds (ready .sitting),
           )
@@ -418,7 +506,7 @@ module _ {list : List ℕ} {node piece own kind : ℕ} (met : Of-piece list node
           → leaves ≡ set (set (mid .codes) (row-size * piece + at) 0) (row-size * piece + middle) 0
           → Visited list node piece at t (tables words leaves (mid .stands) (mid .roots)) end
       visited-star e g f h s here = filled-as
-          (visit-star here met-own (met-kind star-kind e) t mid room middle done-left)
+          (visit-star here (met-own met) (met-kind met star-kind e) t mid room middle done-left)
           (joined-as middle mid f h) g
 
       -- the record of a node with two children was visited
@@ -433,6 +521,6 @@ module _ {list : List ℕ} {node piece own kind : ℕ} (met : Of-piece list node
           let moved : Visited list (right-at list node) piece middle mid after last =
           subst (λ (k : ℕ). Visited list k piece middle mid after last) right-is done-right in
           filled-as
-          (visit-two here met-own (met-other character-kind inner)
-          (met-other star-kind other) t mid after full middle last
+          (visit-two here (met-own met) (sym code-is ∙ inner)
+          (met-other met star-kind other) t mid after full middle last
           done-left moved) (joined-as last after f h) g

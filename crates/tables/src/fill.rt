@@ -3,6 +3,7 @@
 use crate::ROW_SIZE;
 use tree::layout::CATENATION;
 use tree::layout::CHARACTER;
+use tree::layout::CLASS;
 use tree::layout::STAR;
 use tree::layout::character_at;
 use tree::layout::kind_at;
@@ -13,12 +14,11 @@ ghost use mathlib.Core.Path.{_≡_};
 ghost use Prim.Native.Nat.{_+_, _*_, _-_, _<_, _≤_, _^_};
 ghost use lib.ListN.{length, set};
 ghost use Rattle.tree.specs.Limits.{most-pieces, most-records, most-states};
-ghost use Rattle.tree.specs.Layout.{character-at};
 ghost use Rattle.tables.specs.Words.{word-bits};
 ghost use Rattle.tables.specs.Plan.{leaves-entry, row-size};
 ghost use Rattle.tables.specs.Entries.{thrice};
 ghost use Rattle.tables.specs.Filling.{start-word, left-exit, right-exit, tables, Tables-room, stand-entries};
-ghost use Rattle.tables.specs.Walking.{Piece-bounds, Wide, Visited, Visitable};
+ghost use Rattle.tables.specs.Walking.{code-at, Code-readable, Wide, Visited, Visitable};
 
 // The word with bit i alone.
 fn bit(i: usize) -> u64
@@ -83,36 +83,45 @@ fn pair(nexts: &mut [u64], codes: &mut [u16], at: usize, code: u16)
     codes[at + 1] = 0;
 }
 
-// The code of a character: one more than its byte.
-fn code(character: u8) -> u16
-    ensures { λ r. ⌜ r ≡ character + 1 ⌝ }
+// The code of a character: even, and not 0.
+fn character_code(character: u8) -> u16
+    ensures { λ r. ⌜ r ≡ 2 * (character + 1) ⌝ }
 {
-    character as u16 + 1
+    2 * (character as u16 + 1)
 }
 
-// The entries of a leaf at the number `at`. Gives the number after its last state's.
-fn leaf(
-    list: &[u8],
-    node: usize,
-    piece: usize,
-    at: usize,
-    nexts: &mut [u64],
-    codes: &mut [u16],
-) -> usize
-    requires { ⌜ Piece-bounds (now list) node piece at ⌝ }
+// The code of a class by its number: odd.
+fn class_code(number: usize) -> u16
+    requires { ⌜ number < most-records ⌝ }
+    ensures { λ r. ⌜ r ≡ 2 * number + 1 ⌝ }
+{
+    (2 * number + 1) as u16
+}
+
+// The code of a record's leaf, or 0 where the record is not a leaf's.
+fn code_at(list: &[u8], node: usize, kind: u8) -> u16
+    requires { ⌜ Code-readable (now list) node kind ⌝ }
+    ensures { λ r. ⌜ r ≡ code-at (now (list .entry)) node ⌝ }
+{
+    if kind == CHARACTER {
+        return character_code(character_at(list, node));
+    }
+    if kind == CLASS {
+        return class_code(left_at(list, node));
+    }
+    0
+}
+
+// The entries of a leaf of this code at the number `at`. Gives the number after its last state's.
+fn leaf(code: u16, piece: usize, at: usize, nexts: &mut [u64], codes: &mut [u16]) -> usize
+    requires { ⌜ (piece < most-pieces) × (at + 2 ≤ most-states) ⌝ }
     requires { ⌜ Wide (now nexts) (now codes) ⌝ }
     ensures { λ r. ⌜ r ≡ at + 2 ⌝ }
     ensures { λ _. ⌜ now (nexts .exit) ≡ set (now (nexts .entry)) (row-size * piece + at) 0 ⌝ }
     ensures { λ _. ⌜ now (codes .exit)
-        ≡ set (set (now (codes .entry)) (row-size * piece + at) (character-at (now (list .entry)) node + 1))
-        (row-size * piece + at + 1) 0 ⌝ }
+        ≡ set (set (now (codes .entry)) (row-size * piece + at) code) (row-size * piece + at + 1) 0 ⌝ }
 {
-    pair(
-        nexts,
-        codes,
-        ROW_SIZE * piece + at,
-        code(character_at(list, node)),
-    );
+    pair(nexts, codes, ROW_SIZE * piece + at, code);
     at + 2
 }
 
@@ -195,8 +204,9 @@ pub fn fill(
         return stand(own, node, piece, at, nexts, codes, stands, roots);
     }
     let kind = kind_at(list, node);
-    if kind == CHARACTER {
-        return leaf(list, node, piece, at, nexts, codes);
+    let code = code_at(list, node, kind);
+    if code != 0 {
+        return leaf(code, piece, at, nexts, codes);
     }
     let left = left_at(list, node);
     let middle = fill(list, left, piece, at + 1, nexts, codes, stands, roots);

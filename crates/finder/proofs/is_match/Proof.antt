@@ -1,8 +1,12 @@
 -- `finder::is_match` meets its contract: each answer is that of the list's tree.
-use native.Mathlib.Omega.{arith}
 use mathlib.Core.Path.{refl}
-use Rattle.finder.specs.Promise.{not-good, too-long, match-refused, match-answered}
-use Rattle.marks.proofs.Told.{told-good, told-not-good}
+use native.Mathlib.Omega.{arith}
+use Rattle.language.specs.Tree.{Tree}
+use Rattle.tree.specs.Leaf.{Leaf}
+use Rattle.tree.specs.Records.{Good}
+use Rattle.marks.specs.Promise.{Classed}
+use Rattle.finder.specs.Promise.{not-good, too-few-classes, too-long, match-refused, match-answered}
+use Rattle.marks.proofs.Told.{told-good, told-classed, told-too-few-classes, told-not-good}
 use Rattle.finder.proofs.Told.{told-part, told-nothing}
 use borrow.Author.Needs.{needs}
 use Rattle.finder.proofs.is_match.Statement.{statement}
@@ -11,6 +15,18 @@ use Rattle.finder.proofs.is_match.Tie as tie
 -- where the list was decided on
 abbrev decision : tie.After-known-told → tie.After-decide-with
 decision c = c .before .before .before .before
+
+-- where the call began
+abbrev entry : tie.After-decide-with → tie.Start
+entry c = c .before .before .before .before .before
+
+-- there are class records enough
+classed : (c : tie.Else1) (t : Tree Leaf) → Good (entry (decision (c .before)) .args .list .now) t
+    → Classed (entry (decision (c .before)) .args .classes .now) t
+classed c =
+    let of-list = decision (c .before) in
+    told-classed (entry of-list .args .classes .now) (c .before .before .decided .given .1)
+    (of-list .decide-with .ensures .0) (omega (arith, c .if1 .left))
 
 slice-aggregate-decide-with : tie.Need-slice-aggregate-decide-with
 slice-aggregate-decide-with c = search needs
@@ -31,17 +47,31 @@ returns c =
 
 returns-2 : tie.Need-returns-2
 returns-2 c =
-    let of-list = decision (c .before) .decide-with in
-    let known = told-good (c .before .before .decided .given .1) (of-list .ensures) (of-list .kept .1 .0) in
-    match-refused (too-long (record { t = known .some; good = known .good; long = omega (arith, c .if1 .taken) }))
+    let of-list = decision (c .before) in
+    match-refused (too-few-classes (told-too-few-classes (entry of-list .args .classes .now)
+    (c .before .before .decided .given .1) (of-list .decide-with .ensures .0) (omega (arith, c .if1 .taken))))
+
+returns-3 : tie.Need-returns-3
+returns-3 c =
+    let told = c .before .before in
+    let of-list = decision told .decide-with in
+    let known = told-good (told .before .decided .given .1) (of-list .ensures) (of-list .kept .1 .0) in
+    match-refused
+    (too-long (record {
+      t = known .some;
+      good = known .good;
+      classed = classed (c .before) (known .some) (known .good);
+      long = omega (arith, c .if2 .taken);
+    }))
 
 slice-aggregate-find-good : tie.Need-slice-aggregate-find-good
 slice-aggregate-find-good c = search needs
 
 find-good-requires : tie.Need-find-good-requires
 find-good-requires c κs =
-    let of-list = decision (c .before .before) .decide-with in
-    told-good (c .before .before .before .decided .given .1) (of-list .ensures) (of-list .kept .1 .0)
+    let told = c .before .before .before in
+    let of-list = decision told .decide-with in
+    told-good (told .before .decided .given .1) (of-list .ensures) (of-list .kept .1 .0)
 
 enum-told-2 : tie.Need-enum-told-2
 enum-told-2 c = search needs
@@ -49,31 +79,35 @@ enum-told-2 c = search needs
 enum-told-3 : tie.Need-enum-told-3
 enum-told-3 c = search needs
 
-returns-3 : tie.Need-returns-3
-returns-3 c =
+returns-4 : tie.Need-returns-4
+returns-4 c =
     let answered = c .before .before in
     let short = answered .before .before in
-    let of-list = decision (short .before) .decide-with in
-    let known = told-good (short .before .before .decided .given .1) (of-list .ensures) (of-list .kept .1 .0) in
+    let told = short .before .before in
+    let of-list = decision told .decide-with in
+    let known = told-good (told .before .decided .given .1) (of-list .ensures) (of-list .kept .1 .0) in
     match-answered (record {
       t = known .some;
       good = known .good;
-      short = omega (arith, short .if1 .left);
+      classed = classed (short .before) (known .some) (known .good);
+      short = omega (arith, short .if2 .left);
       holds =
           rw (told-part _ (c .before .match2 .keys1)) at
           (answered .find-good .ensures .0 refl (known .some) (known .good));
     })
 
-returns-4 : tie.Need-returns-4
-returns-4 c =
+returns-5 : tie.Need-returns-5
+returns-5 c =
     let answered = c .before .before in
     let short = answered .before .before in
-    let of-list = decision (short .before) .decide-with in
-    let known = told-good (short .before .before .decided .given .1) (of-list .ensures) (of-list .kept .1 .0) in
+    let told = short .before .before in
+    let of-list = decision told .decide-with in
+    let known = told-good (told .before .decided .given .1) (of-list .ensures) (of-list .kept .1 .0) in
     match-answered (record {
       t = known .some;
       good = known .good;
-      short = omega (arith, short .if1 .left);
+      classed = classed (short .before) (known .some) (known .good);
+      short = omega (arith, short .if2 .left);
       holds =
           rw (told-nothing (answered .find-good .result) (c .before .match2 .keys2)) at
           (answered .find-good .ensures .0 refl (known .some) (known .good));
@@ -89,9 +123,10 @@ is-match-spec =
     enum-told
     returns
     returns-2
+    returns-3
     slice-aggregate-find-good
     find-good-requires
     enum-told-2
     enum-told-3
-    returns-3
-    returns-4)
+    returns-4
+    returns-5)

@@ -30,7 +30,7 @@ abbrev tables-made : tie.After-tops2 → tie.After-prepare
 tables-made c = c .before .before .before .before .before
 
 abbrev entry : tie.After-prepare → tie.Start
-entry c = c .before .before .before .before .before .before .before .before .before
+entry c = c .before .before .before .before .before .before .before .before .before .before
 
 -- there are words enough: before the marks are looked at, before the step, and before the start
 abbrev enough-to-look : tie.After-agreeing-arg → tie.Else1
@@ -67,10 +67,11 @@ prepare-requires c κs = search needs
 returns : tie.Need-returns
 returns c =
     let made = tables-made (c .before) in
-    let known = entry made .pre in
+    let known = entry made .pre .0 in
     let prepared = made .prepare .ensures .1 (known .some) (known .good) in
-    let few : Too-few (entry made .args .list .now) (entry made .args .words .now) =
-    (known .some, known .good, omega (arith, prepared .counted, c .if1 .taken)) in (
+    let classed = entry made .pre .1 (known .some) (known .good) in
+    let few : Too-few (entry made .args .list .now) (entry made .args .classes .now) (entry made .args .words .now) =
+    (known .some, known .good, classed, omega (arith, prepared .counted, c .if1 .taken)) in (
       λ starting. start-too-few (record { because = few; refuses = refl; unchanged = refl }),
       λ stepping. step-too-few (record { because = few; refuses = refl; unchanged = refl }),
     )
@@ -88,7 +89,7 @@ agreeing-requires : tie.Need-agreeing-requires
 agreeing-requires c κs =
     let enough = enough-to-look c in
     let made = tables-made (enough .before) in
-    let known = entry made .pre in
+    let known = entry made .pre .0 in
     prepared-checkable (made .prepare .ensures .1 (known .some) (known .good)) (made .prepare .ensures .0)
     (omega (arith, enough .if1 .left))
 
@@ -99,7 +100,7 @@ returns-2 : tie.Need-returns-2
 returns-2 c =
     let enough = enough-to-look (c .before .before) in
     let made = tables-made (enough .before) in
-    let known = entry made .pre in
+    let known = entry made .pre .0 in
     let prepared = made .prepare .ensures .1 (known .some) (known .good) in
     let told = prepared-told prepared (entry made .args .words .now) (c .before .agreeing .ensures) in (
       λ starting. not-both (c .before .before .before .before .before .before .if2 .taken) starting,
@@ -107,6 +108,7 @@ returns-2 c =
         because = (
           known .some,
           known .good,
+          entry made .pre .1 (known .some) (known .good),
           omega (arith, prepared .counted, enough .if1 .left),
           λ marks. told .fails (not-true _ (c .if3 .taken)) (marks .clean, marks .agreeing),
         );
@@ -135,7 +137,7 @@ advance-requires c κs =
     let looked = looked-at c in
     let enough = enough-to-look (looked .before .before) in
     let made = tables-made (enough .before) in
-    let known = entry made .pre in
+    let known = entry made .pre .0 in
     let prepared = made .prepare .ensures .1 (known .some) (known .good) in
     let both = prepared-told prepared (entry made .args .words .now) (looked .before .agreeing .ensures) in
     record {
@@ -153,7 +155,7 @@ returns-3 c =
     let looked = looked-at (advanced .before) in
     let enough = enough-to-look (looked .before .before) in
     let made = tables-made (enough .before) in
-    let known = entry made .pre in
+    let known = entry made .pre .0 in
     let prepared = made .prepare .ensures .1 (known .some) (known .good) in
     let told = prepared-told prepared (entry made .args .words .now) (looked .before .agreeing .ensures) in
     let both = told .holds (not-false _ (looked .if3 .left)) in
@@ -165,6 +167,7 @@ returns-3 c =
         made = record {
           t = known .some;
           good = known .good;
+          classed = entry made .pre .1 (known .some) (known .good);
           enough = omega (arith, prepared .counted, enough .if1 .left);
           hold = on .hold;
           marks = refl;
@@ -193,7 +196,7 @@ begin-requires : tie.Need-begin-requires
 begin-requires c κs =
     let enough = enough-to-start c in
     let made = tables-made (enough .before) in
-    let known = entry made .pre in (
+    let known = entry made .pre .0 in (
       record {
         roomy = made .prepare .ensures .0;
         of-tree = (known .some, made .prepare .ensures .1 (known .some) (known .good));
@@ -209,12 +212,13 @@ returns-4 c =
     let begun = c .before .before in
     let enough = enough-to-start (begun .before) in
     let made = tables-made (enough .before) in
-    let known = entry made .pre in
+    let known = entry made .pre .0 in
     let prepared = made .prepare .ensures .1 (known .some) (known .good) in
-    let marked = begun .begin .ensures (known .some) prepared in (
+    let marked = begun .begin .ensures (entry made .args .classes .now) (known .some) prepared in (
       λ starting. started (record {
         t = known .some;
         good = known .good;
+        classed = entry made .pre .1 (known .some) (known .good);
         enough = omega (arith, prepared .counted, enough .if1 .left);
         hold = marked .hold;
         marks = refl;

@@ -8,7 +8,7 @@ use lib.ListN.{getD}
 use Rattle.language.specs.Automaton.{State, Path-of, here}
 use Rattle.language.specs.Nested.{Nested, Own-empty}
 use Rattle.tree.specs.Limits.{most-states}
-use Rattle.tree.specs.Leaf.{Leaf, meaning}
+use Rattle.tree.specs.Leaf.{Leaf, byteless}
 use Rattle.tables.specs.Words.{Bit, width, Own, number}
 use Rattle.tables.specs.Plan.{row-size, row, Reaches, Closes}
 use Rattle.marks.specs.BitsOfWords.Bits.{bit-or, bit-below, below-of-bits}
@@ -87,7 +87,7 @@ passed-nearly {x} {s} {w} other from own-s closes = record {
       (λ c. let same : p ≡ s = number-injective x p s o own-s (c .0) in
       inr (
         subst (λ (i : ℕ). Bit (passed other from w (number x s)) i) (ap (number x) same) b,
-        subst (λ (t : State). Path-of (Own-empty meaning x) t q) same way,
+        subst (λ (t : State). Path-of (Own-empty byteless x) t q) same way,
       ))
       (bit-passed other from w (number x s) (number x p) .0 b);
 }

@@ -15,7 +15,7 @@ use Rattle.language.specs.Simulation.{along}
 use Rattle.language.specs.Settled.{Settled, settled-own}
 use Rattle.language.specs.Same.{More-in}
 use Rattle.tree.specs.Limits.{most-states}
-use Rattle.tree.specs.Leaf.{Leaf, meaning}
+use Rattle.tree.specs.Leaf.{Leaf, byteless}
 use Rattle.tables.specs.Words.{Bit, width, run, Own, number, Marked, Holds, Clean-below, Clean}
 use Rattle.tables.specs.Plan.{row, Reaches, Each-below, Each, Closes}
 use Rattle.marks.specs.BitsOfWords.Bits.{bit-below}
@@ -110,16 +110,16 @@ own-marked x w i ws q o = subst (λ (s : Spot). Marked x w i ws q ↔ Lit s w i 
     (marked-lit x w i ws q (own-has x q o))
 
 -- in each settled set that has the marks of a piece, its states that are marked after the closing lie
-own-within : (x : Nested Leaf) (w w′ : ℕ) (ws : List ℕ) (Z : States) → Settled meaning x Z → Piece-closed x w w′
+own-within : (x : Nested Leaf) (w w′ : ℕ) (ws : List ℕ) (Z : States) → Settled byteless x Z → Piece-closed x w w′
     → More-in (Has x) (Marked x w 0 ws) Z
     → (q : State) → Own x q → Bit w′ (0 + number x q) → Z q
 own-within x w w′ ws Z settled closed marked q o b =
     let (p, o′, c, way) = closed .closes .exactly q o .0 (bit-at w′ (zero-add (number x q)) .0 b) in
-    along (settled-own meaning x Z settled) p q way
+    along (settled-own byteless x Z settled) p q way
     (marked p (own-has x p o′) (own-marked x w 0 ws p o′ .1 (bit-at w (zero-add (number x p)) .1 c)))
 
 -- so do those of every piece
-marked-within : (x : Nested Leaf) (i w w′ : ℕ) (ws ws′ : List ℕ) (Z : States) → Settled meaning x Z
+marked-within : (x : Nested Leaf) (i w w′ : ℕ) (ws ws′ : List ℕ) (Z : States) → Settled byteless x Z
     → ((q : State) → Own x q → Bit w′ (i + number x q) → Z q)
     → More-in (Has x) (Marked x w i ws) Z → Below-closed x ws ws′ → More-in (Has x) (Marked x w′ i ws′) Z
 marked-within x i w w′ ws ws′ Z settled own marked u start h m = own start tt (own-marked x w′ i ws′ start tt .0 m)
@@ -223,7 +223,7 @@ module _ {reach before after : List ℕ} {n : ℕ} (closed : Closed-words reach 
         children
 
     -- the marks stay within each settled set that had them
-    pub closed-within : (Z : States) → Settled meaning x Z → More-in (Has x) (Holds x before) Z
+    pub closed-within : (Z : States) → Settled byteless x Z → More-in (Has x) (Holds x before) Z
         → More-in (Has x) (Holds x after) Z
     closed-within Z settled within =
         marked-within x 0 (getD before 0 0) (getD after 0 0) (drop 1 before) (drop 1 after) Z settled

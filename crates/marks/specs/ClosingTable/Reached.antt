@@ -10,7 +10,7 @@ use lib.ListN.{length, getD, set, length-set}
 use lib.Seq.{getD-set-same, getD-set-other}
 use Rattle.language.specs.Automaton.{State, Path-of, here, step}
 use Rattle.language.specs.Nested.{Nested, Own-empty}
-use Rattle.tree.specs.Leaf.{Leaf, meaning}
+use Rattle.tree.specs.Leaf.{Leaf, byteless}
 use Rattle.tables.specs.Words.{Bit, width, Own, number}
 use Rattle.tables.specs.Plan.{row-size, row, nexts, Nexts, Reaches}
 use Rattle.marks.specs.BitsOfWords.Bits.{bit-or, below-of-bits}
@@ -28,12 +28,12 @@ onward (step e s) t = step e (onward s t)
 module _ (x : Nested Leaf) where
   -- the state numbered j is the one numbered i, or a transition leads there
   pub Direct : ℕ → ℕ → Type 0
-  Direct i j = (i ≡ j) ⊎ ((p : State) × (q : State) × (number x p ≡ i) × (number x q ≡ j) × Own-empty meaning x p q)
+  Direct i j = (i ≡ j) ⊎ ((p : State) × (q : State) × (number x p ≡ i) × (number x q ≡ j) × Own-empty byteless x p q)
 
   -- a path leads from the state numbered i to the one numbered j
   pub Reached : ℕ → ℕ → Type 0
   Reached i j = (p : State) × (q : State) × Own x p × Own x q × (number x p ≡ i) × (number x q ≡ j)
-      × Path-of (Own-empty meaning x) p q
+      × Path-of (Own-empty byteless x) p q
 
   -- what is reached from what is reached is reached
   reached-on : (i j k : ℕ) → Reached i j → Reached j k → Reached i k
@@ -46,7 +46,7 @@ module _ (x : Nested Leaf) where
     a .4,
     b .5,
     onward (a .6)
-        (subst (λ (r : State). Path-of (Own-empty meaning x) r (b .1))
+        (subst (λ (r : State). Path-of (Own-empty byteless x) r (b .1))
         (number-injective x (b .0) (a .1) (b .2) (a .3) (b .4 ∙ sym (a .5))) (b .6)),
   )
 
@@ -83,7 +83,7 @@ module _ (x : Nested Leaf) where
     exactly = λ p q o o′. (
       λ b. let r = partly .inside (number x p) (number x q) (omega arith) (number-below x p o)
           (subst (λ (v : ℕ). Bit v (number x q)) (at p o) b) in
-          subst₂ (λ (s t : State). Path-of (Own-empty meaning x) s t)
+          subst₂ (λ (s t : State). Path-of (Own-empty byteless x) s t)
           (number-injective x (r .0) p (r .2) o (r .4)) (number-injective x (r .1) q (r .3) o′ (r .5)) (r .6),
       λ r. subst (λ (v : ℕ). Bit v (number x q)) (sym (at p o)) (path-bit r o),
     );
@@ -96,7 +96,7 @@ module _ (x : Nested Leaf) where
           ≡ getD table (row-size * piece + number x p) 0
       at p o = row-at table piece (width x) (number x p) (number-below x p o)
 
-      path-bit : {p q : State} → Path-of (Own-empty meaning x) p q → Own x p
+      path-bit : {p q : State} → Path-of (Own-empty byteless x) p q → Own x p
           → Bit (getD table (row-size * piece + number x p) 0) (number x q)
       path-bit (here {p = p}) o = partly .direct (number x p) (number x p) (omega arith) (number-below x p o) (inl refl)
       path-bit (step {p = p} {q = q} {r = r} e t) o =

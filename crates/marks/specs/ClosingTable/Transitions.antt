@@ -12,7 +12,7 @@ use lib.Pow.{pow-lt}
 use lib.ListN.{length, getD}
 use Rattle.language.specs.Automaton.{State, start, accepting, left, right, Empty}
 use Rattle.language.specs.Nested.{Nested, leaf, catenation, union, star, below, Own-empty}
-use Rattle.tree.specs.Leaf.{Leaf, meaning, has-empty}
+use Rattle.tree.specs.Leaf.{Leaf, byteless, has-empty}
 use Rattle.tables.specs.Words.{Bit, width, Own, number}
 use Rattle.tables.specs.Plan.{nexts}
 use Rattle.tables.specs.Entries.{length-nexts}
@@ -67,7 +67,7 @@ module _ (s e : ℕ) (x : Nested Leaf) (i m : ℕ) where
 
 -- a transition out of a state of x, or, where that is the accepting state, a bit of the word that it has around x
 abbrev Out : Nested Leaf → ℕ → ℕ → State → ℕ → Type 0
-Out x i exit p j = ((q : State) × Own x q × (i + number x q ≡ j) × Own-empty meaning x p q)
+Out x i exit p j = ((q : State) × Own x q × (i + number x q ≡ j) × Own-empty byteless x p q)
     ⊎ ((p ≡ accepting) × Bit exit j)
 
 -- equal words have the same bits
@@ -91,7 +91,7 @@ out (catenation x y) i exit (left p) o j b =
       right start,
       tt,
       omega (arith, bit-power _ j .0 (g .1)),
-      subst (λ (r : State). Own-empty meaning (catenation x y) (left r) (right start))
+      subst (λ (r : State). Own-empty byteless (catenation x y) (left r) (right start))
           (sym (g .0)) Empty.catenation-over,
     ))
     (out x (i + 1) (2 ^ (i + (1 + width x))) p o j (same-bit j (left-word _ exit x y _ _ _ _ p o) b))
@@ -102,7 +102,7 @@ out (catenation x y) i exit (right p) o j b =
       accepting,
       tt,
       omega (arith, bit-power _ j .0 (g .1)),
-      subst (λ (r : State). Own-empty meaning (catenation x y) (right r) accepting) (sym (g .0)) Empty.catenation-out,
+      subst (λ (r : State). Own-empty byteless (catenation x y) (right r) accepting) (sym (g .0)) Empty.catenation-out,
     ))
     (out y (i + (1 + width x)) (2 ^ (i + (1 + width x + width y))) p o j
     (same-bit j (right-word _ exit x y _ _ _ _ p o) b))
@@ -119,7 +119,7 @@ out (union x y) i exit (left p) o j b =
       accepting,
       tt,
       omega (arith, bit-power _ j .0 (g .1)),
-      subst (λ (r : State). Own-empty meaning (union x y) (left r) accepting) (sym (g .0)) Empty.union-out-left,
+      subst (λ (r : State). Own-empty byteless (union x y) (left r) accepting) (sym (g .0)) Empty.union-out-left,
     ))
     (out x (i + 1) (2 ^ (i + (1 + width x + width y))) p o j (same-bit j (left-word _ exit x y _ _ _ _ p o) b))
 out (union x y) i exit (right p) o j b =
@@ -129,7 +129,7 @@ out (union x y) i exit (right p) o j b =
       accepting,
       tt,
       omega (arith, bit-power _ j .0 (g .1)),
-      subst (λ (r : State). Own-empty meaning (union x y) (right r) accepting) (sym (g .0)) Empty.union-out-right,
+      subst (λ (r : State). Own-empty byteless (union x y) (right r) accepting) (sym (g .0)) Empty.union-out-right,
     ))
     (out y (i + (1 + width x)) (2 ^ (i + (1 + width x + width y))) p o j
     (same-bit j (right-word _ exit x y _ _ _ _ p o) b))
@@ -147,13 +147,13 @@ out (star x) i exit (left p) o j b =
       left start,
       tt,
       omega (arith, e),
-      subst (λ (r : State). Own-empty meaning (star x) (left r) (left start)) (sym (g .0)) Empty.star-back,
+      subst (λ (r : State). Own-empty byteless (star x) (left r) (left start)) (sym (g .0)) Empty.star-back,
     ))
     (λ e. inl (
       accepting,
       tt,
       omega (arith, e),
-      subst (λ (r : State). Own-empty meaning (star x) (left r) accepting) (sym (g .0)) Empty.star-out,
+      subst (λ (r : State). Own-empty byteless (star x) (left r) accepting) (sym (g .0)) Empty.star-out,
     ))
     (two-bits (i + 1) (i + (1 + width x)) j (omega (arith, width-two x)) .0 (g .1)))
     (out x (i + 1) (2 ^ (i + 1) + 2 ^ (i + (1 + width x))) p o j (same-bit j (inside-word _ exit x _ _ p o) b))
@@ -169,7 +169,7 @@ exit-word (star x) i exit = last-word _ exit x _ _
 exit-word (below x) i exit = refl
 
 -- each transition is a bit
-bit : (x : Nested Leaf) (i exit : ℕ) {p q : State} → Own-empty meaning x p q → Own x p → Own x q → (j : ℕ)
+bit : (x : Nested Leaf) (i exit : ℕ) {p q : State} → Own-empty byteless x p q → Own x p → Own x q → (j : ℕ)
     → i + number x q ≡ j
     → Bit (getD (nexts x i exit) (number x p) 0) j
 bit (leaf a) i exit (Empty.leaf-past has) o o′ j h = if-bit (has-empty a) (i + 1) j .1 (has, omega arith)
@@ -213,7 +213,7 @@ bit (star x) i exit (Empty.star-inside {p = p} e) o o′ j h =
 bit (below x) i exit (Empty.leaf-past has) o o′ j h = absurd has
 
 -- the ends of a transition are states of the piece
-pub transition-own : (x : Nested Leaf) {p q : State} → Own-empty meaning x p q → Own x p × Own x q
+pub transition-own : (x : Nested Leaf) {p q : State} → Own-empty byteless x p q → Own x p × Own x q
 transition-own (leaf a) (Empty.leaf-past has) = (tt, tt)
 transition-own (catenation x y) Empty.catenation-in = (tt, tt)
 transition-own (catenation x y) Empty.catenation-over = (tt, tt)
@@ -235,7 +235,7 @@ transition-own (below x) (Empty.leaf-past has) = absurd has
 
 -- bit j of the word of p is set exactly for a transition from p to the state numbered j
 pub nexts-bits : (x : Nested Leaf) (p : State) → Own x p → (j : ℕ)
-    → Bit (getD (nexts x 0 0) (number x p) 0) j ↔ ((q : State) × Own x q × (number x q ≡ j) × Own-empty meaning x p q)
+    → Bit (getD (nexts x 0 0) (number x p) 0) j ↔ ((q : State) × Own x q × (number x q ≡ j) × Own-empty byteless x p q)
 nexts-bits x p o j = (
   λ b. ⊎-elim (λ g. (g .0, g .1, omega (arith, g .2), g .3)) (λ g. absurd (bit-zero j (g .1))) (out x 0 0 p o j b),
   λ g. bit x 0 0 (g .3) o (g .1) j (omega (arith, g .2)),

@@ -1,4 +1,4 @@
--- Moving the word of one piece along a byte: the bits of the states with the byte's code, each one place up.
+-- Moving the word of one piece along a byte: the bits of the states whose codes take the byte, each one place up.
 use Prim.Native.Nat.{ℕ, zero, suc, _+_, _-_, _*_, _/_, _%_, _^_, _≤_, _<_}
 use mathlib.Core.Path.{_≡_, refl, sym, ap, _∙_, subst, subst₂}
 use mathlib.Core.Logic.{inl, inr, _↔_, ⊎-elim}
@@ -20,24 +20,24 @@ use Rattle.marks.specs.BitsOfWords.Bits.{bit-zero, bit-and, bit-with, bi
 use Rattle.marks.specs.BitsOfWords.LowestBit.{Lowest}
 use Rattle.marks.specs.BitsOfWords.Numbers.{number-below, number-onto, number-injective}
 use Rattle.marks.specs.ClosingTable.Rows.{row-at}
-use Rattle.marks.specs.Moving.Codes.{reads-on, reads-from}
+use Rattle.marks.specs.Moving.Codes.{Code-takes, no-leaf-takes, reads-on, reads-from}
 
--- of the bits of w that are no longer in rest, those whose states have the code are the bits of r
-pub record Picked (codes : List ℕ) (base code w rest r : ℕ) : Type 0 where
+-- of the bits of w that are no longer in rest, those whose states have a code that takes the byte are the bits of r
+pub record Picked (classes codes : List ℕ) (base byte w rest r : ℕ) : Type 0 where
   pub among : (i : ℕ) → Bit rest i → Bit w i
-  pub exactly : (j : ℕ) → Bit r j ↔ (Bit w j × (Bit rest j → ⊥) × (getD codes (base + j) 0 ≡ code))
+  pub exactly : (j : ℕ) → Bit r j ↔ (Bit w j × (Bit rest j → ⊥) × Code-takes classes (getD codes (base + j) 0) byte)
 
 -- at first none are picked
-pub picked-none : (codes : List ℕ) (base code w : ℕ) → Picked codes base code w w 0
-picked-none codes base code w =
+pub picked-none : (classes codes : List ℕ) (base byte w : ℕ) → Picked classes codes base byte w w 0
+picked-none classes codes base byte w =
     record { among = λ i b. b; exactly = λ j. (λ b. absurd (bit-zero j b), λ (b, gone, _). absurd (gone b)) }
 
-module _ {codes : List ℕ} {base code w rest r s : ℕ} (so-far : Picked codes base code w rest r)
+module _ {classes codes : List ℕ} {base byte w rest r s : ℕ} (so-far : Picked classes codes base byte w rest r)
     (lowest : Lowest rest s) where
-  -- the lowest bit that is left is picked where its state has the code
-  pub picked-more : {rest′ r′ : ℕ} → getD codes (base + s) 0 ≡ code → r′ ≡ bitOr r (2 ^ s)
-      → rest′ ≡ bitAnd rest (rest - 1) → Picked codes base code w rest′ r′
-  picked-more has picks takes = subst₂ (λ (m v : ℕ). Picked codes base code w m v) (sym takes) (sym picks) record {
+  -- the lowest bit that is left is picked where the code of its state takes the byte
+  pub picked-more : {rest′ r′ : ℕ} → Code-takes classes (getD codes (base + s) 0) byte → r′ ≡ bitOr r (2 ^ s)
+      → rest′ ≡ bitAnd rest (rest - 1) → Picked classes codes base byte w rest′ r′
+  picked-more has picks takes = subst₂ (λ (m v : ℕ). Picked classes codes base byte w m v) (sym takes) (sym picks) record {
     among = λ i b. so-far .among i (lowest .left i .0 b .0);
     exactly = λ j. (
       λ c. ⊎-elim
@@ -45,7 +45,7 @@ module _ {codes : List ℕ} {base code w rest r s : ℕ} (so-far : Picked codes 
           (λ e. (
             subst (λ (i : ℕ). Bit w i) (sym e) (so-far .among s (lowest .is-set)),
             λ l. lowest .left j .0 l .1 e,
-            ap (λ (i : ℕ). getD codes (base + i) 0) e ∙ has,
+            subst (λ (i : ℕ). Code-takes classes (getD codes (base + i) 0) byte) (sym e) has,
           ))
           (bit-with r s j .0 c),
       λ (b, gone, at). bit-with r s j .1 (elim (ℕ-discrete j s) [
@@ -55,33 +55,33 @@ module _ {codes : List ℕ} {base code w rest r s : ℕ} (so-far : Picked codes 
     );
   }
 
-  -- and is not where it has another
-  pub picked-same : {rest′ r′ : ℕ} → (getD codes (base + s) 0 ≡ code → ⊥) → r′ ≡ r → rest′ ≡ bitAnd rest (rest - 1)
-      → Picked codes base code w rest′ r′
-  picked-same lacks keeps takes = subst₂ (λ (m v : ℕ). Picked codes base code w m v) (sym takes) (sym keeps) record {
+  -- and is not where it does not
+  pub picked-same : {rest′ r′ : ℕ} → (Code-takes classes (getD codes (base + s) 0) byte → ⊥) → r′ ≡ r → rest′ ≡ bitAnd rest (rest - 1)
+      → Picked classes codes base byte w rest′ r′
+  picked-same lacks keeps takes = subst₂ (λ (m v : ℕ). Picked classes codes base byte w m v) (sym takes) (sym keeps) record {
     among = λ i b. so-far .among i (lowest .left i .0 b .0);
     exactly = λ j. (
       λ c. let (b, gone, at) = so-far .exactly j .0 c in (b, λ l. gone (lowest .left j .0 l .0), at),
       λ (b, gone, at). elim (ℕ-discrete j s) [
-        | yes e ↦ absurd (lacks (ap (λ (i : ℕ). getD codes (base + i) 0) (sym e) ∙ at))
+        | yes e ↦ absurd (lacks (subst (λ (i : ℕ). Code-takes classes (getD codes (base + i) 0) byte) e at))
         | no other ↦ so-far .exactly j .1 (b, λ l. gone (lowest .left j .1 (l, other)), at)
       ],
     );
   }
 
--- where the picked ones are those among the leaves, they are those of the whole word: a state with the code of a byte
--- is a leaf
-picked-leaves : (reach codes : List ℕ) (k b w : ℕ) {rest r : ℕ} → Noted reach codes k → w < 2 ^ most-states → rest ≡ 0
-    → Picked codes (row-size * k) (b + 1) (bitAnd w (getD reach (row-size * k + leaves-entry) 0)) rest r
-    → Picked codes (row-size * k) (b + 1) w 0 r
-picked-leaves reach codes k b w noted small nothing picked = record {
+-- where the picked ones are those among the leaves, they are those of the whole word: a state whose code takes a
+-- byte is a leaf
+picked-leaves : (reach classes codes : List ℕ) (k byte w : ℕ) {rest r : ℕ} → Noted reach codes k → w < 2 ^ most-states → rest ≡ 0
+    → Picked classes codes (row-size * k) byte (bitAnd w (getD reach (row-size * k + leaves-entry) 0)) rest r
+    → Picked classes codes (row-size * k) byte w 0 r
+picked-leaves reach classes codes k byte w noted small nothing picked = record {
   among = λ i c. absurd (bit-zero i c);
   exactly = λ j. (
     λ c. let (m, _, at) = picked .exactly j .0 c in
         (bit-and w (getD reach (row-size * k + leaves-entry) 0) j .0 m .0, bit-zero j, at),
     λ (m, _, at). picked .exactly j .1 (
       bit-and w (getD reach (row-size * k + leaves-entry) 0) j .1
-          (m, noted .leaves j (bit-below small m) (λ none. omega (arith, at, none))),
+          (m, noted .leaves j (bit-below small m) (no-leaf-takes at)),
       λ l. bit-zero j (subst (λ (v : ℕ). Bit v j) nothing l),
       at,
     ),
@@ -103,35 +103,35 @@ no-bit-up : (w : ℕ) → Bit (w * 2) 0 → ⊥
 no-bit-up w b = omega (arith, bit-low (w * 2), b)
 
 -- from a state of w a transition that reads b leads to the state numbered j
-record Comes (x : Nested Leaf) (b w j : ℕ) : Type 0 where
+record Comes (classes : List ℕ) (x : Nested Leaf) (b w j : ℕ) : Type 0 where
   from : State
   to : State
   from-own : Own x from
   marked : Bit w (number x from)
   numbered : number x to ≡ j
-  reads : Own-reads meaning b x from to
+  reads : Own-reads (meaning classes) b x from to
 
 -- that state is one of the piece
-comes-below : {x : Nested Leaf} {b w j : ℕ} → Comes x b w j → j < width x
-comes-below {x} {b} m = omega (arith, number-below x (m .to) (reads-on b x (m .reads) .to-own), m .numbered)
+comes-below : {classes : List ℕ} {x : Nested Leaf} {b w j : ℕ} → Comes classes x b w j → j < width x
+comes-below {classes} {x} {b} m = omega (arith, number-below x (m .to) (reads-on classes b x (m .reads) .to-own), m .numbered)
 
 -- so one leads to the state of that number
-comes-to : {x : Nested Leaf} {b w : ℕ} (q : State) → Own x q → Comes x b w (number x q)
-    → (p : State) × Own x p × Bit w (number x p) × Own-reads meaning b x p q
-comes-to {x} {b} q o m = (
+comes-to : {classes : List ℕ} {x : Nested Leaf} {b w : ℕ} (q : State) → Own x q → Comes classes x b w (number x q)
+    → (p : State) × Own x p × Bit w (number x p) × Own-reads (meaning classes) b x p q
+comes-to {classes} {x} {b} q o m = (
   m .from,
   m .from-own,
   m .marked,
-  subst (λ (s : State). Own-reads meaning b x (m .from) s)
-      (number-injective x (m .to) q (reads-on b x (m .reads) .to-own) o (m .numbered)) (m .reads),
+  subst (λ (s : State). Own-reads (meaning classes) b x (m .from) s)
+      (number-injective x (m .to) q (reads-on classes b x (m .reads) .to-own) o (m .numbered)) (m .reads),
 )
 
 -- the picked bits, one place up, are the word moved
-moves-by-picking : (codes : List ℕ) (piece b w r : ℕ) (x : Nested Leaf) → width x ≤ most-states
+moves-by-picking : (classes codes : List ℕ) (piece b w r : ℕ) (x : Nested Leaf) → width x ≤ most-states
     → row codes piece (width x) ≡ takes x → w < 2 ^ width x
-    → Picked codes (row-size * piece) (b + 1) w 0 r → Moves x b w (r * 2 % 2 ^ word-bits)
-moves-by-picking codes piece b w r x narrow coded small picked =
-    subst (λ (v : ℕ). Moves x b w v) (sym (mod-eq-of-lt fits)) record {
+    → Picked classes codes (row-size * piece) b w 0 r → Moves classes x b w (r * 2 % 2 ^ word-bits)
+moves-by-picking classes codes piece b w r x narrow coded small picked =
+    subst (λ (v : ℕ). Moves classes x b w v) (sym (mod-eq-of-lt fits)) record {
       exactly = λ q o. (λ c. comes-to q o (up (number x q) c), forth q o);
       clean = below-of-bits (width x) (r * 2) (λ j c. comes-below (up j c));
     }
@@ -149,37 +149,39 @@ moves-by-picking codes piece b w r x narrow coded small picked =
         ap (λ (i : ℕ). getD (takes x) i 0) e ∙ ap (λ (l : List ℕ). getD l j 0) (sym coded)
         ∙ row-at codes piece (width x) j h
 
-    up : (j : ℕ) → Bit (r * 2) j → Comes x b w j
+    up : (j : ℕ) → Bit (r * 2) j → Comes classes x b w j
     up zero c = absurd (no-bit-up r c)
     up (suc j) c =
         let m = picked .exactly j .0 (bit-up r j .0 c) in
         let s = number-onto x j (bit-below small (m .0)) in
-        let t = reads-from b x (s .0) (s .1) (code-at (s .0) j (s .2) (bit-below small (m .0)) ∙ m .2) in
+        let t = reads-from classes b x (s .0) (s .1)
+        (subst (λ (c : ℕ). Code-takes classes c b) (sym (code-at (s .0) j (s .2) (bit-below small (m .0)))) (m .2)) in
         record {
           from = s .0;
           to = t .0;
           from-own = s .1;
           marked = subst (λ (i : ℕ). Bit w i) (sym (s .2)) (m .0);
-          numbered = omega (arith, reads-on b x (t .1) .next, s .2);
+          numbered = omega (arith, reads-on classes b x (t .1) .next, s .2);
           reads = t .1;
         }
 
-    forth : (q : State) → Own x q → (p : State) × Own x p × Bit w (number x p) × Own-reads meaning b x p q
+    forth : (q : State) → Own x q → (p : State) × Own x p × Bit w (number x p) × Own-reads (meaning classes) b x p q
         → Bit (r * 2) (number x q)
     forth q o m =
-        let s = reads-on b x (m .3) in
+        let s = reads-on classes b x (m .3) in
         subst (λ (i : ℕ). Bit (r * 2) i) (omega (arith, s .next))
         (bit-up r (number x (m .0)) .1 (picked .exactly (number x (m .0)) .1 (
           m .2,
           bit-zero (number x (m .0)),
-          sym (code-at (m .0) (number x (m .0)) refl (number-below x (m .0) (m .1))) ∙ s .code,
+          subst (λ (c : ℕ). Code-takes classes c b)
+              (code-at (m .0) (number x (m .0)) refl (number-below x (m .0) (m .1))) (s .code),
         )))
 
 -- so are those among the leaves
-pub moves-by-leaves : (reach codes : List ℕ) (piece b w rest r : ℕ) → Noted reach codes piece → rest ≡ 0
-    → Picked codes (row-size * piece) (b + 1) (bitAnd w (getD reach (row-size * piece + leaves-entry) 0)) rest r
+pub moves-by-leaves : (reach classes codes : List ℕ) (piece b w rest r : ℕ) → Noted reach codes piece → rest ≡ 0
+    → Picked classes codes (row-size * piece) b (bitAnd w (getD reach (row-size * piece + leaves-entry) 0)) rest r
     → (x : Nested Leaf) → width x ≤ most-states → row codes piece (width x) ≡ takes x → w < 2 ^ width x
-    → Moves x b w (r * 2 % 2 ^ word-bits)
-moves-by-leaves reach codes piece b w rest r noted nothing picked x narrow coded small =
-    moves-by-picking codes piece b w r x narrow coded small
-    (picked-leaves reach codes piece b w noted (lt-of-lt-of-le small (pow-mono narrow)) nothing picked)
+    → Moves classes x b w (r * 2 % 2 ^ word-bits)
+moves-by-leaves reach classes codes piece b w rest r noted nothing picked x narrow coded small =
+    moves-by-picking classes codes piece b w r x narrow coded small
+    (picked-leaves reach classes codes piece b w noted (lt-of-lt-of-le small (pow-mono narrow)) nothing picked)

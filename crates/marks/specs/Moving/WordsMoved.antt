@@ -47,121 +47,121 @@ lifted {M} e into back = (
 neither : {A B : Type 0} → (A → ⊥) → (B → ⊥) → A ↔ B
 neither f g = (λ a. absurd (f a), λ b. absurd (g b))
 
-module _ (b : ℕ) where
+module _ (classes : List ℕ) (b : ℕ) where
   -- where a transition that reads comes from, by where it leads: into the first part of a catenation
   module _ {s t : Tree (Own-leaf Leaf)} where
-    reads-catenation-left : (p : State) {q : State} → Reads (own-meaning meaning) b (Tree.catenation s t) p (left q)
-        → (r : State) × (p ≡ left r) × Reads (own-meaning meaning) b s r q
+    reads-catenation-left : (p : State) {q : State} → Reads (own-meaning (meaning classes)) b (Tree.catenation s t) p (left q)
+        → (r : State) × (p ≡ left r) × Reads (own-meaning (meaning classes)) b s r q
     reads-catenation-left p (Reads.catenation-left {p = r} e) = (r, refl, e)
 
     -- into the second part of a catenation
-    reads-catenation-right : (p : State) {q : State} → Reads (own-meaning meaning) b (Tree.catenation s t) p (right q)
-        → (r : State) × (p ≡ right r) × Reads (own-meaning meaning) b t r q
+    reads-catenation-right : (p : State) {q : State} → Reads (own-meaning (meaning classes)) b (Tree.catenation s t) p (right q)
+        → (r : State) × (p ≡ right r) × Reads (own-meaning (meaning classes)) b t r q
     reads-catenation-right p (Reads.catenation-right {p = r} e) = (r, refl, e)
 
     -- into the first part of a union
-    reads-union-left : (p : State) {q : State} → Reads (own-meaning meaning) b (Tree.union s t) p (left q)
+    reads-union-left : (p : State) {q : State} → Reads (own-meaning (meaning classes)) b (Tree.union s t) p (left q)
         → (r : State) × (p ≡ left r)
-        × Reads (own-meaning meaning) b s r q
+        × Reads (own-meaning (meaning classes)) b s r q
     reads-union-left p (Reads.union-left {p = r} e) = (r, refl, e)
 
     -- into the second part of a union
-    reads-union-right : (p : State) {q : State} → Reads (own-meaning meaning) b (Tree.union s t) p (right q)
-        → (r : State) × (p ≡ right r) × Reads (own-meaning meaning) b t r q
+    reads-union-right : (p : State) {q : State} → Reads (own-meaning (meaning classes)) b (Tree.union s t) p (right q)
+        → (r : State) × (p ≡ right r) × Reads (own-meaning (meaning classes)) b t r q
     reads-union-right p (Reads.union-right {p = r} e) = (r, refl, e)
 
   -- into a star's operand
   reads-star : {s : Tree (Own-leaf Leaf)} (p : State) {q : State}
-      → Reads (own-meaning meaning) b (Tree.star s) p (left q)
-      → (r : State) × (p ≡ left r) × Reads (own-meaning meaning) b s r q
+      → Reads (own-meaning (meaning classes)) b (Tree.star s) p (left q)
+      → (r : State) × (p ≡ left r) × Reads (own-meaning (meaning classes)) b s r q
   reads-star p (Reads.star-inside {p = r} e) = (r, refl, e)
 
   module _ {x y : Nested Leaf} where
     -- the same in all pieces: into the first part of a catenation
-    in-catenation-left : (p : State) {q : State} → Reading meaning b (catenation x y) p (left q) → (r : State)
+    in-catenation-left : (p : State) {q : State} → Reading (meaning classes) b (catenation x y) p (left q) → (r : State)
         × (p ≡ left r)
-        × Reading meaning b x r q
+        × Reading (meaning classes) b x r q
     in-catenation-left p (Reading.catenation-left {p = r} e) = (r, refl, e)
 
     -- into the second part of a catenation
-    in-catenation-right : (p : State) {q : State} → Reading meaning b (catenation x y) p (right q)
-        → (r : State) × (p ≡ right r) × Reading meaning b y r q
+    in-catenation-right : (p : State) {q : State} → Reading (meaning classes) b (catenation x y) p (right q)
+        → (r : State) × (p ≡ right r) × Reading (meaning classes) b y r q
     in-catenation-right p (Reading.catenation-right {p = r} e) = (r, refl, e)
 
     -- into the first part of a union
-    in-union-left : (p : State) {q : State} → Reading meaning b (union x y) p (left q) → (r : State) × (p ≡ left r)
-        × Reading meaning b x r q
+    in-union-left : (p : State) {q : State} → Reading (meaning classes) b (union x y) p (left q) → (r : State) × (p ≡ left r)
+        × Reading (meaning classes) b x r q
     in-union-left p (Reading.union-left {p = r} e) = (r, refl, e)
 
     -- into the second part of a union
-    in-union-right : (p : State) {q : State} → Reading meaning b (union x y) p (right q) → (r : State) × (p ≡ right r)
-        × Reading meaning b y r q
+    in-union-right : (p : State) {q : State} → Reading (meaning classes) b (union x y) p (right q) → (r : State) × (p ≡ right r)
+        × Reading (meaning classes) b y r q
     in-union-right p (Reading.union-right {p = r} e) = (r, refl, e)
 
   -- into a star's operand
-  in-star : {x : Nested Leaf} (p : State) {q : State} → Reading meaning b (star x) p (left q) → (r : State)
+  in-star : {x : Nested Leaf} (p : State) {q : State} → Reading (meaning classes) b (star x) p (left q) → (r : State)
       × (p ≡ left r)
-      × Reading meaning b x r q
+      × Reading (meaning classes) b x r q
   in-star p (Reading.star-inside {p = r} e) = (r, refl, e)
 
   -- into a child piece
-  in-below : {x : Nested Leaf} (p : State) {q : State} → Reading meaning b (below x) p (left q) → (r : State)
+  in-below : {x : Nested Leaf} (p : State) {q : State} → Reading (meaning classes) b (below x) p (left q) → (r : State)
       × (p ≡ left r)
-      × Reading meaning b x r q
+      × Reading (meaning classes) b x r q
   in-below p (Reading.in-child {p = r} e) = (r, refl, e)
 
   -- none leads to a start
-  no-start : {t : Tree (Own-leaf Leaf)} {p : State} → Reads (own-meaning meaning) b t p start → ⊥
+  no-start : {t : Tree (Own-leaf Leaf)} {p : State} → Reads (own-meaning (meaning classes)) b t p start → ⊥
   no-start = elim [ ]
 
   -- none to the accepting state of a catenation
-  no-catenation : {s t : Tree (Own-leaf Leaf)} {p : State} → Reads (own-meaning meaning) b
+  no-catenation : {s t : Tree (Own-leaf Leaf)} {p : State} → Reads (own-meaning (meaning classes)) b
       (Tree.catenation s t) p accepting → ⊥
   no-catenation = elim [ ]
 
   -- none to that of a union
-  no-union : {s t : Tree (Own-leaf Leaf)} {p : State} → Reads (own-meaning meaning) b (Tree.union s t) p accepting → ⊥
+  no-union : {s t : Tree (Own-leaf Leaf)} {p : State} → Reads (own-meaning (meaning classes)) b (Tree.union s t) p accepting → ⊥
   no-union = elim [ ]
 
   -- none to that of a star
-  no-star : {s : Tree (Own-leaf Leaf)} {p : State} → Reads (own-meaning meaning) b (Tree.star s) p accepting → ⊥
+  no-star : {s : Tree (Own-leaf Leaf)} {p : State} → Reads (own-meaning (meaning classes)) b (Tree.star s) p accepting → ⊥
   no-star = elim [ ]
 
   -- a stand-in reads no byte
-  no-stand-in : {p : State} → Reads (own-meaning meaning) b (Tree.leaf stand-in) p accepting → ⊥
+  no-stand-in : {p : State} → Reads (own-meaning (meaning classes)) b (Tree.leaf stand-in) p accepting → ⊥
   no-stand-in (Reads.at-leaf e) = e
 
   -- the same in all pieces: none to a start
-  in-no-start : {x : Nested Leaf} {p : State} → Reading meaning b x p start → ⊥
+  in-no-start : {x : Nested Leaf} {p : State} → Reading (meaning classes) b x p start → ⊥
   in-no-start = elim [ ]
 
   -- none to the accepting state of a catenation
-  in-no-catenation : {x y : Nested Leaf} {p : State} → Reading meaning b (catenation x y) p accepting → ⊥
+  in-no-catenation : {x y : Nested Leaf} {p : State} → Reading (meaning classes) b (catenation x y) p accepting → ⊥
   in-no-catenation = elim [ ]
 
   -- none to that of a union
-  in-no-union : {x y : Nested Leaf} {p : State} → Reading meaning b (union x y) p accepting → ⊥
+  in-no-union : {x y : Nested Leaf} {p : State} → Reading (meaning classes) b (union x y) p accepting → ⊥
   in-no-union = elim [ ]
 
   -- none to that of a star
-  in-no-star : {x : Nested Leaf} {p : State} → Reading meaning b (star x) p accepting → ⊥
+  in-no-star : {x : Nested Leaf} {p : State} → Reading (meaning classes) b (star x) p accepting → ⊥
   in-no-star = elim [ ]
 
   -- none to that of a stand-in
-  in-no-below : {x : Nested Leaf} {p : State} → Reading meaning b (below x) p accepting → ⊥
+  in-no-below : {x : Nested Leaf} {p : State} → Reading (meaning classes) b (below x) p accepting → ⊥
   in-no-below = elim [ ]
 
   -- in a part of the piece, whose states are numbered from i, the bits of w′ are those of w moved along b
   record Shifts (x : Nested Leaf) (i w w′ : ℕ) : Type 0 where
     exactly : (q : State) → Own x q
-        → Bit w′ (i + number x q) ↔ ((p : State) × (Own x p × Bit w (i + number x p)) × Own-reads meaning b x p q)
+        → Bit w′ (i + number x q) ↔ ((p : State) × (Own x p × Bit w (i + number x p)) × Own-reads (meaning classes) b x p q)
 
   -- a bit by an equal number
   at : (w : ℕ) {i j : ℕ} → i ≡ j → Bit w i → Bit w j
   at w e c = subst (λ (n : ℕ). Bit w n) e c
 
   -- in the whole piece
-  shifts : {x : Nested Leaf} {w w′ : ℕ} → Moves x b w w′ → Shifts x 0 w w′
+  shifts : {x : Nested Leaf} {w w′ : ℕ} → Moves classes x b w w′ → Shifts x 0 w w′
   shifts {x} {w} {w′} moves = record {
     exactly = λ q o. (
       λ c. let m =
@@ -175,8 +175,8 @@ module _ (b : ℕ) where
   -- in a part x of a node z, at e, whose numbers in z are k more
   part : (z x : Nested Leaf) (e : State → State) (k : ℕ) → ((q : State) → number z (e q) ≡ k + number x q)
       → ((q : State) → Own z (e q) ↔ Own x q)
-      → ((p q : State) → Own-reads meaning b x p q → Own-reads meaning b z (e p) (e q))
-      → ((p q : State) → Own-reads meaning b z p (e q) → (r : State) × (p ≡ e r) × Own-reads meaning b x r q)
+      → ((p q : State) → Own-reads (meaning classes) b x p q → Own-reads (meaning classes) b z (e p) (e q))
+      → ((p q : State) → Own-reads (meaning classes) b z p (e q) → (r : State) × (p ≡ e r) × Own-reads (meaning classes) b x r q)
       → {i w w′ : ℕ} → Shifts z i w w′ → Shifts x (i + k) w w′
   part z x e k numbered owned into back {i} {w} {w′} whole = record {
     exactly = λ q o. (
@@ -227,29 +227,29 @@ module _ (b : ℕ) where
   Below-moved (catenation x y) ws ws′ = Below-moved x ws ws′ × Below-moved y (drop (run x) ws) (drop (run x) ws′)
   Below-moved (union x y) ws ws′ = Below-moved x ws ws′ × Below-moved y (drop (run x) ws) (drop (run x) ws′)
   Below-moved (star x) ws ws′ = Below-moved x ws ws′
-  Below-moved (below x) ws ws′ = Moves x b (getD ws 0 0) (getD ws′ 0 0) × Below-moved x (drop 1 ws) (drop 1 ws′)
+  Below-moved (below x) ws ws′ = Moves classes x b (getD ws 0 0) (getD ws′ 0 0) × Below-moved x (drop 1 ws) (drop 1 ws′)
 
   -- no start is marked after a move
   unmarked-start : {x : Nested Leaf} {i w w′ : ℕ} → Shifts x i w w′ → Bit w′ i → ⊥
   unmarked-start {x} {i} {w} {w′} s c = no-start (s .exactly start tt .0 (at w′ (sym (add-zero i)) c) .2)
 
   -- nor the accepting state of a node that is no leaf
-  unmarked-end : {x : Nested Leaf} {i w w′ : ℕ} → ((p : State) → Own-reads meaning b x p accepting → ⊥)
+  unmarked-end : {x : Nested Leaf} {i w w′ : ℕ} → ((p : State) → Own-reads (meaning classes) b x p accepting → ⊥)
       → Shifts x i w w′ → Bit w′ (i + number x accepting) → ⊥
   unmarked-end never s c = let m = s .exactly accepting tt .0 c in never (m .0) (m .2)
 
   -- at a leaf it comes from the leaf's start
-  reads-leaf : {a : Leaf} {p : State} → Reads (own-meaning meaning) b (Tree.leaf (given a)) p accepting
-      → (p ≡ start) × meaning .Takes a b
+  reads-leaf : {a : Leaf} {p : State} → Reads (own-meaning (meaning classes)) b (Tree.leaf (given a)) p accepting
+      → (p ≡ start) × (meaning classes) .Takes a b
   reads-leaf (Reads.at-leaf e) = (refl, e)
 
   -- the same in all pieces: at a leaf it comes from the leaf's start
-  in-leaf : {a : Leaf} {p : State} → Reading meaning b (leaf a) p accepting → (p ≡ start) × meaning .Takes a b
+  in-leaf : {a : Leaf} {p : State} → Reading (meaning classes) b (leaf a) p accepting → (p ≡ start) × (meaning classes) .Takes a b
   in-leaf (Reading.at-leaf e) = (refl, e)
 
   -- at a leaf
   leaf-moved : (a : Leaf) (i w w′ : ℕ) (ws : List ℕ) → Shifts (leaf a) i w w′
-      → Bit w′ (i + 1) ↔ Move meaning b (leaf a) (Marked (leaf a) w i ws) accepting
+      → Bit w′ (i + 1) ↔ Move (meaning classes) b (leaf a) (Marked (leaf a) w i ws) accepting
   leaf-moved a i w w′ ws s = (
     λ c. let m = s .exactly accepting tt .0 c in (
       start,
@@ -266,7 +266,7 @@ module _ (b : ℕ) where
   -- in every piece: the bits of a part are those of its piece, and a child piece has its own word
   marked-moved : (x : Nested Leaf) (i w w′ : ℕ) (ws ws′ : List ℕ) → Shifts x i w w′ → Below-moved x ws ws′ → (q : State)
       → Has x q
-      → Marked x w′ i ws′ q ↔ Move meaning b x (Marked x w i ws) q
+      → Marked x w′ i ws′ q ↔ Move (meaning classes) b x (Marked x w i ws) q
   marked-moved (leaf a) i w w′ ws ws′ s u start h = neither (unmarked-start s) (λ m. in-no-start (m .2))
   marked-moved (leaf a) i w w′ ws ws′ s u accepting h = leaf-moved a i w w′ ws s
   marked-moved (catenation x y) i w w′ ws ws′ s u start h = neither (unmarked-start s) (λ m. in-no-start (m .2))
@@ -312,19 +312,19 @@ module _ (b : ℕ) where
   clean-moved (below x) ws ws′ u = (u .0 .clean, clean-moved x (drop 1 ws) (drop 1 ws′) (u .1))
 
 -- w is word k moved along b, for every tree that the codes of piece k speak of
-pub record Word-moved (codes before : List ℕ) (b k w : ℕ) : Type 0 where
+pub record Word-moved (classes codes before : List ℕ) (b k w : ℕ) : Type 0 where
   pub moves : (x : Nested Leaf) → width x ≤ most-states → row codes k (width x) ≡ takes x
-      → getD before k 0 < 2 ^ width x → Moves x b (getD before k 0) w
+      → getD before k 0 < 2 ^ width x → Moves classes x b (getD before k 0) w
 
 -- one word more, moved from what it is now, which is what it was before
-pub moved-more : {codes before after : List ℕ} {b n w : ℕ} → n < length before
-    → Rows (Word-moved codes before b) before after 0 n
+pub moved-more : {classes codes before after : List ℕ} {b n w : ℕ} → n < length before
+    → Rows (Word-moved classes codes before b) before after 0 n
     → ((x : Nested Leaf) → width x ≤ most-states → row codes n (width x) ≡ takes x → getD after n 0 < 2 ^ width x
-    → Moves x b (getD after n 0) w)
-    → Rows (Word-moved codes before b) before (set after n w) 0 (n + 1)
-moved-more {codes} {before} {after} {b} {n} {w} h so-far moves =
+    → Moves classes x b (getD after n 0) w)
+    → Rows (Word-moved classes codes before b) before (set after n w) 0 (n + 1)
+moved-more {classes} {codes} {before} {after} {b} {n} {w} h so-far moves =
     rows-set-at so-far w (omega arith) (omega arith) record {
-      moves = λ x narrow at small. subst (λ (v : ℕ). Moves x b v w) as-before
+      moves = λ x narrow at small. subst (λ (v : ℕ). Moves classes x b v w) as-before
           (moves x narrow at (subst (λ (v : ℕ). v < 2 ^ width x) (sym as-before) small));
     }
   where
@@ -332,48 +332,48 @@ moved-more {codes} {before} {after} {b} {n} {w} h so-far moves =
     as-before = so-far .others n (inr (omega arith))
 
 -- the marks that the words hold are moved along b, and no bit past a last state is set
-pub record Marks-moved (x : Nested Leaf) (b : ℕ) (before after : List ℕ) : Type 0 where
-  pub holds : (q : State) → Has x q → Holds x after q ↔ Move meaning b x (Holds x before) q
+pub record Marks-moved (classes : List ℕ) (x : Nested Leaf) (b : ℕ) (before after : List ℕ) : Type 0 where
+  pub holds : (q : State) → Has x q → Holds x after q ↔ Move (meaning classes) b x (Holds x before) q
   pub clean : Clean x after
 
 -- the first n words are moved along b; the others are as before
-pub record Moved-all (codes before after : List ℕ) (b n : ℕ) : Type 0 where
+pub record Moved-all (classes codes before after : List ℕ) (b n : ℕ) : Type 0 where
   pub same-length : length after ≡ length before
   pub marks : (tables : Pieces) (x : Nested Leaf) → tables .codes ≡ codes → Planned tables x → 1 + run x ≤ n
       → width x ≤ most-states → Narrow-below x
-      → Clean x before → Marks-moved x b before after
+      → Clean x before → Marks-moved classes x b before after
   pub others : (k : ℕ) → n ≤ k → getD after k 0 ≡ getD before k 0
 
 -- the word at the beginning of what is left of the words
 pub first-left : (l : List ℕ) (k : ℕ) → getD (drop k l) 0 0 ≡ getD l k 0
 first-left l k = getD-drop k l 0 0 ∙ ap (λ (i : ℕ). getD l i 0) (add-zero k)
 
-module _ (tables : Pieces) (before after : List ℕ) (b n : ℕ)
-    (rows : Rows (Word-moved (tables .codes) before b) before after 0 n) where
+module _ (classes : List ℕ) (tables : Pieces) (before after : List ℕ) (b n : ℕ)
+    (rows : Rows (Word-moved classes (tables .codes) before b) before after 0 n) where
   -- the word of piece k is moved
   word-moved : (x : Nested Leaf) (k : ℕ) → k < n → Piece-at tables x k → width x ≤ most-states
       → getD (drop k before) 0 0 < 2 ^ width x
-      → Moves x b (getD (drop k before) 0 0) (getD (drop k after) 0 0)
+      → Moves classes x b (getD (drop k before) 0 0) (getD (drop k after) 0 0)
   word-moved x k h at narrow small =
-      subst₂ (λ (v w : ℕ). Moves x b v w) (sym (first-left before k)) (ap (λ (i : ℕ). getD after i 0) (zero-add k)
+      subst₂ (λ (v w : ℕ). Moves classes x b v w) (sym (first-left before k)) (ap (λ (i : ℕ). getD after i 0) (zero-add k)
       ∙ sym (first-left after k))
       (rows .rows k h .moves x narrow (at .coded) (subst (λ (v : ℕ). v < 2 ^ width x) (first-left before k) small))
 
   -- the words of the child pieces below x are
   below-moved : (x : Nested Leaf) (i new : ℕ) → Children-at tables x i new → new + run x ≤ n → Narrow-below x
       → Clean-below x (drop new before)
-      → Below-moved b x (drop new before) (drop new after)
+      → Below-moved classes b x (drop new before) (drop new after)
   below-moved (leaf a) i new at h narrow clean = tt
   below-moved (catenation x y) i new at h narrow clean = (
     below-moved x (i + 1) new (at .0) (omega arith) (narrow .0) (clean .0),
-    subst₂ (λ (u v : List ℕ). Below-moved b y u v) (sym (drop-drop (run x) new before))
+    subst₂ (λ (u v : List ℕ). Below-moved classes b y u v) (sym (drop-drop (run x) new before))
         (sym (drop-drop (run x) new after))
         (below-moved y (i + (1 + width x)) (new + run x) (at .1) (omega arith) (narrow .1)
         (subst (Clean-below y) (drop-drop (run x) new before) (clean .1))),
   )
   below-moved (union x y) i new at h narrow clean = (
     below-moved x (i + 1) new (at .0) (omega arith) (narrow .0) (clean .0),
-    subst₂ (λ (u v : List ℕ). Below-moved b y u v) (sym (drop-drop (run x) new before))
+    subst₂ (λ (u v : List ℕ). Below-moved classes b y u v) (sym (drop-drop (run x) new before))
         (sym (drop-drop (run x) new after))
         (below-moved y (i + (1 + width x)) (new + run x) (at .1) (omega arith) (narrow .1)
         (subst (Clean-below y) (drop-drop (run x) new before) (clean .1))),
@@ -381,31 +381,31 @@ module _ (tables : Pieces) (before after : List ℕ) (b n : ℕ)
   below-moved (star x) i new at h narrow clean = below-moved x (i + 1) new at h narrow clean
   below-moved (below x) i new at h narrow clean = (
     word-moved x new (omega arith) (at .1) (narrow .0) (clean .0),
-    subst₂ (λ (u v : List ℕ). Below-moved b x u v) (sym (drop-drop 1 new before)) (sym (drop-drop 1 new after))
+    subst₂ (λ (u v : List ℕ). Below-moved classes b x u v) (sym (drop-drop 1 new before)) (sym (drop-drop 1 new after))
         (below-moved x 0 (new + 1) (at .2) (omega arith) (narrow .1)
         (subst (Clean-below x) (drop-drop 1 new before) (clean .1))),
   )
 
   -- so the marks are
   marks-moved : (x : Nested Leaf) → Planned tables x → 1 + run x ≤ n → width x ≤ most-states → Narrow-below x
-      → Clean x before → Marks-moved x b before after
+      → Clean x before → Marks-moved classes x b before after
   marks-moved x at h narrow-top narrow clean =
       let top = word-moved x 0 (omega arith) (at .0) narrow-top (clean .0) in
       let children = below-moved x 0 1 (at .1) h narrow (clean .1) in
       record {
-        holds = marked-moved b x 0 (getD before 0 0) (getD after 0 0) (drop 1 before) (drop 1 after) (shifts b top)
+        holds = marked-moved classes b x 0 (getD before 0 0) (getD after 0 0) (drop 1 before) (drop 1 after) (shifts classes b top)
             children;
-        clean = (top .clean, clean-moved b x (drop 1 before) (drop 1 after) children);
+        clean = (top .clean, clean-moved classes b x (drop 1 before) (drop 1 after) children);
       }
 
 -- word by word, every word is moved
-pub moved-all : {codes before after : List ℕ} {b n m : ℕ} → m ≡ n → Rows (Word-moved codes before b) before after 0 m
-    → Moved-all codes before after b n
-moved-all {codes} {before} {after} {b} {n} {m} e rows = record {
+pub moved-all : {classes codes before after : List ℕ} {b n m : ℕ} → m ≡ n → Rows (Word-moved classes codes before b) before after 0 m
+    → Moved-all classes codes before after b n
+moved-all {classes} {codes} {before} {after} {b} {n} {m} e rows = record {
   same-length = rows .same-length;
   marks = λ tables x t at h narrow-top narrow clean.
-      marks-moved tables before after b n
-      (subst₂ (λ (l : List ℕ) (k : ℕ). Rows (Word-moved l before b) before after 0 k) (sym t) e rows) x at h narrow-top
+      marks-moved classes tables before after b n
+      (subst₂ (λ (l : List ℕ) (k : ℕ). Rows (Word-moved classes l before b) before after 0 k) (sym t) e rows) x at h narrow-top
       narrow clean;
   others = λ k h. rows .others k (inr (omega arith));
 }

@@ -10,7 +10,7 @@ use Rattle.language.specs.Nested.{Nested, Has, Move}
 use Rattle.language.specs.Settled.{Settled}
 use Rattle.language.specs.Same.{More-in}
 use Rattle.tree.specs.Limits.{most-states}
-use Rattle.tree.specs.Leaf.{Leaf, meaning}
+use Rattle.tree.specs.Leaf.{Leaf, meaning, byteless}
 use Rattle.tables.specs.Words.{width, run, number, Holds, Clean}
 use Rattle.tables.specs.Plan.{row, takes, Moves, Pieces, Planned, Reaches, Each, Closes}
 use Rattle.marks.specs.BitsOfWords.Bits.{bit-zero}
@@ -30,33 +30,33 @@ use Rattle.marks.specs.ClosingPieces.WordsClosed.{
 }
 
 -- the first n words are moved along b, and each is closed in itself; the others are as before
-pub record Moved-closed (reach codes before after : List ℕ) (b n : ℕ) : Type 0 where
+pub record Moved-closed (reach classes codes before after : List ℕ) (b n : ℕ) : Type 0 where
   pub moved : List ℕ
-  pub moves : Moved-all codes before moved b n
+  pub moves : Moved-all classes codes before moved b n
   pub closes : Closed-words reach moved after n
 
 -- so far, word by word
-pub record Moving-closing (reach codes before after : List ℕ) (b n : ℕ) : Type 0 where
+pub record Moving-closing (reach classes codes before after : List ℕ) (b n : ℕ) : Type 0 where
   pub moved : List ℕ
-  pub moves : Rows (Word-moved codes before b) before moved 0 n
+  pub moves : Rows (Word-moved classes codes before b) before moved 0 n
   pub closes : Closed-words reach moved after n
 
 -- at first none is
-pub moving-none : (reach codes words : List ℕ) (b : ℕ) → Moving-closing reach codes words words b 0
-moving-none reach codes words b =
-    record { moved = words; moves = rows-none (Word-moved codes words b) words 0; closes = closed-none reach words }
+pub moving-none : (reach classes codes words : List ℕ) (b : ℕ) → Moving-closing reach classes codes words words b 0
+moving-none reach classes codes words b =
+    record { moved = words; moves = rows-none (Word-moved classes codes words b) words 0; closes = closed-none reach words }
 
 -- r is the word of the piece after the byte b: moved, and closed in the piece
-pub record Word-after (reach codes : List ℕ) (piece word b r : ℕ) : Type 0 where
+pub record Word-after (reach classes codes : List ℕ) (piece word b r : ℕ) : Type 0 where
   pub moved : ℕ
   pub moves : (x : Nested Leaf) → width x ≤ most-states → row codes piece (width x) ≡ takes x → word < 2 ^ width x
-      → Moves x b word moved
+      → Moves classes x b word moved
   pub closes : (x : Nested Leaf) → width x ≤ most-states → Reaches x (row reach piece (width x)) → moved < 2 ^ width x
       → Closes x moved r
 
 -- a word of no marks stays one
-pub none-after : (reach codes : List ℕ) (piece word b : ℕ) → word ≡ 0 → Word-after reach codes piece word b 0
-none-after reach codes piece word b none = subst (λ (w : ℕ). Word-after reach codes piece w b 0) (sym none) record {
+pub none-after : (reach classes codes : List ℕ) (piece word b : ℕ) → word ≡ 0 → Word-after reach classes codes piece word b 0
+none-after reach classes codes piece word b none = subst (λ (w : ℕ). Word-after reach classes codes piece w b 0) (sym none) record {
   moved = 0;
   moves = λ x narrow coded small. record {
     exactly = λ q o. (λ m. absurd (bit-zero (number x q) m), λ (p, o', m, way). absurd (bit-zero (number x p) m));
@@ -66,28 +66,28 @@ none-after reach codes piece word b none = subst (λ (w : ℕ). Word-after reach
 }
 
 -- one word more
-pub moving-more : {reach codes before after : List ℕ} {b n w : ℕ} → n < length before
-    → Moving-closing reach codes before after b n
-    → Word-after reach codes n (getD after n 0) b w → Moving-closing reach codes before (set after n w) b (n + 1)
-moving-more {codes = codes} {after = after} {b = b} {n = n} inside so-far next = record {
+pub moving-more : {reach classes codes before after : List ℕ} {b n w : ℕ} → n < length before
+    → Moving-closing reach classes codes before after b n
+    → Word-after reach classes codes n (getD after n 0) b w → Moving-closing reach classes codes before (set after n w) b (n + 1)
+moving-more {classes = classes} {codes = codes} {after = after} {b = b} {n = n} inside so-far next = record {
   moved = set (so-far .moved) n (next .moved);
   moves = moved-more inside (so-far .moves)
       (subst (λ (u : ℕ). (x : Nested Leaf) → width x ≤ most-states → row codes n (width x) ≡ takes x → u < 2 ^ width x
-      → Moves x b u (next .moved))
+      → Moves classes x b u (next .moved))
       (so-far .closes .others n (omega arith)) (next .moves));
   closes = closed-more (omega (arith, so-far .moves .same-length)) (so-far .closes) (next .closes);
 }
 
 -- at last all are
-pub moving-all : {reach codes before after : List ℕ} {b n m : ℕ} → m ≡ n → Moving-closing reach codes before after b m
-    → Moved-closed reach codes before after b n
+pub moving-all : {reach classes codes before after : List ℕ} {b n m : ℕ} → m ≡ n → Moving-closing reach classes codes before after b m
+    → Moved-closed reach classes codes before after b n
 moving-all {reach} {after = after} e all = record {
   moved = all .moved;
   moves = moved-all e (all .moves);
   closes = subst (λ (k : ℕ). Closed-words reach (all .moved) after k) e (all .closes);
 }
 
-module _ {reach codes before after : List ℕ} {b n : ℕ} (went : Moved-closed reach codes before after b n) where
+module _ {reach classes codes before after : List ℕ} {b n : ℕ} (went : Moved-closed reach classes codes before after b n) where
   -- no word is added or taken away
   pub moved-length : length after ≡ length before
   moved-length = omega (arith, went .moves .same-length, went .closes .same-length)
@@ -99,16 +99,16 @@ module _ {reach codes before after : List ℕ} {b n : ℕ} (went : Moved-closed 
   module _ (tables : Pieces) (x : Nested Leaf) (same : tables .codes ≡ codes) (planned : Planned tables x)
       (reached : Each Reaches reach x) (room : 1 + run x ≤ n)
       (narrow : width x ≤ most-states) (narrow-below : Narrow-below x) (clean : Clean x before) where
-    alone : Marks-moved x b before (went .moved)
+    alone : Marks-moved classes x b before (went .moved)
     alone = went .moves .marks tables x same planned room narrow narrow-below clean
 
     -- each moved mark is there
-    pub moved-keeps : More-in (Has x) (Move meaning b x (Holds x before)) (Holds x after)
+    pub moved-keeps : More-in (Has x) (Move (meaning classes) b x (Holds x before)) (Holds x after)
     moved-keeps q has m = closed-keeps (went .closes) x reached room narrow narrow-below (alone .clean) q has
         (alone .holds q has .1 m)
 
     -- the marks lie within each settled set that has the moved ones
-    pub moved-within : (Z : States) → Settled meaning x Z → More-in (Has x) (Move meaning b x (Holds x before)) Z
+    pub moved-within : (Z : States) → Settled byteless x Z → More-in (Has x) (Move (meaning classes) b x (Holds x before)) Z
         → More-in (Has x) (Holds x after) Z
     moved-within Z settled within =
         closed-within (went .closes) x reached room narrow narrow-below (alone .clean) Z settled

@@ -10,7 +10,7 @@ use Rattle.language.specs.Automaton.{start}
 use Rattle.language.specs.Nested.{Nested}
 use Rattle.language.specs.Settled.{Settled}
 use Rattle.language.specs.Unmoved.{settled-agree, settled-none, sweep-none}
-use Rattle.tree.specs.Leaf.{Leaf, meaning}
+use Rattle.tree.specs.Leaf.{Leaf, byteless}
 use Rattle.tables.specs.Words.{Bit, width, run, Holds}
 use Rattle.tables.specs.Plan.{Closes}
 use Rattle.marks.specs.BitsOfWords.Bits.{dec-bit, bit-zero, same-bits}
@@ -63,7 +63,7 @@ module _ {reach runs stands tops : List ℕ} {x : Nested Leaf} {c : Child} {k at
         subst (λ (w : ℕ). Bit w 0) first (own-holds (c .tree) (part c after) start tt tt .0 kept)
 
     -- and the child piece stands as one that was gone through
-    pub gone : (settled' ≡ true → Settled meaning (c .tree) (Holds (c .tree) (part c after)))
+    pub gone : (settled' ≡ true → Settled byteless (c .tree) (Holds (c .tree) (part c after)))
         → Gone after waiting' settled' (at + (1 + run (c .tree))) c
     gone rests = record {
       behind = omega (arith, can .here);
@@ -120,7 +120,7 @@ module _ {reach runs stands tops : List ℕ} {x : Nested Leaf} {c : Child} {k at
     swept = record {
       marks = λ q h. (
         λ m. absurd (zero-holds (c .tree) (part c words) zero-part q h m),
-        λ m. absurd (sweep-none meaning (c .tree) (Holds (c .tree) (started c words))
+        λ m. absurd (sweep-none byteless (c .tree) (Holds (c .tree) (started c words))
             (zero-holds (c .tree) (started c words) zero-started) q h m),
       );
       clean = can .child-clean;
@@ -132,7 +132,7 @@ module _ {reach runs stands tops : List ℕ} {x : Nested Leaf} {c : Child} {k at
   }
 
   -- and it is settled
-  pub settled-at-rest : Settled meaning (c .tree) (Holds (c .tree) (part c words))
-  settled-at-rest = settled-agree meaning (c .tree)
+  pub settled-at-rest : Settled byteless (c .tree) (Holds (c .tree) (part c words))
+  settled-at-rest = settled-agree byteless (c .tree)
       (λ q h. (λ m. absurd m, zero-holds (c .tree) (part c words) zero-part q h))
-      (settled-none meaning (c .tree))
+      (settled-none byteless (c .tree))

@@ -12,7 +12,7 @@ use lib.Seq.{ext-getD, getD-drop, getD-set-same, getD-set-other, drop-drop, drop
 use Rattle.language.specs.Nested.{Nested, leaf, catenation, union, star, below}
 use Rattle.language.specs.Settled.{Settled}
 use Rattle.tree.specs.Limits.{most-states}
-use Rattle.tree.specs.Leaf.{Leaf, meaning}
+use Rattle.tree.specs.Leaf.{Leaf, byteless}
 use Rattle.tables.specs.Words.{Bit, width, run, Holds, Clean}
 use Rattle.tables.specs.Plan.{Children-at, row, Reaches, Each-below, Closes}
 use Rattle.marks.specs.ClosingPieces.EachPieceClosed.{Each-closed, Each-closed-below, closed-same}
@@ -121,7 +121,7 @@ pub record Gone (words : List ℕ) (waiting : ℕ) (settled : Bool) (at : ℕ) (
   pub started : Bit (getD words (c .from) 0) 0 ⊎ Bit waiting (c .stand)
   pub raised : Bit (getD words (c .from) 0) (width (c .tree) - 1) → Bit (getD words 0 0) (c .stand + 1)
   pub closed : Each-closed (c .tree) (part c words)
-  pub at-rest : settled ≡ true → Settled meaning (c .tree) (Holds (c .tree) (part c words))
+  pub at-rest : settled ≡ true → Settled byteless (c .tree) (Holds (c .tree) (part c words))
 
 -- what one more child piece gone through adds: starts that wait still do, the own word loses no mark, and what was
 -- behind is as before
@@ -143,7 +143,7 @@ gone-further {before} {after} {settled' = settled'} {at = at} further on c gone 
   raised = λ b. further .own-kept (c .stand + 1)
       (gone .raised (subst (λ (w : ℕ). Bit w (width (c .tree) - 1)) first b));
   closed = subst (Each-closed (c .tree)) (sym run-same) (gone .closed);
-  at-rest = λ e. subst (λ (l : List ℕ). Settled meaning (c .tree) (Holds (c .tree) l)) (sym run-same)
+  at-rest = λ e. subst (λ (l : List ℕ). Settled byteless (c .tree) (Holds (c .tree) l)) (sym run-same)
       (gone .at-rest (further .rest e));
 }
   where
@@ -373,7 +373,7 @@ module _ (reach runs stands tops : List ℕ) where
         )
 
         -- and where no start waits that is marked now, the words are settled
-        pub all-settled : settled ≡ true → Apart (getD words 0 0) waiting → Settled meaning x (Holds x words)
+        pub all-settled : settled ≡ true → Apart (getD words 0 0) waiting → Settled byteless x (Holds x words)
         all-settled e apart = settled-words x words (way .own-closed) (each-map (children-of x 0 1) joined all-gone)
           where
             joined : (c : Child) → Gone words waiting settled at c → Joined-child words c

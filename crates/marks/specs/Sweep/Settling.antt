@@ -11,7 +11,7 @@ use Rattle.language.specs.Nested.{Nested, leaf, catenation, union, star, below,
 use Rattle.language.specs.Simulation.{Settled-by}
 use Rattle.language.specs.Settled.{Wire, Settled}
 use Rattle.language.specs.Unmoved.{settled-agree}
-use Rattle.tree.specs.Leaf.{Leaf, meaning}
+use Rattle.tree.specs.Leaf.{Leaf, byteless}
 use Rattle.tables.specs.Words.{Bit, width, run, Holds}
 use Rattle.tables.specs.Plan.{Closes}
 use Rattle.marks.specs.ClosingPieces.EachPieceClosed.{Each-closed, Each-closed-below, closed-same}
@@ -77,7 +77,7 @@ closed-of-children (below x) i f words each =
 
 -- a closed own word is settled under the own tree's transitions
 own-settled : (x : Nested Leaf) (words : List ℕ) → Closes x (getD words 0 0) (getD words 0 0)
-    → Settled-by (Own-empty meaning x) (Holds x words)
+    → Settled-by (Own-empty byteless x) (Holds x words)
 own-settled x words closes p q e m =
     let (o, o') = transition-own x e in
     own-holds x words q (own-has x q o') o' .1
@@ -88,16 +88,16 @@ own-settled x words closes p q e m =
 pub record Joined-child (words : List ℕ) (c : Child) : Type 0 where
   pub down : Bit (getD words 0 0) (c .stand) → Bit (getD words (c .from) 0) 0
   pub up : Bit (getD words (c .from) 0) (width (c .tree) - 1) → Bit (getD words 0 0) (c .stand + 1)
-  pub settled : Settled meaning (c .tree) (Holds (c .tree) (part c words))
+  pub settled : Settled byteless (c .tree) (Holds (c .tree) (part c words))
 
 module _ (whole : Nested Leaf) (words : List ℕ) (closes : Closes whole (getD words 0 0) (getD words 0 0)) where
   -- the part x of the piece, at e, whose own transitions are the piece's
   settled-part : (x : Nested Leaf) (e : State → State) (i n f : ℕ) → Placed whole x e i n → f ≡ suc n
-      → ((p q : State) → Own-empty meaning x p q → Own-empty meaning whole (e p) (e q))
-      → Each-child (Joined-child words) (children-of x i f) → Settled meaning x (λ p. Holds whole words (e p))
+      → ((p q : State) → Own-empty byteless x p q → Own-empty byteless whole (e p) (e q))
+      → Each-child (Joined-child words) (children-of x i f) → Settled byteless x (λ p. Holds whole words (e p))
   settled-part (leaf a) e i n f place from stands each = wires
     where
-      wires : (p q : State) → Wire meaning (leaf a) p q → Holds whole words (e p) → Holds whole words (e q)
+      wires : (p q : State) → Wire byteless (leaf a) p q → Holds whole words (e p) → Holds whole words (e q)
       wires p q (Wire.leaf-past has) m = own-settled whole words closes _ _ (stands _ _ (Empty.leaf-past has)) m
   settled-part (catenation x y) e i n f place from stands each = (
     wires,
@@ -113,7 +113,7 @@ module _ (whole : Nested Leaf) (words : List ℕ) (closes : Closes whole (getD w
       split = each-append (Joined-child words) (children-of x (i + 1) f)
           (children-of y (i + (1 + width x)) (f + run x)) .0 each
 
-      wires : (p q : State) → Wire meaning (catenation x y) p q → Holds whole words (e p) → Holds whole words (e q)
+      wires : (p q : State) → Wire byteless (catenation x y) p q → Holds whole words (e p) → Holds whole words (e q)
       wires p q Wire.catenation-in m = own-settled whole words closes _ _ (stands _ _ Empty.catenation-in) m
       wires p q Wire.catenation-over m = own-settled whole words closes _ _ (stands _ _ Empty.catenation-over) m
       wires p q Wire.catenation-out m = own-settled whole words closes _ _ (stands _ _ Empty.catenation-out) m
@@ -131,7 +131,7 @@ module _ (whole : Nested Leaf) (words : List ℕ) (closes : Closes whole (getD w
       split = each-append (Joined-child words) (children-of x (i + 1) f)
           (children-of y (i + (1 + width x)) (f + run x)) .0 each
 
-      wires : (p q : State) → Wire meaning (union x y) p q → Holds whole words (e p) → Holds whole words (e q)
+      wires : (p q : State) → Wire byteless (union x y) p q → Holds whole words (e p) → Holds whole words (e q)
       wires p q Wire.union-in-left m = own-settled whole words closes _ _ (stands _ _ Empty.union-in-left) m
       wires p q Wire.union-in-right m = own-settled whole words closes _ _ (stands _ _ Empty.union-in-right) m
       wires p q Wire.union-out-left m = own-settled whole words closes _ _ (stands _ _ Empty.union-out-left) m
@@ -142,13 +142,13 @@ module _ (whole : Nested Leaf) (words : List ℕ) (closes : Closes whole (getD w
         from (λ p q t. stands _ _ (Empty.star-inside t)) each,
   )
     where
-      wires : (p q : State) → Wire meaning (star x) p q → Holds whole words (e p) → Holds whole words (e q)
+      wires : (p q : State) → Wire byteless (star x) p q → Holds whole words (e p) → Holds whole words (e q)
       wires p q Wire.star-in m = own-settled whole words closes _ _ (stands _ _ Empty.star-in) m
       wires p q Wire.star-past m = own-settled whole words closes _ _ (stands _ _ Empty.star-past) m
       wires p q Wire.star-out m = own-settled whole words closes _ _ (stands _ _ Empty.star-out) m
       wires p q Wire.star-back m = own-settled whole words closes _ _ (stands _ _ Empty.star-back) m
   settled-part (below x) e i n f place from stands each =
-      (wires, settled-agree meaning x (λ q h. Iff·symm (inside q h)) (each .0 .settled))
+      (wires, settled-agree byteless x (λ q h. Iff·symm (inside q h)) (each .0 .settled))
     where
       inside : (q : State) → Has x q → Holds whole words (e (left q)) ↔ Holds x (part (child-at i f x) words) q
       inside = child-holds whole e (child-at i f x) n place from words
@@ -156,7 +156,7 @@ module _ (whole : Nested Leaf) (words : List ℕ) (closes : Closes whole (getD w
       first : getD (part (child-at i f x) words) 0 0 ≡ getD words f 0
       first = part-at (child-at i f x) words 0 (omega arith) ∙ ap (λ (o : ℕ). getD words o 0) (omega arith)
 
-      wires : (p q : State) → Wire meaning (below x) p q → Holds whole words (e p) → Holds whole words (e q)
+      wires : (p q : State) → Wire byteless (below x) p q → Holds whole words (e p) → Holds whole words (e q)
       wires p q Wire.pass-down m =
           inside start tt .1 (own-holds x (part (child-at i f x) words) start tt tt .1 (bit-of 0 first .1
           (each .0 .down
@@ -170,5 +170,5 @@ module _ (whole : Nested Leaf) (words : List ℕ) (closes : Closes whole (getD w
 
   -- all child pieces of the piece are joined: so the words are settled
   pub settled-words : Each-child (Joined-child words) (children-of whole 0 1)
-      → Settled meaning whole (Holds whole words)
+      → Settled byteless whole (Holds whole words)
   settled-words each = settled-part whole (λ p. p) 0 0 1 (place-whole whole) refl (λ p q t. t) each

@@ -2,18 +2,19 @@
 use Prim.Native.Nat.{ℕ, zero, suc, _+_, _-_, _≤_, _<_}
 use native.Mathlib.Omega.{arith}
 use mathlib.Core.Path.{_≡_, refl, sym, ap, _∙_, subst}
-use mathlib.Core.Logic.{_↔_, inr, Iff·trans, Iff·symm}
+use mathlib.Core.Logic.{_↔_, inr, Iff·rfl, Iff·trans, Iff·symm}
 use mathlib.Core.List.{List, _∷_}
 use lib.ListN.{getD, drop}
 use lib.Seq.{getD-drop}
 use lib.Pow.{pow-pos, pow-lt}
 use Rattle.language.specs.Automaton.{State, start, accepting, States, Path-of, Started, Stepped}
-use Rattle.language.specs.Nested.{Nested, whole, Has, Models, Move, Own-empty}
+use Rattle.language.specs.Nested.{Nested, whole, Has, origin, Models, Move, Own-empty}
 use Rattle.language.specs.Same.{More-in, Agree, sweep-same, models-same}
 use Rattle.language.specs.Settled.{Settled}
+use Rattle.language.specs.SameEmpty.{started-same}
 use Rattle.language.specs.Sweeps.{sweeps-start, sweeps-step-closed}
 use Rattle.tree.specs.Limits.{most-states}
-use Rattle.tree.specs.Leaf.{Leaf, meaning}
+use Rattle.tree.specs.Leaf.{Leaf, meaning, byteless}
 use Rattle.tables.specs.Words.{Bit, width, run, number, Holds, Clean}
 use Rattle.tables.specs.Plan.{Planned, Each, Reaches}
 use Rattle.marks.specs.BitsOfWords.Numbers.{width-two, number-injective}
@@ -92,7 +93,7 @@ module _ (x : Nested Leaf) (words : List ℕ) (marked : Start-marked x words) wh
         (bit-power 0 (number x p) .0 (subst (λ (w : ℕ). Bit w (number x p)) (marked .first) b)) in
         inr (
           subst (λ (s : State). Bit (getD words 0 0) (number x s)) same b,
-          subst (λ (s : State). Path-of (Own-empty meaning x) s q) same way,
+          subst (λ (s : State). Path-of (Own-empty byteless x) s q) same way,
         );
   }
 
@@ -105,22 +106,24 @@ module _ (x : Nested Leaf) (words : List ℕ) (marked : Start-marked x words) wh
 module _ (reach runs stands tops : List ℕ) (count : ℕ) (x : Nested Leaf) (before after : List ℕ)
     (closed : Closed-twice reach runs stands tops count before after)
     (on : Run-of reach runs stands tops count x before) where
-  -- from the root's start, the closing is the start of the plain simulation
-  pub closed-start : Agree x (Holds x before) (λ q. q ≡ start) → Models x (Holds x after) (Started meaning (whole x))
-  closed-start begins =
-      models-same x (Started meaning (whole x))
-      (λ q h. Iff·trans (closed .marks x on q h) (sweep-same meaning x (sweep-same meaning x begins) q h))
-      (sweeps-start meaning x)
+  -- from the root's start, the closing is the start of the plain simulation, by any class records
+  pub closed-start : (classes : List ℕ) → Agree x (Holds x before) (λ q. q ≡ start)
+      → Models x (Holds x after) (Started (meaning classes) (whole x))
+  closed-start classes begins q h =
+      Iff·trans (closed .marks x on q h)
+      (Iff·trans (sweep-same byteless x (sweep-same byteless x begins) q h)
+      (Iff·trans (sweeps-start byteless x q h)
+      (started-same byteless (meaning classes) (λ a. Iff·rfl) (whole x) (origin x q))))
 
   -- after a move along the byte b, with some of the closing done already, the closing is a step of the plain simulation
-  pub closed-step : (b : ℕ) (marks X : States) → Models x marks X
-      → More-in (Has x) (Move meaning b x marks) (Holds x before)
-      → ((Z : States) → Settled meaning x Z → More-in (Has x) (Move meaning b x marks) Z
+  pub closed-step : (classes : List ℕ) (b : ℕ) (marks X : States) → Models x marks X
+      → More-in (Has x) (Move (meaning classes) b x marks) (Holds x before)
+      → ((Z : States) → Settled byteless x Z → More-in (Has x) (Move (meaning classes) b x marks) Z
       → More-in (Has x) (Holds x before) Z)
-      → Models x (Holds x after) (Stepped meaning (whole x) b X)
-  closed-step b marks X models more within =
-      models-same x (Stepped meaning (whole x) b X) (closed .marks x on)
-      (sweeps-step-closed meaning b x marks X (Holds x before) models more within)
+      → Models x (Holds x after) (Stepped (meaning classes) (whole x) b X)
+  closed-step classes b marks X models more within =
+      models-same x (Stepped (meaning classes) (whole x) b X) (closed .marks x on)
+      (sweeps-step-closed byteless (meaning classes) (λ a. Iff·rfl) b x marks X (Holds x before) models more within)
 
 -- the bit of the top piece's last state says whether the accepting state is in the set that the words hold
 pub accepting-bit : (x : Nested Leaf) (words : List ℕ) (X : States) → Models x (Holds x words) X

@@ -8,7 +8,7 @@ use lib.Bits.{bitOr}
 use Rattle.language.specs.Automaton.{State, start, Path-of}
 use Rattle.language.specs.Nested.{Nested, leaf, catenation, union, star, below, Has, Sweep, Own-empty}
 use Rattle.tree.specs.Limits.{most-pieces, most-states}
-use Rattle.tree.specs.Leaf.{Leaf, meaning}
+use Rattle.tree.specs.Leaf.{Leaf, byteless}
 use Rattle.tree.specs.Parts.{Every-below}
 use Rattle.tables.specs.Words.{Bit, width, run, Own, number, Holds, Clean}
 use Rattle.tables.specs.Plan.{Pieces, Piece-at, Children-at, row, Reaches, Each-below, Closes}
@@ -36,8 +36,8 @@ pub record At-rest (word stand first child end from to : ℕ) : Type 0 where
 -- the word of x's top piece is closed but for what the state s reaches: what a marked state reaches is marked, or s is
 -- marked and reaches it
 pub record Nearly-closed (x : Nested Leaf) (s : State) (w : ℕ) : Type 0 where
-  pub reached : (p q : State) → Own x p → Own x q → Bit w (number x p) → Path-of (Own-empty meaning x) p q
-      → Bit w (number x q) ⊎ (Bit w (number x s) × Path-of (Own-empty meaning x) s q)
+  pub reached : (p q : State) → Own x p → Own x q → Bit w (number x p) → Path-of (Own-empty byteless x) p q
+      → Bit w (number x q) ⊎ (Bit w (number x s) × Path-of (Own-empty byteless x) s q)
 
 -- of the words of the pieces from k on, those below the first are 0 outside of `from` up to `to`
 abbrev pub Quiet : (k from to : ℕ) → List ℕ → Type 0
@@ -91,7 +91,7 @@ module _ (reach runs stands tops : List ℕ) where
 -- what a sweep makes of the words of x's pieces: the marks that they hold then are those of the sweep, and each piece
 -- is closed in itself
 pub record Swept (x : Nested Leaf) (before after : List ℕ) : Type 0 where
-  pub marks : (q : State) → Has x q → Holds x after q ↔ Sweep meaning x (Holds x before) q
+  pub marks : (q : State) → Has x q → Holds x after q ↔ Sweep byteless x (Holds x before) q
   pub clean : Clean x after
   pub each-closed : Each-closed x after
 

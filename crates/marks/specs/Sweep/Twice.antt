@@ -11,7 +11,7 @@ use Rattle.language.specs.Nested.{Nested, Has, Sweep}
 use Rattle.language.specs.Settled.{Settled}
 use Rattle.language.specs.Same.{Agree, sweep-same}
 use Rattle.language.specs.Unmoved.{settled-agree, sweep-settled}
-use Rattle.tree.specs.Leaf.{Leaf, meaning}
+use Rattle.tree.specs.Leaf.{Leaf, byteless}
 use Rattle.tables.specs.Words.{width, run, Holds, Clean}
 use Rattle.marks.specs.ClosingPieces.EachPieceClosed.{Each-closed-below, closed-below-same, closed-same}
 use Rattle.marks.specs.Sweep.Swept.{Nearly-closed, Quiet, In-tables, Sweepable, Tables-sized, Sweep-ready, Swept}
@@ -75,7 +75,7 @@ module _ (reach runs stands tops : List ℕ) (count : ℕ) where
   -- what two sweeps make of the words
   pub record Closed-twice (before after : List ℕ) : Type 0 where
     pub marks : (x : Nested Leaf) → Run-of x before → (q : State) → Has x q
-        → Holds x after q ↔ Sweep meaning x (Sweep meaning x (Holds x before)) q
+        → Holds x after q ↔ Sweep byteless x (Sweep byteless x (Holds x before)) q
     pub clean : (x : Nested Leaf) → Run-of x before → Clean x after
     pub others : drop count after ≡ drop count before
 
@@ -119,7 +119,7 @@ module _ (reach runs stands tops : List ℕ) (count : ℕ) where
           subst (Swept x (take count words)) (sym front) (swept x (run-sweepable x on)) in
           record {
             marks = λ q h. Iff·trans (Iff·symm (front-holds x count after (on .counted) q h))
-                (Iff·trans (done .marks q h) (sweep-same meaning x (front-holds x count words (on .counted)) q h));
+                (Iff·trans (done .marks q h) (sweep-same byteless x (front-holds x count words (on .counted)) q h));
             clean = front-clean x count after (on .counted) .0 (done .clean);
             each-closed =
                 closed-same x (take count after) after (λ o l. getD-take count after o 0 (omega (arith, on .counted)))
@@ -137,11 +137,11 @@ module _ (reach runs stands tops : List ℕ) (count : ℕ) where
       }
 
       -- and settled, where the first words are
-      pub after-settled : (x : Nested Leaf) → Run-of x words → Settled meaning x (Holds x ys)
-          → Settled meaning x (Holds x after)
+      pub after-settled : (x : Nested Leaf) → Run-of x words → Settled byteless x (Holds x ys)
+          → Settled byteless x (Holds x after)
       after-settled x on settled =
-          settled-agree meaning x (front-holds x count after (on .counted))
-          (subst (λ (l : List ℕ). Settled meaning x (Holds x l)) (sym front) settled)
+          settled-agree byteless x (front-holds x count after (on .counted))
+          (subst (λ (l : List ℕ). Settled byteless x (Holds x l)) (sym front) settled)
 
   -- the first words are ready to be swept
   pub run-ready : (from to : ℕ) (words : List ℕ) → Closable from to words
@@ -180,16 +180,16 @@ module _ (reach runs stands tops : List ℕ) (count : ℕ) where
 
     -- where one sweep settles the words, a second would change nothing
     pub closed-once : ((x : Nested Leaf) → Sweepable reach runs stands tops x 0 (take count words)
-        → Settled meaning x (Holds x ys)) → Closed-twice words (ys ++ drop count words)
+        → Settled byteless x (Holds x ys)) → Closed-twice words (ys ++ drop count words)
     closed-once settled = record {
       marks = λ x on q h. Iff·trans (Iff·symm
-          (sweep-settled meaning x (Holds x (ys ++ drop count words)) (rests x on) q))
-          (sweep-same meaning x (after-swept words (can .enough) ys same swept x on .marks) q h);
+          (sweep-settled byteless x (Holds x (ys ++ drop count words)) (rests x on) q))
+          (sweep-same byteless x (after-swept words (can .enough) ys same swept x on .marks) q h);
       clean = λ x on. after-swept words (can .enough) ys same swept x on .clean;
       others = after-others words (can .enough) ys same swept;
     }
       where
-        rests : (x : Nested Leaf) → Run-of x words → Settled meaning x (Holds x (ys ++ drop count words))
+        rests : (x : Nested Leaf) → Run-of x words → Settled byteless x (Holds x (ys ++ drop count words))
         rests x on =
             after-settled words (can .enough) ys same swept x on (settled x (run-sweepable words (can .enough) x on))
 
@@ -200,7 +200,7 @@ module _ (reach runs stands tops : List ℕ) (count : ℕ) where
         → Closed-twice words (zs ++ drop count (ys ++ drop count words))
     closed-twice zs as-many again = record {
       marks = λ x on q h. Iff·trans (second x on .marks q h)
-          (sweep-same meaning x (after-swept words (can .enough) ys same swept x on .marks) q h);
+          (sweep-same byteless x (after-swept words (can .enough) ys same swept x on .marks) q h);
       clean = λ x on. second x on .clean;
       others = after-others (ys ++ drop count words) (closable-again .enough) zs as-many again
           ∙ after-others words (can .enough) ys same swept;

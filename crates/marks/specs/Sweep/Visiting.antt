@@ -23,7 +23,7 @@ use Rattle.language.specs.Nested.{
   Own-closed,
 }
 use Rattle.language.specs.Same.{Agree, up-more-in, visit-more-in, sweep-same}
-use Rattle.tree.specs.Leaf.{Leaf, meaning}
+use Rattle.tree.specs.Leaf.{Leaf, byteless}
 use Rattle.tables.specs.Words.{Bit, width, run, Own, number, Holds}
 use Rattle.tables.specs.Plan.{Closes}
 use Rattle.marks.specs.BitsOfWords.Numbers.{number-accepting}
@@ -92,16 +92,16 @@ under-holds x before after q h u same m =
 
 module _ (x : Nested Leaf) (before after : List ℕ) (closes : Closes x (getD before 0 0) (getD after 0 0))
     (same : (o : ℕ) → getD before (suc o) 0 ≡ getD after (suc o) 0) where
-  to-closed : (q : State) → Has x q → Holds x after q → Own-closed meaning x (Holds x before) q
+  to-closed : (q : State) → Has x q → Holds x after q → Own-closed byteless x (Holds x before) q
   to-closed q h m = ⊎-elim inside (λ u. (q, under-holds x after before q h u (λ o. sym (same o)) m, here))
       (own-or-under x q h)
     where
-      inside : Own x q → Own-closed meaning x (Holds x before) q
+      inside : Own x q → Own-closed byteless x (Holds x before) q
       inside o =
           let (p, o', b, way) = closes .exactly q o .0 (own-holds x after q h o .0 m) in
           (p, own-holds x before p (own-has x p o') o' .1 b, way)
 
-  from-closed : (q : State) → Has x q → Own-closed meaning x (Holds x before) q → Holds x after q
+  from-closed : (q : State) → Has x q → Own-closed byteless x (Holds x before) q → Holds x after q
   from-closed q h (p, m, way) = ⊎-elim inside outside (own-or-under x q h)
     where
       inside : Own x q → Holds x after q
@@ -116,7 +116,7 @@ module _ (x : Nested Leaf) (before after : List ℕ) (closes : Closes x (getD be
           (λ both. absurd (subst Under (own-spot x q (both .1)) u)) (path-own x way)
 
   -- closing the own word closes the marks
-  pub closed-holds : Agree x (Holds x after) (Own-closed meaning x (Holds x before))
+  pub closed-holds : Agree x (Holds x after) (Own-closed byteless x (Holds x before))
   closed-holds q h = (to-closed q h, from-closed q h)
 
 -- an entry of a child piece's run
@@ -298,11 +298,11 @@ module _ (x : Nested Leaf) (e : State → State) (c : Child) (n : ℕ) (place : 
       from-up q h,
     )
 
-    swept-marks : Agree (c .tree) (Holds (c .tree) (part c after)) (Sweep meaning (c .tree) (Down e (Holds x before)))
-    swept-marks p h = Iff·trans (visited .swept .marks p h) (sweep-same meaning (c .tree) (down-holds before room) p h)
+    swept-marks : Agree (c .tree) (Holds (c .tree) (part c after)) (Sweep byteless (c .tree) (Down e (Holds x before)))
+    swept-marks p h = Iff·trans (visited .swept .marks p h) (sweep-same byteless (c .tree) (down-holds before room) p h)
 
     wanted : States
-    wanted = Up e (Sweep meaning (c .tree) (Down e (Holds x before))) (Holds x before)
+    wanted = Up e (Sweep byteless (c .tree) (Down e (Holds x before))) (Holds x before)
 
     up-wanted : Agree x up wanted
     unfolding up wanted
@@ -319,7 +319,7 @@ module _ (x : Nested Leaf) (e : State → State) (c : Child) (n : ℕ) (place : 
 
     -- what the visit makes of the marks
     pub visited-holds : Agree x (Holds x after)
-        (Visit meaning (below (c .tree)) e (Own-closed meaning x) (Holds x before))
+        (Visit byteless (below (c .tree)) e (Own-closed byteless x) (Holds x before))
     unfolding wanted
     visited-holds q h =
         Iff·trans (closed-holds x raised after closing raised-below q h) (
@@ -342,17 +342,17 @@ visits-length x (c ∷ cs) before after (next, first, rest) = visits-length x cs
 
 visit-same : (whole x : Nested Leaf) (e : State → State) (i n : ℕ) → Placed whole x e i n → (M N : States)
     → Agree whole M N
-    → Agree whole (Visit meaning x e (Own-closed meaning whole) M) (Visit meaning x e (Own-closed meaning whole) N)
+    → Agree whole (Visit byteless x e (Own-closed byteless whole) M) (Visit byteless x e (Own-closed byteless whole) N)
 visit-same whole x e i n place M N same q h = (
-  visit-more-in meaning (own-tree whole) x e (Has whole) M N (begins whole) (place .has) (λ p k. same p k .0) q h,
-  visit-more-in meaning (own-tree whole) x e (Has whole) N M (begins whole) (place .has) (λ p k. same p k .1) q h,
+  visit-more-in byteless (own-tree whole) x e (Has whole) M N (begins whole) (place .has) (λ p k. same p k .0) q h,
+  visit-more-in byteless (own-tree whole) x e (Has whole) N M (begins whole) (place .has) (λ p k. same p k .1) q h,
 )
 
 -- the visits of two parts, one after the other
 then-visit : (whole y : Nested Leaf) (e : State → State) (i n : ℕ) → Placed whole y e i n → (M N K : States)
     → Agree whole M N
-    → Agree whole K (Visit meaning y e (Own-closed meaning whole) M)
-    → Agree whole K (Visit meaning y e (Own-closed meaning whole) N)
+    → Agree whole K (Visit byteless y e (Own-closed byteless whole) M)
+    → Agree whole K (Visit byteless y e (Own-closed byteless whole) N)
 then-visit whole y e i n place M N K first second q h =
     Iff·trans (second q h) (visit-same whole y e i n place M N first q h)
 
@@ -360,7 +360,7 @@ then-visit whole y e i n place M N K first second q h =
 pub visits-hold : (whole x : Nested Leaf) (e : State → State) (i n f : ℕ) → Placed whole x e i n → f ≡ suc n
     → (before after : List ℕ) → 1 + run whole ≤ length before
     → Visits whole (children-of x i f) before after
-    → Agree whole (Holds whole after) (Visit meaning x e (Own-closed meaning whole) (Holds whole before))
+    → Agree whole (Holds whole after) (Visit byteless x e (Own-closed byteless whole) (Holds whole before))
 visits-hold whole (leaf a) e i n f place from before after room v =
     λ q h. subst (λ (words : List ℕ). Holds whole words q ↔ Holds whole before q) v Iff·rfl
 visits-hold whole (catenation x y) e i n f place from before after room v =
@@ -369,7 +369,7 @@ visits-hold whole (catenation x y) e i n f place from before after room v =
     let second : Placed whole y (λ p. e (right p)) (i + (1 + width x)) (n + run x) =
     place-in (i + (1 + width x)) (n + run x) refl refl place (catenation-right x y) in
     then-visit whole y (λ p. e (right p)) (i + (1 + width x)) (n + run x) second (Holds whole between)
-    (Visit meaning x (λ p. e (left p)) (Own-closed meaning whole) (Holds whole before)) (Holds whole after)
+    (Visit byteless x (λ p. e (left p)) (Own-closed byteless whole) (Holds whole before)) (Holds whole after)
     (visits-hold whole x (λ p. e (left p)) (i + 1) n f
     (place-in (i + 1) n refl (omega arith) place (catenation-left x y)) from before between room some)
     (visits-hold whole y (λ p. e (right p)) (i + (1 + width x)) (n + run x) (f + run x) second (omega arith) between
@@ -381,7 +381,7 @@ visits-hold whole (union x y) e i n f place from before after room v =
     let second : Placed whole y (λ p. e (right p)) (i + (1 + width x)) (n + run x) =
     place-in (i + (1 + width x)) (n + run x) refl refl place (union-right x y) in
     then-visit whole y (λ p. e (right p)) (i + (1 + width x)) (n + run x) second (Holds whole between)
-    (Visit meaning x (λ p. e (left p)) (Own-closed meaning whole) (Holds whole before)) (Holds whole after)
+    (Visit byteless x (λ p. e (left p)) (Own-closed byteless whole) (Holds whole before)) (Holds whole after)
     (visits-hold whole x (λ p. e (left p)) (i + 1) n f (place-in (i + 1) n refl (omega arith) place (union-left x y))
     from before between room some)
     (visits-hold whole y (λ p. e (right p)) (i + (1 + width x)) (n + run x) (f + run x) second (omega arith) between
@@ -392,7 +392,7 @@ visits-hold whole (star x) e i n f place from before after room v =
     before after room v
 visits-hold whole (below x) e i n f place from before after room (between, first, same) =
     subst (λ (words : List ℕ). Agree whole (Holds whole words)
-    (Visit meaning (below x) e (Own-closed meaning whole) (Holds whole before))) same
+    (Visit byteless (below x) e (Own-closed byteless whole) (Holds whole before))) same
     (visited-holds whole e (record { stand = i; from = f; tree = x }) n place from before between first
     (omega (arith, place .seat .long)))
 
@@ -400,7 +400,7 @@ visits-hold whole (below x) e i n f place from before after room (between, first
 pub sweep-holds : (x : Nested Leaf) (before begun after : List ℕ) → Closes x (getD before 0 0) (getD begun 0 0)
     → ((o : ℕ) → getD before (suc o) 0 ≡ getD begun (suc o) 0) → 1 + run x ≤ length begun
     → Visits x (children-of x 0 1) begun after
-    → Agree x (Holds x after) (Sweep meaning x (Holds x before))
+    → Agree x (Holds x after) (Sweep byteless x (Holds x before))
 sweep-holds x before begun after closes same room v =
-    then-visit x x (λ p. p) 0 0 (place-whole x) (Holds x begun) (Own-closed meaning x (Holds x before)) (Holds x after)
+    then-visit x x (λ p. p) 0 0 (place-whole x) (Holds x begun) (Own-closed byteless x (Holds x before)) (Holds x after)
     (closed-holds x before begun closes same) (visits-hold x x (λ p. p) 0 0 1 (place-whole x) refl begun after room v)

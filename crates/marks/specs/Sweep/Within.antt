@@ -20,7 +20,7 @@ use Rattle.language.specs.Nested.{
   Own-closed,
 }
 use Rattle.language.specs.Same.{More-in, closed-more-in}
-use Rattle.tree.specs.Leaf.{Leaf, meaning}
+use Rattle.tree.specs.Leaf.{Leaf, byteless}
 use Rattle.tables.specs.Words.{Own}
 use Rattle.marks.specs.ClosingTable.Transitions.{transition-own}
 
@@ -44,7 +44,7 @@ own-has (below x) (left q) h = absurd h
 own-has (below x) (right q) h = h
 
 -- a path of empty transitions of a piece's own tree goes nowhere, or from one of its own states to another
-pub path-own : (x : Nested Leaf) {p q : State} → Path-of (Own-empty meaning x) p q → (p ≡ q) ⊎ (Own x p × Own x q)
+pub path-own : (x : Nested Leaf) {p q : State} → Path-of (Own-empty byteless x) p q → (p ≡ q) ⊎ (Own x p × Own x q)
 path-own x here = inl refl
 path-own x (step e rest) =
     inr (
@@ -54,30 +54,30 @@ path-own x (step e rest) =
     )
 
 -- an empty transition of a piece's own tree begins at a state that there is
-pub begins : (x : Nested Leaf) (p q : State) → Own-empty meaning x p q → Has x p
+pub begins : (x : Nested Leaf) (p q : State) → Own-empty byteless x p q → Has x p
 begins x p q e = own-has x p (transition-own x e .0)
 
 -- more marks close to more, at the states that there are
 pub closed-within : (x : Nested Leaf) (M N : States) → More-in (Has x) M N
-    → More-in (Has x) (Own-closed meaning x M) (Own-closed meaning x N)
-closed-within x M N = closed-more-in meaning (own x) (Has x) M N (begins x)
+    → More-in (Has x) (Own-closed byteless x M) (Own-closed byteless x N)
+closed-within x M N = closed-more-in byteless (own x) (Has x) M N (begins x)
 
 -- no mark is lost by a visit, where none is by closing
 pub visit-extends : (x : Nested Leaf) (e : State → State) (close : States → States)
     → ((M : States) (q : State) → M q → close M q)
-    → (M : States) (q : State) → M q → Visit meaning x e close M q
+    → (M : States) (q : State) → M q → Visit byteless x e close M q
 visit-extends (leaf a) e close extends M q m = m
 visit-extends (catenation x y) e close extends M q m =
-    visit-extends y (λ p. e (right p)) close extends (Visit meaning x (λ p. e (left p)) close M) q
+    visit-extends y (λ p. e (right p)) close extends (Visit byteless x (λ p. e (left p)) close M) q
     (visit-extends x (λ p. e (left p)) close extends M q m)
 visit-extends (union x y) e close extends M q m =
-    visit-extends y (λ p. e (right p)) close extends (Visit meaning x (λ p. e (left p)) close M) q
+    visit-extends y (λ p. e (right p)) close extends (Visit byteless x (λ p. e (left p)) close M) q
     (visit-extends x (λ p. e (left p)) close extends M q m)
 visit-extends (star x) e close extends M q m = visit-extends x (λ p. e (left p)) close extends M q m
 visit-extends (below x) e close extends M q m =
-    extends (Up e (Visit meaning x (λ p. p) (Own-closed meaning x) (Own-closed meaning x (Down e M))) M) q (inl m)
+    extends (Up e (Visit byteless x (λ p. p) (Own-closed byteless x) (Own-closed byteless x (Down e M))) M) q (inl m)
 
 -- no mark is lost by a sweep
-pub sweep-extends : (x : Nested Leaf) (M : States) (q : State) → M q → Sweep meaning x M q
+pub sweep-extends : (x : Nested Leaf) (M : States) (q : State) → M q → Sweep byteless x M q
 sweep-extends x M q m =
-    visit-extends x (λ p. p) (Own-closed meaning x) (λ N p n. (p, n, here)) (Own-closed meaning x M) q (q, m, here)
+    visit-extends x (λ p. p) (Own-closed byteless x) (λ N p n. (p, n, here)) (Own-closed byteless x M) q (q, m, here)

@@ -17,7 +17,7 @@ abbrev tables-made : tie.After-tops2 → tie.After-prepare
 tables-made c = c .before .before .before .before .before
 
 abbrev entry : tie.After-prepare → tie.Start
-entry c = c .before .before .before .before .before .before .before .before .before
+entry c = c .before .before .before .before .before .before .before .before .before .before
 
 -- before the parts are looked at, and before the whole text is
 abbrev searching : tie.After-tops3 → tie.Then1

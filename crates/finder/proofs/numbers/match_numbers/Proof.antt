@@ -7,7 +7,7 @@ use denote.Enum.Declared.{tagOf}
 use borrow.Author.Needs.{needs}
 use Rattle.finder.specs.Answer.{match-numbers}
 use Rattle.finder.specs.declared.Matched.{Matched}
-use Rattle.finder.specs.declared.Matched.the-variants.{Yes, No, NotGood, TooLong}
+use Rattle.finder.specs.declared.Matched.the-variants.{Yes, No, NotGood, TooFewClasses, TooLong}
 use Rattle.finder.proofs.Matched.{the-type}
 use Rattle.finder.proofs.numbers.match_numbers.Statement.{statement}
 use Rattle.finder.proofs.numbers.match_numbers.Tie as tie
@@ -18,12 +18,13 @@ use Rattle.finder.proofs.numbers.refusing.Reads as refusing-reads
 
 -- the cases in their order
 abbrev cases : List Matched
-cases = Yes ∷ No ∷ NotGood ∷ TooLong ∷ []
+cases = Yes ∷ No ∷ NotGood ∷ TooFewClasses ∷ TooLong ∷ []
 
 by-tag : (answer : Matched) → answer ≡ getD cases (tagOf the-type answer) Yes
 by-tag Yes = refl
 by-tag No = refl
 by-tag NotGood = refl
+by-tag TooFewClasses = refl
 by-tag TooLong = refl
 
 told : (answer : Matched) (tag : ℕ) → tagOf the-type answer ≡ tag
@@ -54,6 +55,12 @@ enum-told-4 c = search needs
 refusing-requires-2 : tie.Need-refusing-requires-2
 refusing-requires-2 c κs = search needs
 
+enum-told-5 : tie.Need-enum-told-5
+enum-told-5 c = search needs
+
+refusing-requires-3 : tie.Need-refusing-requires-3
+refusing-requires-3 c κs = search needs
+
 returns : tie.Need-returns
 returns c =
     c .answering .ensures ∙ sym (told (c .before .before .before .args .answer) 0 (c .before .before .match .keys1))
@@ -70,6 +77,10 @@ returns-4 : tie.Need-returns-4
 returns-4 c =
     c .refusing2 .ensures ∙ sym (told (c .before .before .before .args .answer) 3 (c .before .before .match .keys4))
 
+returns-5 : tie.Need-returns-5
+returns-5 c =
+    c .refusing3 .ensures ∙ sym (told (c .before .before .before .args .answer) 4 (c .before .before .match .keys5))
+
 pub match-numbers-spec : {M : Type 1} → statement M
 match-numbers-spec =
     tie.close
@@ -82,7 +93,10 @@ match-numbers-spec =
     refusing-requires
     enum-told-4
     refusing-requires-2
+    enum-told-5
+    refusing-requires-3
     returns
     returns-2
     returns-3
-    returns-4)
+    returns-4
+    returns-5)

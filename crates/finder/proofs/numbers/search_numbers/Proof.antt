@@ -7,7 +7,7 @@ use denote.Enum.Declared.{tagOf}
 use borrow.Author.Needs.{needs}
 use Rattle.finder.specs.Answer.{search-numbers}
 use Rattle.finder.specs.declared.Searched.{Searched}
-use Rattle.finder.specs.declared.Searched.the-variants.{Found, Nothing, NotGood, TooLong}
+use Rattle.finder.specs.declared.Searched.the-variants.{Found, Nothing, NotGood, TooFewClasses, TooLong}
 use Rattle.finder.proofs.Searched.{the-type}
 use Rattle.finder.proofs.numbers.search_numbers.Statement.{statement}
 use Rattle.finder.proofs.numbers.search_numbers.Tie as tie
@@ -18,12 +18,13 @@ use Rattle.finder.proofs.numbers.refusing.Reads as refusing-reads
 
 -- the cases in their order
 abbrev cases : Searched → List Searched
-cases answer = answer ∷ Nothing ∷ NotGood ∷ TooLong ∷ []
+cases answer = answer ∷ Nothing ∷ NotGood ∷ TooFewClasses ∷ TooLong ∷ []
 
 by-tag : (answer : Searched) → answer ≡ getD (cases answer) (tagOf the-type answer) Nothing
 by-tag (Found start end) = refl
 by-tag Nothing = refl
 by-tag NotGood = refl
+by-tag TooFewClasses = refl
 by-tag TooLong = refl
 
 told : (answer : Searched) (tag : ℕ) → tagOf the-type answer ≡ tag
@@ -51,6 +52,12 @@ enum-told-3 c = search needs
 refusing-requires-2 : tie.Need-refusing-requires-2
 refusing-requires-2 c κs = search needs
 
+enum-told-4 : tie.Need-enum-told-4
+enum-told-4 c = search needs
+
+refusing-requires-3 : tie.Need-refusing-requires-3
+refusing-requires-3 c κs = search needs
+
 returns : tie.Need-returns
 returns c = sym (ap search-numbers (c .before .answer .given .1))
 
@@ -66,6 +73,10 @@ returns-4 : tie.Need-returns-4
 returns-4 c =
     c .refusing2 .ensures ∙ sym (told (c .before .before .before .args .answer) 3 (c .before .before .match .keys4))
 
+returns-5 : tie.Need-returns-5
+returns-5 c =
+    c .refusing3 .ensures ∙ sym (told (c .before .before .before .args .answer) 4 (c .before .before .match .keys5))
+
 pub search-numbers-spec : {M : Type 1} → statement M
 search-numbers-spec =
     tie.close
@@ -77,7 +88,10 @@ search-numbers-spec =
     refusing-requires
     enum-told-3
     refusing-requires-2
+    enum-told-4
+    refusing-requires-3
     returns
     returns-2
     returns-3
-    returns-4)
+    returns-4
+    returns-5)

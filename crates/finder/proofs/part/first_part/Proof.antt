@@ -31,13 +31,13 @@ nowhere (At e) other = absurd (omega arith)
 nowhere Nowhere other = refl
 
 abbrev Inv-loop : tie.InvT-loop
-Inv-loop reach codes runs stands tops count text first empty start₀ start = (start ≤ length text + 1)
+Inv-loop reach codes runs stands tops count classes text first empty start₀ start = (start ≤ length text + 1)
     × Ready reach codes runs stands tops count × ((t : Tree Leaf) → Prepared t reach codes runs stands tops count
-    → None-before (Matches t) text start) × (length first ≡ most-pieces)
-    × ((t : Tree Leaf) → Prepared t reach codes runs stands tops count → Answered t [] first empty)
+    → None-before (Matches classes t) text start) × (length first ≡ most-pieces)
+    × ((t : Tree Leaf) → Prepared t reach codes runs stands tops count → Answered classes t [] first empty)
 
 abbrev μ-loop : tie.MeasureT-loop
-μ-loop reach codes runs stands tops count text first empty start₀ start = length text + 1 - start
+μ-loop reach codes runs stands tops count classes text first empty start₀ start = length text + 1 - start
 
 slice-aggregate-begin : tie.Need-slice-aggregate-begin Inv-loop μ-loop
 slice-aggregate-begin c = search needs
@@ -51,7 +51,7 @@ loop-holds c = (
   search needs,
   search needs,
   search needs,
-  λ t prepared. answered-first (c .before .begin .ensures t prepared),
+  λ t prepared. answered-first (c .before .begin .ensures _ t prepared),
 )
 
 slice-aggregate-furthest-end : tie.Need-slice-aggregate-furthest-end Inv-loop μ-loop
@@ -67,7 +67,7 @@ enum-known-found c = search needs
 
 returns : tie.Need-returns Inv-loop μ-loop
 returns c = λ t prepared.
-    settled-found (Matches t) _ _ _ (c .before .before .before .before .before .before .loop .inv .2 t prepared)
+    settled-found (Matches _ t) _ _ _ (c .before .before .before .before .before .before .loop .inv .2 t prepared)
     (rw (c .before .found .given .1) at (c .before .before .before .furthest-end .ensures t prepared))
 
 enum-told : tie.Need-enum-told Inv-loop μ-loop
@@ -84,7 +84,7 @@ loop-again c = (
   search needs,
   search needs,
   λ t prepared.
-      settled-next (Matches t) _ _ (c .before .before .before .before .before .loop .inv .2 t prepared)
+      settled-next (Matches _ t) _ _ (c .before .before .before .before .before .loop .inv .2 t prepared)
       (rw (nowhere _ (c .before .match .keys2)) at (c .before .before .furthest-end .ensures t prepared)),
   c .before .before .before .before .before .loop .inv .3,
   c .before .before .before .before .before .loop .inv .4,

@@ -24,16 +24,16 @@ use Rattle.marks.proofs.inner.nothing_left.Reads as nothing-left-reads
 use Rattle.finder.proofs.part.with_end.Reads as with-end-reads
 
 abbrev Inv-loop : tie.InvT-loop
-Inv-loop reach codes runs stands tops count first empty text start words₀ best₀ end₀ words best end = (start ≤ end)
+Inv-loop reach codes runs stands tops count classes first empty text start words₀ best₀ end₀ words best end = (start ≤ end)
     × (end ≤ length text) × (length words ≡ most-pieces) × Ready reach codes runs stands tops count
-    × ((t : Tree Leaf) → Prepared t reach codes runs stands tops count → Looking t text start end words (end-of best))
+    × ((t : Tree Leaf) → Prepared t reach codes runs stands tops count → Looking classes t text start end words (end-of best))
 
 abbrev μ-loop : tie.MeasureT-loop
-μ-loop reach codes runs stands tops count first empty text start words₀ best₀ end₀ words best end = length text - end
+μ-loop reach codes runs stands tops count classes first empty text start words₀ best₀ end₀ words best end = length text - end
 
 -- where the call began, seen from the copy of the first marks
 abbrev entry : tie.After-copy Inv-loop μ-loop → tie.Start Inv-loop μ-loop
-entry c = c .before .before .before .before .before .before .before .before .before
+entry c = c .before .before .before .before .before .before .before .before .before .before
 
 slice-aggregate-copy : tie.Need-slice-aggregate-copy Inv-loop μ-loop
 slice-aggregate-copy c = search needs
@@ -52,7 +52,7 @@ loop-holds c = (
   search needs,
   λ t prepared.
       let begun = entry (c .before .before) in
-      rw (c .with-end .ensures) (standing-first t _ _ _ _ (omega arith)
+      rw (c .with-end .ensures) (standing-first _ t _ _ _ _ (omega arith)
       (answered-copy (begun .args .first .now) _ prepared
       (omega (arith, prepared .counted, prepared .few, begun .pre .1 .0 .1)) (c .before .before .copy .ensures)
       (begun .pre .1 .1 t prepared))),
@@ -71,7 +71,7 @@ returns c = λ t prepared.
     let standing = at .4 t prepared in
     let none : All-zero (entry (head .before .before .before) .args .count) (head .loop .words) =
     c .before .nothing-left .ensures .holds (c .if1 .taken) in
-    settled-early t _ standing (at .0) (at .1)
+    settled-early _ t _ standing (at .0) (at .1)
     (nothing-left (standing .holding) (rw (prepared .counted) at none))
 
 slice-aggregate-advance : tie.Need-slice-aggregate-advance Inv-loop μ-loop
@@ -104,13 +104,13 @@ loop-again c = (
       let at = c .before .before .before .before .before .before .before .before .before .loop .inv in
       let standing = at .4 t prepared in
       rw (c .with-end2 .ensures)
-      (standing-next t _ _ _ _ _ _ (at .0) (omega arith) (standing .so-far)
+      (standing-next _ t _ _ _ _ _ _ (at .0) (omega arith) (standing .so-far)
       (answered-next (standing .holding)
       (c .before .before .advance .ensures t prepared (holding-marks (standing .holding))))),
 )
 
 returns-2 : tie.Need-returns-2 Inv-loop μ-loop
-returns-2 c = λ t prepared. settled-at-end t _ (c .before .loop .inv .4 t prepared) (c .loop-test .left)
+returns-2 c = λ t prepared. settled-at-end _ t _ (c .before .loop .inv .4 t prepared) (c .loop-test .left)
 
 pub furthest-end-spec : {M : Type 1} → statement M
 furthest-end-spec =

@@ -24,19 +24,22 @@ use Rattle.marks.proofs.inner.advance.Reads as advance-reads
 use Rattle.marks.proofs.inner.begin.Reads as begin-reads
 
 -- no text that begins so is in the language, and this one does
-never-matches : (t : Tree Leaf) (text : List ℕ) (i : ℕ) → ((v : List ℕ) → Matches t (take i text ++ v) → ⊥)
-    → (false ≡ true) ↔ Matches t text
-never-matches t text i none =
-    (λ e. absurd (false≢true e), λ m. absurd (none (drop i text) (subst (Matches t) (sym (take-append-drop i text)) m)))
+never-matches : (classes : List ℕ) (t : Tree Leaf) (text : List ℕ) (i : ℕ)
+    → ((v : List ℕ) → Matches classes t (take i text ++ v) → ⊥)
+    → (false ≡ true) ↔ Matches classes t text
+never-matches classes t text i none = (
+  λ e. absurd (false≢true e),
+  λ m. absurd (none (drop i text) (subst (Matches classes t) (sym (take-append-drop i text)) m)),
+)
 
 abbrev Inv-loop : tie.InvT-loop
-Inv-loop reach codes runs stands tops count text words₀ yes₀ i₀ words yes' i = (i ≤ length text)
+Inv-loop reach codes runs stands tops count classes text words₀ yes₀ i₀ words yes' i = (i ≤ length text)
     × (length words ≡ most-pieces)
     × Ready reach codes runs stands tops count × ((t : Tree Leaf) → Prepared t reach codes runs stands tops count
-    → Answered t (take i text) words yes')
+    → Answered classes t (take i text) words yes')
 
 abbrev μ-loop : tie.MeasureT-loop
-μ-loop reach codes runs stands tops count text words₀ yes₀ i₀ words yes' i = length text - i
+μ-loop reach codes runs stands tops count classes text words₀ yes₀ i₀ words yes' i = length text - i
 
 -- where the first marks were made and where the call began, seen from the loop; the loop, seen from a byte that was
 -- taken
@@ -44,7 +47,7 @@ abbrev begun : tie.At-loop Inv-loop μ-loop → tie.After-begin Inv-loop μ-loop
 begun c = c .before .before
 
 abbrev entry : tie.At-loop Inv-loop μ-loop → tie.Start Inv-loop μ-loop
-entry c = begun c .before .before .before .before .before .before .before .before
+entry c = begun c .before .before .before .before .before .before .before .before .before
 
 abbrev byte-taken : tie.After-words5 Inv-loop μ-loop → tie.At-loop Inv-loop μ-loop
 byte-taken c = c .before .before .before .before .before .before .before .before
@@ -57,7 +60,7 @@ begin-requires c κs = search needs
 
 loop-holds : tie.Need-loop-holds Inv-loop μ-loop
 loop-holds c =
-    (search needs, search needs, search needs, λ t prepared. answered-first (c .before .begin .ensures t prepared))
+    (search needs, search needs, search needs, λ t prepared. answered-first (c .before .begin .ensures _ t prepared))
 
 slice-aggregate-nothing-left : tie.Need-slice-aggregate-nothing-left Inv-loop μ-loop
 slice-aggregate-nothing-left c = search needs
@@ -68,7 +71,7 @@ nothing-left-requires c κs = search needs
 returns : tie.Need-returns Inv-loop μ-loop
 returns c = λ t prepared.
     let looking = c .before .before .before .before in
-    never-matches t (entry looking .args .text .now) (looking .loop .i)
+    never-matches (entry looking .args .classes .now) t (entry looking .args .text .now) (looking .loop .i)
     (nothing-left (looking .loop .inv .3 t prepared .holding)
     (rw (prepared .counted) at (c .before .nothing-left .ensures .holds (c .if1 .taken))))
 

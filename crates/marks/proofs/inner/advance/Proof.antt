@@ -21,7 +21,7 @@ abbrev moved : tie.After-close-twice-arg → tie.After-move-all
 moved c = c .before .before .before .before .before .before .before
 
 abbrev entry : tie.After-move-all → tie.Start
-entry c = c .before .before .before .before .before .before .before .before
+entry c = c .before .before .before .before .before .before .before .before .before
 
 move-all-requires : tie.Need-move-all-requires
 move-all-requires c κs = search needs
@@ -41,10 +41,22 @@ shared-slice-read-top : tie.Need-shared-slice-read-top
 shared-slice-read-top c = search needs
 
 cast-top : tie.Need-cast-top
-cast-top c = omega (arith, c .shared-slice-known6 .given 0)
+cast-top c = omega (arith, c .shared-slice-known7 .given 0)
 
 slice-read-has-bit : tie.Need-slice-read-has-bit
-slice-read-has-bit c = search (needs, all-words (entry (moved (closed c .before)) .pre .ready .of-tree .0))
+slice-read-has-bit c =
+    let done = closed c in
+    let went = moved (done .before) in
+    let running = entry went .pre in
+    let tree = running .ready .of-tree in
+    search (
+      needs,
+      all-words (tree .0),
+      tree .1 .counted,
+      running .enough,
+      went .move-all .kept .1 .1 .1 .0,
+      done .close-twice .kept .1 .1 .1 .1 .1 .1 .1 .0,
+    )
 
 has-bit-requires : tie.Need-has-bit-requires
 has-bit-requires c κs = top-low (entry (moved (closed c .before)) .pre .ready .of-tree .1)

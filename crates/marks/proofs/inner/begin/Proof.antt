@@ -55,10 +55,10 @@ same-length : tie.Need-same-length
 same-length c = search needs
 
 returns : tie.Need-returns
-returns c = λ t prepared.
+returns c = λ classes t prepared.
     let put = copied (c .before) in
     let done = closed put in
-    begun prepared begins _ _ _ _ (begins-marked (cut-up t)) (done .close-twice .ensures)
+    begun prepared classes begins _ _ _ _ (begins-marked (cut-up t)) (done .close-twice .ensures)
     (omega (arith, done .close-twice .kept .1 .1 .1 .1 .1 .1 .1 .0, prepared .counted, prepared .few))
     (entry done .pre .1) (put .copy .ensures) (c .has-bit .ensures)
 

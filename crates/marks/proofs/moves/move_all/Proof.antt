@@ -6,14 +6,14 @@ use Rattle.marks.proofs.moves.move_all.Statement.{statement}
 use Rattle.marks.proofs.moves.move_all.Tie as tie
 
 abbrev Inv-loop : tie.InvT-loop
-Inv-loop reach codes words₀ byte pieces piece₀ words piece = (piece ≤ pieces)
-    × Moving-closing reach codes words₀ words byte piece
+Inv-loop reach codes classes words₀ byte pieces piece₀ words piece = (piece ≤ pieces)
+    × Moving-closing reach classes codes words₀ words byte piece
 
 abbrev μ-loop : tie.MeasureT-loop
-μ-loop reach codes words₀ byte pieces piece₀ words piece = pieces - piece
+μ-loop reach codes classes words₀ byte pieces piece₀ words piece = pieces - piece
 
 loop-holds : tie.Need-loop-holds Inv-loop μ-loop
-loop-holds c = (omega arith, moving-none _ _ _ _)
+loop-holds c = (omega arith, moving-none _ _ _ _ _)
 
 mul-word-after : tie.Need-mul-word-after Inv-loop μ-loop
 mul-word-after c = omega arith
@@ -23,7 +23,7 @@ slice-read-word-after c = omega arith
 
 word-after-requires : tie.Need-word-after-requires Inv-loop μ-loop
 word-after-requires c κs =
-    (omega arith, omega arith, c .before .before .before .before .before .before .pre .1 _ (omega arith))
+    (omega arith, omega arith, c .before .before .before .before .before .before .before .pre .1 _ (omega arith))
 
 mul-words : tie.Need-mul-words Inv-loop μ-loop
 mul-words c = omega arith

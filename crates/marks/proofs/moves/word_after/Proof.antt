@@ -5,7 +5,7 @@ use Rattle.marks.proofs.moves.word_after.Statement.{statement}
 use Rattle.marks.proofs.moves.word_after.Tie as tie
 
 returns : tie.Need-returns
-returns c = none-after _ _ _ _ _ (c .if1 .taken)
+returns c = none-after _ _ _ _ _ _ (c .if1 .taken)
 
 moved-requires : tie.Need-moved-requires
 moved-requires c κs = search needs

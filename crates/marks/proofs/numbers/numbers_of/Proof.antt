@@ -29,6 +29,12 @@ enum-told-3 c = search needs
 refusing-requires-3 : tie.Need-refusing-requires-3
 refusing-requires-3 c κs = search needs
 
+enum-told-4 : tie.Need-enum-told-4
+enum-told-4 c = search needs
+
+refusing-requires-4 : tie.Need-refusing-requires-4
+refusing-requires-4 c κs = search needs
+
 returns : tie.Need-returns
 returns c = sym (ap numbers (c .before .answer .given .1))
 
@@ -41,6 +47,9 @@ returns-3 c = c .refusing2 .ensures ∙ sym (told-refusal (c .before .before .be
 returns-4 : tie.Need-returns-4
 returns-4 c = c .refusing3 .ensures ∙ sym (told-refusal (c .before .before .before .args .answer) 2 (c .before .before .match .keys4))
 
+returns-5 : tie.Need-returns-5
+returns-5 c = c .refusing4 .ensures ∙ sym (told-refusal (c .before .before .before .args .answer) 3 (c .before .before .match .keys5))
+
 pub numbers-of-spec : {M : Type 1} → statement M
 numbers-of-spec =
     tie.close
@@ -52,7 +61,10 @@ numbers-of-spec =
     refusing-requires-2
     enum-told-3
     refusing-requires-3
+    enum-told-4
+    refusing-requires-4
     returns
     returns-2
     returns-3
-    returns-4)
+    returns-4
+    returns-5)

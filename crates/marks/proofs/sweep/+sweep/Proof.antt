@@ -11,7 +11,7 @@ use borrow.Author.Needs.{needs}
 use borrow.Fn.Kinds.{In}
 use borrow.Fn.PlainCycle.{Measures, is, falls, and}
 use Rattle.language.specs.Settled.{Settled}
-use Rattle.tree.specs.Leaf.{meaning}
+use Rattle.tree.specs.Leaf.{byteless}
 use Rattle.tables.specs.Words.{word-bits, Holds}
 use Rattle.tables.specs.Plan.{Closes}
 use Rattle.marks.specs.Sweep.Swept.{Sweepable, Tables-sized}
@@ -422,7 +422,7 @@ sweep-loop-again t c =
           (w .before .sweep .kept .1 .1 .1 .1 .1 .1 .1 .0)
           (w .before .sweep .ensures .0 (child .tree) (lent-sweepable _ _ _ _ _ _ _ x child can _ (p .pass .ensures))) _
           _ (c .before .pass2 .ensures) (c .close-from2 .ensures);
-      rests = λ e. subst (λ (l : List ℕ). Settled meaning (child .tree) (Holds (child .tree) l))
+      rests = λ e. subst (λ (l : List ℕ). Settled byteless (child .tree) (Holds (child .tree) l))
           (sym (after-part _ _ _ _ _ _ _ x child can _ (p .pass .ensures) _
           (w .before .sweep .kept .1 .1 .1 .1 .1 .1 .1 .0)
           (w .before .sweep .ensures .0 (child .tree) (lent-sweepable _ _ _ _ _ _ _ x child can _ (p .pass .ensures))) _

@@ -14,6 +14,7 @@ use Rattle.tables.specs.Walking.{
   wide-enough,
   room-kept,
   Of-piece,
+  code-readable,
   visited-stand,
   visited-leaf,
   left-ready,
@@ -31,6 +32,7 @@ use Rattle.tree.proofs.layout.kind_at.Reads as kind-at-reads
 use Rattle.tree.proofs.layout.left_at.Reads as left-at-reads
 use Rattle.tree.proofs.layout.piece_at.Reads as piece-at-reads
 use Rattle.tree.proofs.layout.right_at.Reads as right-at-reads
+use Rattle.tables.proofs.fill.code_at.Reads as code-at-reads
 use Rattle.tables.proofs.fill.leaf.Reads as leaf-reads
 use Rattle.tables.proofs.fill.stand.Reads as stand-reads
 use Rattle.tables.proofs.fill.+fill.{statement}
@@ -53,6 +55,8 @@ fill-claims t = (
   stand-reads.Learnt,
   kind-at-reads.Asked,
   kind-at-reads.Learnt,
+  code-at-reads.Asked,
+  code-at-reads.Learnt,
   leaf-reads.Asked,
   leaf-reads.Learnt,
   left-at-reads.Asked,
@@ -65,14 +69,18 @@ fill-claims t = (
   right-at-reads.Learnt,
 )
 
--- the places that are gone back to: where the call began, where the kind was read, and the calls for the children
+-- the places that are gone back to: where the call began, where code and kind were read, and the calls for the children
 abbrev entry : (t : ℕ) → fill-lts.After-piece-at (fill-claims t) (fill-at t) fill.Post
     → fill-lts.Start (fill-claims t) (fill-at t) fill.Post
 entry t c = c .before .before .before .before .before .before
 
+abbrev code-read : (t : ℕ) → fill-lts.After-fill (fill-claims t) (fill-at t) fill.Post
+    → fill-lts.After-code-at (fill-claims t) (fill-at t) fill.Post
+code-read t c = c .before .before .before .before .before .before .before
+
 abbrev kind-read : (t : ℕ) → fill-lts.After-fill (fill-claims t) (fill-at t) fill.Post
     → fill-lts.After-kind-at (fill-claims t) (fill-at t) fill.Post
-kind-read t c = c .before .before .before .before .before .before .before
+kind-read t c = code-read t c .before
 
 abbrev entry-by-kind : (t : ℕ) → fill-lts.After-kind-at (fill-claims t) (fill-at t) fill.Post
     → fill-lts.Start (fill-claims t) (fill-at t) fill.Post
@@ -136,10 +144,14 @@ fill-kind-at-requires : (t : ℕ) → fill-lts.Need-kind-at-requires (fill-claim
 fill-kind-at-requires t c κs = let within =
     bounds (c .before .before .before .before .before .before .before .pre .1 .sitting) in omega arith
 
+fill-code-at-requires : (t : ℕ) → fill-lts.Need-code-at-requires (fill-claims t) (fill-at t) fill.Post
+fill-code-at-requires t c κs = code-readable (met t c) (entry-by-kind t c .pre .1 .sitting)
+
 fill-leaf-requires : (t : ℕ) → fill-lts.Need-leaf-requires (fill-claims t) (fill-at t) fill.Post
 fill-leaf-requires t c κs =
-    let start = entry-by-kind t (c .before .before .before) in
-    (bounds (start .pre .1 .sitting), wide-enough (start .pre .1 .room))
+    let start = entry-by-kind t (c .before .before .before .before) in
+    let within = bounds (start .pre .1 .sitting) in
+    (omega arith, wide-enough (start .pre .1 .room))
 
 fill-same-length-5 : (t : ℕ) → fill-lts.Need-same-length-5 (fill-claims t) (fill-at t) fill.Post
 fill-same-length-5 t c = search needs
@@ -151,21 +163,23 @@ fill-returns-2 : (t : ℕ) → fill-lts.Need-returns-2 (fill-claims t) (fill-at 
 fill-returns-2 t c =
     let made = c .before .before .before .before in
     let a-leaf = made .before .before .before in
-    visited-leaf (met t (a-leaf .before)) (entry-by-kind t (a-leaf .before) .pre .1 .room) (a-leaf .if2 .taken)
+    let code = a-leaf .before in
+    visited-leaf (met t (code .before)) (code .code-at .ensures) (entry-by-kind t (code .before) .pre .1 .room)
+    (a-leaf .if2 .taken)
     (made .leaf .ensures .0) (made .leaf .ensures .1 .0) (made .leaf .ensures .1 .1)
 
 fill-left-at-requires : (t : ℕ) → fill-lts.Need-left-at-requires (fill-claims t) (fill-at t) fill.Post
-fill-left-at-requires t c κs = let within = bounds (entry-by-kind t (c .before) .pre .1 .sitting) in omega arith
+fill-left-at-requires t c κs = let within = bounds (entry-by-kind t (c .before .before) .pre .1 .sitting) in omega arith
 
 fill-add-fill : (t : ℕ) → fill-lts.Need-add-fill (fill-claims t) (fill-at t) fill.Post
-fill-add-fill t c = let within = bounds (entry-by-kind t (c .before .before) .pre .1 .sitting) in omega arith
+fill-add-fill t c = let within = bounds (entry-by-kind t (c .before .before .before) .pre .1 .sitting) in omega arith
 
 fill-fill-requires : (t : ℕ) → fill-lts.Need-fill-requires (fill-claims t) (fill-at t) fill.Post
 fill-fill-requires t c κs =
     let read = c .before .before .before .before in
-    let kind = read .before .before in
-    let start = entry-by-kind t kind in
-    let ready = left-ready (met t kind) (read .left-at .ensures) (read .before .if2 .left) (start .pre .1) in
+    let code = read .before .before in
+    let start = entry-by-kind t (code .before) in
+    let ready = left-ready (met t (code .before)) (code .code-at .ensures) (read .left-at .ensures) (read .before .if2 .left) (start .pre .1) in
     (subst (λ (k : ℕ). read .left-at .result < k) (start .pre .0) (ready .0), ready .1)
 
 -- the tables that the first call leaves have the same room
@@ -180,7 +194,7 @@ fill-join-requires : (t : ℕ) → fill-lts.Need-join-requires (fill-claims t) (
 fill-join-requires t c κs =
     let made = left-filled t (c .before .before .before) in
     let room = room-left t made in (
-      star-bounds (met t (kind-read t made)) (made .before .before .before .before .before .left-at .ensures)
+      star-bounds (met t (kind-read t made)) (code-read t made .code-at .ensures) (made .before .before .before .before .before .left-at .ensures)
           (made .before .before .before .before .before .before .if2 .left)
           (entry-by-kind t (kind-read t made) .pre .1) room
           (made .fill .ensures) (c .before .before .if3 .taken),
@@ -204,7 +218,7 @@ fill-returns-3 t c =
     let done = c .before .before .before .before in
     let a-star = done .before .before .before in
     let made = left-filled t (a-star .before) in
-    visited-star (met t (kind-read t made)) (made .before .before .before .before .before .left-at .ensures)
+    visited-star (met t (kind-read t made)) (code-read t made .code-at .ensures) (made .before .before .before .before .before .left-at .ensures)
     (made .before .before .before .before .before .before .if2 .left)
     (entry-by-kind t (kind-read t made) .pre .1) (room-left t made)
     (made .fill .ensures) (a-star .if3 .taken) (done .join .ensures .0) (done .join .ensures .1 .0)
@@ -219,7 +233,7 @@ fill-fill-requires-2 t c κs =
     let read = c .before .before .before .before in
     let made = left-filled t (read .before .before) in
     let start = entry-by-kind t (kind-read t made) in
-    let ready = right-ready (met t (kind-read t made)) (made .before .before .before .before .before .left-at .ensures)
+    let ready = right-ready (met t (kind-read t made)) (code-read t made .code-at .ensures) (made .before .before .before .before .before .left-at .ensures)
     (made .before .before .before .before .before .before .if2 .left)
     (entry-by-kind t (kind-read t made) .pre .1)
     (room-left t made) (made .fill .ensures) (read .right-at .ensures) (read .before .if3 .left) in
@@ -238,7 +252,7 @@ fill-join-requires-2 t c κs =
     let last = right-filled t (c .before .before) in
     let made = left-filled t (not-star t last .before) in
     let room = room-right t last in (
-      two-bounds (met t (kind-read t made)) (made .before .before .before .before .before .left-at .ensures)
+      two-bounds (met t (kind-read t made)) (code-read t made .code-at .ensures) (made .before .before .before .before .before .left-at .ensures)
           (made .before .before .before .before .before .before .if2 .left)
           (entry-by-kind t (kind-read t made) .pre .1)
           (room-left t made) (made .fill .ensures) (last .before .before .before .before .before .right-at .ensures)
@@ -263,7 +277,7 @@ fill-returns-4 t c =
     let done = c .before .before .before .before in
     let last = right-filled t (done .before .before .before) in
     let made = left-filled t (not-star t last .before) in
-    visited-two (met t (kind-read t made)) (made .before .before .before .before .before .left-at .ensures)
+    visited-two (met t (kind-read t made)) (code-read t made .code-at .ensures) (made .before .before .before .before .before .left-at .ensures)
     (made .before .before .before .before .before .before .if2 .left)
     (entry-by-kind t (kind-read t made) .pre .1)
     (room-left t made) (made .fill .ensures) (last .before .before .before .before .before .right-at .ensures)
@@ -281,6 +295,7 @@ pub +fill-spec : {M : Type 1} → statement M
     (fill-same-length-4 t)
     (fill-returns t)
     (fill-kind-at-requires t)
+    (fill-code-at-requires t)
     (fill-leaf-requires t)
     (fill-same-length-5 t)
     (fill-same-length-6 t)

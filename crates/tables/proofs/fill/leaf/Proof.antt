@@ -10,12 +10,6 @@ mul-pair c = search needs
 add-pair : tie.Need-add-pair
 add-pair c = search needs
 
-character-at-requires : tie.Need-character-at-requires
-character-at-requires c κs = search needs
-
-code-requires : tie.Need-code-requires
-code-requires c κs = search needs
-
 pair-requires : tie.Need-pair-requires
 pair-requires c κs = search needs
 
@@ -40,8 +34,6 @@ leaf-spec =
     (tie.spec
     mul-pair
     add-pair
-    character-at-requires
-    code-requires
     pair-requires
     add-result
     same-length
