@@ -19,9 +19,10 @@ use Rattle.tree.specs.Leaf.{Leaf}
 use Rattle.tree.specs.Cut.{Cut, Fits, pieces}
 use Rattle.tree.specs.Records.{piece-count}
 use Rattle.tree.specs.Least.{few-exactly}
-use Rattle.reader.specs.Grammar.{Written}
-use Rattle.reader.specs.Scanner.{Outcome, tree, refused, scanned}
-use Rattle.reader.specs.Agree.{scanned-exactly, scanned-refusal, written-size}
+use Rattle.scanner.specs.Bytes.{first}
+use Rattle.scanner.specs.Scanner.{Outcome, tree, refused, scanned}
+use Rattle.reader.specs.Drawn.{drawn}
+use Rattle.reader.specs.DrawnLaws.{Written-as, drawn-exactly, drawn-refusal, drawn-size}
 use Rattle.reader.specs.Answer.{refusing, reading, answer-for, answered}
 
 -- some cut of t with pieces of at most 15 nodes has at most 128 of them
@@ -36,7 +37,7 @@ small-enough-exactly = few-exactly
 pub record Fit-to-read (bytes : List ℕ) (room : ℕ) : Type 0 where
   pub few : length bytes ≤ longest-expression
   pub t : Tree Leaf
-  pub written : Written bytes t
+  pub written : Written-as first bytes t
   pub small : Small-enough t
   pub fits : record-size * nodes t ≤ room
 
@@ -49,13 +50,13 @@ past-both t false true e = absurd (omega arith)
 past-both t false false e = (refl, refl)
 
 -- no refusal, seen from the outcome
-taken-outcome : (bytes : List ℕ) (room : ℕ) (outcome : Outcome) → scanned bytes ≡ outcome
+taken-outcome : (bytes : List ℕ) (room : ℕ) (outcome : Outcome Leaf) → drawn (scanned first bytes) ≡ outcome
     → answer-for outcome room .refusal ≡ 0 → Fit-to-read bytes room
 taken-outcome bytes room (refused number place) scans e =
-    absurd (omega (arith, scanned-refusal bytes number place scans .least))
+    absurd (omega (arith, drawn-refusal first bytes number place scans .least))
 taken-outcome bytes room (tree t) scans e =
     let tests = past-both t (ltb most-pieces (piece-count t)) (ltb room (record-size * nodes t)) e in
-    let (few, written) = scanned-exactly bytes t .0 scans in
+    let (few, written) = drawn-exactly first bytes t .0 scans in
     record {
       few = few;
       t = t;
@@ -68,19 +69,19 @@ taken-outcome bytes room (tree t) scans e =
 fit-taken : (bytes : List ℕ) (room : ℕ) → Fit-to-read bytes room → answered bytes room .refusal ≡ 0
 fit-taken bytes room fit =
     rw (
-      scanned-exactly bytes (fit .t) .1 (fit .few, fit .written),
+      drawn-exactly first bytes (fit .t) .1 (fit .few, fit .written),
       le-ltb most-pieces (piece-count (fit .t)) (small-enough-exactly (fit .t) .1 (fit .small)),
       le-ltb room (record-size * nodes (fit .t)) (fit .fits),
     )
 
 -- an expression is read exactly when it is fit
 pub fit-exactly : (bytes : List ℕ) (room : ℕ) → (answered bytes room .refusal ≡ 0) ↔ Fit-to-read bytes room
-fit-exactly bytes room = (taken-outcome bytes room (scanned bytes) refl, fit-taken bytes room)
+fit-exactly bytes room = (taken-outcome bytes room (drawn (scanned first bytes)) refl, fit-taken bytes room)
 
 -- the expression has at most 1,024 bytes, is written by the grammar, and its tree can be cut into few enough small
 -- pieces
 abbrev pub Expressible : List ℕ → Type 0
-Expressible bytes = (length bytes ≤ longest-expression) × ((t : Tree Leaf) × Written bytes t × Small-enough t)
+Expressible bytes = (length bytes ≤ longest-expression) × ((t : Tree Leaf) × Written-as first bytes t × Small-enough t)
 
 module _ (bytes : List ℕ) (room : ℕ) (enough : record-size * most-labels ≤ room) where
   -- with room for 2,047 records it is read exactly then: it has no more
@@ -89,7 +90,14 @@ module _ (bytes : List ℕ) (room : ℕ) (enough : record-size * most-labels ≤
     λ e. let fit = fit-exactly bytes room .0 e in (fit .few, (fit .t, fit .written, fit .small)),
     λ (few, (t, written, small)).
         fit-exactly bytes room .1
-        (record { few = few; t = t; written = written; small = small; fits = omega (arith, written-size written) }),
+        (record {
+          few = few;
+          t = t;
+          written = written;
+          small = small;
+          fits =
+              omega (arith, drawn-size first bytes t (drawn-exactly first bytes t .1 (few, written)));
+        }),
   )
 
   -- and is refused exactly when not

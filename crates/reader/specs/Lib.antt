@@ -1,19 +1,15 @@
--- What an expression is: the table of refusals as a scanner, the prose as a grammar.
-pub mod Bytes
-pub mod Scanner
-pub mod Grammar
-mod Signs
-mod Complete
-mod Sound
-mod Faults
-pub mod Agree
-pub mod Text
-pub mod Stopping
-pub mod Surroundings
-pub mod Reading
-pub mod Expression
+-- What reading an expression answers, and what it writes: the records of its tree and its class records.
+pub mod Drawn
+pub mod Alike
+pub mod Relabelled
+pub mod DrawnLaws
+pub mod SameLanguage
 pub mod Answer
+pub mod SecondAnswer
 pub mod Kept
+pub mod SecondKept
+pub mod ClassStore
+pub mod Count
 pub mod Store
 pub mod TooLarge
 pub mod Exactly

@@ -16,9 +16,10 @@ use Rattle.tree.specs.Leaf.{Leaf}
 use Rattle.tree.specs.Cut.{Cut, Fits, pieces}
 use Rattle.tree.specs.Records.{piece-count}
 use Rattle.tree.specs.Least.{too-many-exactly}
-use Rattle.reader.specs.Grammar.{Written}
-use Rattle.reader.specs.Scanner.{scanned, tree}
-use Rattle.reader.specs.Agree.{scanned-exactly}
+use Rattle.scanner.specs.Bytes.{first}
+use Rattle.scanner.specs.Scanner.{scanned, tree}
+use Rattle.reader.specs.Drawn.{drawn}
+use Rattle.reader.specs.DrawnLaws.{Written-as, drawn-exactly}
 use Rattle.reader.specs.Answer.{Numbers, refusing, reading, answer-for, answered}
 
 -- of the answers to a tree, only the one for too many pieces has the number 8
@@ -44,10 +45,10 @@ eight-tree t room = (
 -- an expression with no fault in its writing or length is refused as 8 exactly when every cut with pieces of at most 15
 -- nodes has more than 128 pieces
 pub too-large-exactly : (bytes : List ℕ) (room : ℕ) (t : Tree Leaf) → length bytes ≤ longest-expression
-    → Written bytes t
+    → Written-as first bytes t
     → (answered bytes room ≡ refusing too-many-pieces 0) ↔ ((c : Cut t) → Fits t c → most-pieces < pieces t c)
 too-large-exactly bytes room t few w =
-    let scans : scanned bytes ≡ tree t = scanned-exactly bytes t .1 (few, w) in (
+    let scans : drawn (scanned first bytes) ≡ tree t = drawn-exactly first bytes t .1 (few, w) in (
       λ e. too-many-exactly t .0 (eight-tree t room .0 (rw scans at e)),
       λ many. rw scans (eight-tree t room .1 (too-many-exactly t .1 many)),
     )

@@ -1,0 +1,39 @@
+-- `reader::count::count_labels` meets its contract: each answer is that of the tree that the labels are of.
+use native.Mathlib.Omega.{arith}
+use Rattle.reader.specs.Count.{counted-many, counted-few}
+use borrow.Author.Needs.{needs}
+use Rattle.reader.proofs.count.count_labels.Statement.{statement}
+use Rattle.reader.proofs.count.count_labels.Tie as tie
+
+slice-aggregate-piece-count : tie.Need-slice-aggregate-piece-count
+slice-aggregate-piece-count c = search needs
+
+slice-aggregate-piece-count-2 : tie.Need-slice-aggregate-piece-count-2
+slice-aggregate-piece-count-2 c = search needs
+
+slice-aggregate-piece-count-3 : tie.Need-slice-aggregate-piece-count-3
+slice-aggregate-piece-count-3 c = search needs
+
+piece-count-requires : tie.Need-piece-count-requires
+piece-count-requires c κs = search needs
+
+returns : tie.Need-returns
+returns c =
+    let m = c .before .before .before .before in
+    let s = c .before .before .before .before .before .before .before .before .before in
+    counted-many (s .args .labels .now) (m .piece-count .result) (m .piece-count .ensures .1 .count) (omega arith)
+
+class-count-requires : tie.Need-class-count-requires
+class-count-requires c κs = search needs
+
+returns-2 : tie.Need-returns-2
+returns-2 c =
+    let m = c .before .before .before .before .before in
+    let s = c .before .before .before .before .before .before .before .before .before .before in
+    counted-few (s .args .labels .now) (m .piece-count .result) (m .piece-count .ensures .1 .count)
+    (c .before .if1 .left) (c .class-count .result) (c .class-count .ensures)
+
+pub count-labels-spec : {M : Type 1} → statement M
+count-labels-spec =
+    tie.close (tie.spec slice-aggregate-piece-count slice-aggregate-piece-count-2 slice-aggregate-piece-count-3
+    piece-count-requires returns class-count-requires returns-2)

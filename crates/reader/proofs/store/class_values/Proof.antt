@@ -1,0 +1,54 @@
+-- `reader::store::class_values` meets its contract: the values of the dot, or of the class that is read again.
+use mathlib.Core.Path.{_∙_}
+use native.Mathlib.Omega.{arith}
+use Rattle.classes.specs.ClassItems.{dot-at, dot-members, members-at, inside-at}
+use borrow.Author.Needs.{needs}
+use Rattle.reader.proofs.store.class_values.Statement.{statement}
+use Rattle.reader.proofs.store.class_values.Tie as tie
+
+shared-slice-read-if1 : tie.Need-shared-slice-read-if1
+shared-slice-read-if1 c =
+    let s = c .before .before .before in inside-at (s .args .expr .now) (s .args .at) (s .pre .0)
+
+fill-requires : tie.Need-fill-requires
+fill-requires c κs = search needs
+
+put-requires : tie.Need-put-requires
+put-requires c κs =
+    let s = c .before .before .before .before .before .before .before .before .before in
+    (omega arith, omega (arith, c .before .before .before .fill .kept .0, s .pre .1))
+
+same-length : tie.Need-same-length
+same-length c = search needs
+
+returns : tie.Need-returns
+returns c =
+    let s = c .before .before .before .before .before .before .before .before .before .before .before .before in
+    let f = c .before .before .before .before .before .before in
+    let p = c .before .before in
+    rw (dot-at (s .args .expr .now) (s .args .at)
+    (c .before .before .before .before .before .before .before .before .if1 .taken))
+    (dot-members (f .fill .last .0) (p .put .last .0) (f .fill .kept .0
+    ∙ s .pre .1) (f .fill .ensures) (p .put .kept .0)
+    (p .put .ensures))
+
+class-members-requires : tie.Need-class-members-requires
+class-members-requires c κs =
+    let s = c .before .before .before .before .before in
+    (inside-at (s .args .expr .now) (s .args .at) (s .pre .0), s .pre .1)
+
+same-length-2 : tie.Need-same-length-2
+same-length-2 c = search needs
+
+returns-2 : tie.Need-returns-2
+returns-2 c =
+    let s = c .before .before .before .before .before .before .before .before in
+    let m = c .before .before in
+    members-at (s .args .expr .now) (s .args .at) (m .class-members .last .1 .1 .0) (m .class-members .result)
+    (s .pre .0)
+    (c .before .before .before .before .if1 .left) (m .class-members .ensures)
+
+pub class-values-spec : {M : Type 1} → statement M
+class-values-spec =
+    tie.close (tie.spec shared-slice-read-if1 fill-requires put-requires same-length returns class-members-requires
+    same-length-2 returns-2)

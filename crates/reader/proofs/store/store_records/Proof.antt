@@ -1,0 +1,56 @@
+-- `reader::store::store_records` meets its contract: the tree is measured, and its records are written.
+
+use borrow.Author.Needs.{needs}
+use Rattle.reader.proofs.store.store_records.Statement.{statement}
+use Rattle.reader.proofs.store.store_records.Tie as tie
+
+slice-aggregate-piece-count : tie.Need-slice-aggregate-piece-count
+slice-aggregate-piece-count c = search needs
+
+slice-aggregate-piece-count-2 : tie.Need-slice-aggregate-piece-count-2
+slice-aggregate-piece-count-2 c = search needs
+
+slice-aggregate-piece-count-3 : tie.Need-slice-aggregate-piece-count-3
+slice-aggregate-piece-count-3 c = search needs
+
+piece-count-requires : tie.Need-piece-count-requires
+piece-count-requires c κs = search needs
+
+slice-aggregate-write-records : tie.Need-slice-aggregate-write-records
+slice-aggregate-write-records c = search needs
+
+slice-aggregate-write-records-2 : tie.Need-slice-aggregate-write-records-2
+slice-aggregate-write-records-2 c = search needs
+
+slice-aggregate-write-records-3 : tie.Need-slice-aggregate-write-records-3
+slice-aggregate-write-records-3 c = search needs
+
+write-records-requires : tie.Need-write-records-requires
+write-records-requires c κs =
+    let m = c .before .before .before .before .before .before .before in
+    let s = c .before .before .before .before .before .before .before .before .before .before .before .before .before in (
+      s .pre .0,
+      (
+        s .pre .1 .0,
+        (
+          record {
+            for-sizes = m .piece-count .kept .1 .0;
+            for-opens = m .piece-count .kept .1 .1 .0;
+            for-cuts = m .piece-count .kept .1 .1 .1 .0;
+          },
+          (m .piece-count .ensures .0, s .pre .1 .1),
+        ),
+      ),
+    )
+
+same-length : tie.Need-same-length
+same-length c = search needs
+
+returns : tie.Need-returns
+returns c = c .before .before .write-records .ensures
+
+pub store-records-spec : {M : Type 1} → statement M
+store-records-spec =
+    tie.close (tie.spec slice-aggregate-piece-count slice-aggregate-piece-count-2 slice-aggregate-piece-count-3
+    piece-count-requires slice-aggregate-write-records slice-aggregate-write-records-2
+    slice-aggregate-write-records-3 write-records-requires same-length returns)

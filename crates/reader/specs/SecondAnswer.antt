@@ -1,0 +1,105 @@
+-- What `read_second` answers and what it leaves in the two buffers, by the table of refusals.
+use Prim.Native.Nat.{ℕ, _*_}
+use mathlib.Core.Bool.{Bool, true, false, cond}
+use mathlib.Core.List.{List, _++_}
+use lib.ListN.{length, drop}
+use lib.Dec.{ltb}
+use Rattle.language.specs.Tree.{Tree, nodes}
+use Rattle.tree.specs.RefusalNumbers.{too-many-pieces, buffer-too-short, class-buffer-too-short}
+use Rattle.tree.specs.Limits.{most-pieces}
+use Rattle.tree.specs.Layout.{record-size, class-record-size}
+use Rattle.tree.specs.Records.{encode, piece-count}
+use Rattle.scanner.specs.Bytes.{second}
+use Rattle.scanner.specs.Scanner.{Atom, Outcome, tree, refused, scanned}
+use Rattle.reader.specs.Drawn.{classes-of, classes-in, recorded}
+use Rattle.classes.specs.Packed.{encode-classes}
+use Rattle.reader.specs.declared.answer.CountedAnswer.{CountedAnswer}
+use Rattle.reader.specs.declared.answer.CountedAnswer.the-variants.{Counted, Refused}
+
+-- the numbers given back: the refusal's number, 0 for none, and its place; the counts of records, pieces and classes
+pub record Counted-numbers : Type 0 where
+  pub refusal : ℕ
+  pub place : ℕ
+  pub records : ℕ
+  pub pieces : ℕ
+  pub classes : ℕ
+
+-- a refusal answers its number and place, and counts of 0
+abbrev pub refusing-counts : (number place : ℕ) → Counted-numbers
+refusing-counts number place = record { refusal = number; place = place; records = 0; pieces = 0; classes = 0 }
+
+-- t is counted
+abbrev pub counting : Tree Atom → Counted-numbers
+counting t =
+    record {
+      refusal = 0;
+      place = 0;
+      records = nodes (recorded t);
+      pieces = piece-count (recorded t);
+      classes = classes-in t;
+    }
+
+-- the numbers that each case of an answer gives back
+abbrev pub counted-numbers : CountedAnswer → Counted-numbers
+counted-numbers (Counted records pieces classes) =
+    record { refusal = 0; place = 0; records = records; pieces = pieces; classes = classes }
+counted-numbers (Refused number place) = refusing-counts number place
+
+-- the cut of the tree has more than 128 pieces
+abbrev pub too-many : Tree Atom → Bool
+too-many t = ltb most-pieces (piece-count (recorded t))
+
+-- the record buffer is shorter than the records, the class buffer than the class records
+abbrev pub too-short : Tree Atom → (room : ℕ) → Bool
+too-short t room = ltb room (record-size * nodes (recorded t))
+
+abbrev pub too-few-classes : Tree Atom → (class-room : ℕ) → Bool
+too-few-classes t class-room = ltb class-room (class-record-size * classes-in t)
+
+-- what is counted for an expression's outcome: 8 where the cut has more than 128 pieces, else the counts
+abbrev pub checked-for : Outcome Atom → Counted-numbers
+checked-for (refused number place) = refusing-counts number place
+checked-for (tree t) = cond (too-many t) (refusing-counts too-many-pieces 0) (counting t)
+
+-- of these two the first where nothing of 8, 9 and 15 stands against writing, in this order; else by the number
+abbrev pub pick-stored : {A : Type 0} → (many short few : Bool) → (refuses : ℕ → A) → A → A
+pick-stored many short few refuses done =
+    cond many (refuses too-many-pieces)
+    (cond short (refuses buffer-too-short)
+    (cond few (refuses class-buffer-too-short) done))
+
+-- what is answered for an expression's outcome, with a record buffer of `room` bytes and a class buffer of
+-- `class-room`: 8 where the cut has more than 128 pieces, then 9 where the records do not fit, then 15 where the class
+-- records do not
+abbrev pub second-answer-for : Outcome Atom → (room class-room : ℕ) → Counted-numbers
+second-answer-for (refused number place) room class-room = refusing-counts number place
+second-answer-for (tree t) room class-room =
+    pick-stored (too-many t) (too-short t room) (too-few-classes t class-room) (λ number. refusing-counts number 0)
+    (counting t)
+
+-- what the record buffer holds afterwards: the records, and past them what it held; the same as before on a refusal
+abbrev pub second-records-for : Outcome Atom → (records classes : List ℕ) → List ℕ
+second-records-for (refused number place) records classes = records
+second-records-for (tree t) records classes =
+    pick-stored (too-many t) (too-short t (length records)) (too-few-classes t (length classes)) (λ number. records)
+    (encode (recorded t) ++ drop (record-size * nodes (recorded t)) records)
+
+-- what the class buffer holds afterwards: the class records, and past them what it held; the same as before on a
+-- refusal
+abbrev pub second-classes-for : Outcome Atom → (records classes : List ℕ) → List ℕ
+second-classes-for (refused number place) records classes = classes
+second-classes-for (tree t) records classes =
+    pick-stored (too-many t) (too-short t (length records)) (too-few-classes t (length classes)) (λ number. classes)
+    (encode-classes (classes-of t) ++ drop (class-record-size * classes-in t) classes)
+
+-- what `read_second` answers for these bytes and buffers of these lengths
+abbrev pub second-answered : List ℕ → (room class-room : ℕ) → Counted-numbers
+second-answered bytes room class-room = second-answer-for (scanned second bytes) room class-room
+
+-- what `read_second` leaves in the record buffer
+abbrev pub second-records-after : List ℕ → (records classes : List ℕ) → List ℕ
+second-records-after bytes records classes = second-records-for (scanned second bytes) records classes
+
+-- what `read_second` leaves in the class buffer
+abbrev pub second-classes-after : List ℕ → (records classes : List ℕ) → List ℕ
+second-classes-after bytes records classes = second-classes-for (scanned second bytes) records classes

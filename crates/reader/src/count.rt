@@ -1,0 +1,76 @@
+// Reading and counting: what can be said of an expression with no buffer lent.
+use crate::answer::CountedAnswer;
+use scanner::expression::expression;
+use scanner::part::Part;
+use tree::layout::CLASS_LABEL;
+use tree::limits::MOST_PIECES;
+use tree::limits::SLOT_COUNT;
+use tree::number::piece_count;
+use tree::refusal_numbers::TOO_MANY_PIECES;
+ghost use mathlib.Core.Path.{_≡_};
+ghost use mathlib.Core.List.{[], _∷_};
+ghost use Prim.Native.Nat.{_≤_};
+ghost use lib.ListN.{length};
+ghost use Rattle.tree.specs.Limits.{most-labels};
+ghost use Rattle.tree.specs.Measured.{Postorder};
+ghost use Rattle.scanner.specs.Bytes.{syntax-of};
+ghost use Rattle.reader.specs.Relabelled.{class-labels};
+ghost use Rattle.reader.specs.Count.{Labels-counted, Count-answer};
+
+// 1 for the label of a class leaf.
+fn one_if_class(label: u16) -> usize
+    ensures { λ r. ⌜ r ≡ class-labels (label ∷ []) ⌝ }
+{
+    if label % 8 == CLASS_LABEL {
+        return 1;
+    }
+    0
+}
+
+// How many labels are those of class leaves.
+fn class_count(labels: &[u16]) -> usize
+    ensures { λ r. ⌜ r ≡ class-labels (now (labels .entry)) ⌝ }
+{
+    let mut count = 0;
+    let mut i = 0;
+    while i < labels.len() {
+        count += one_if_class(labels[i]);
+        i += 1;
+    }
+    count
+}
+
+// Counts records, pieces and classes of the tree with these labels: 8 where it has too many pieces.
+fn count_labels(labels: &[u16]) -> CountedAnswer
+    requires tree { ⌜ Postorder (now labels) ⌝ }
+    requires few { ⌜ length (now labels) ≤ most-labels ⌝ }
+    ensures { λ r. ⌜ Labels-counted (now (labels .entry)) r ⌝ }
+{
+    let mut sizes = [0u16; SLOT_COUNT];
+    let mut opens = [0u16; SLOT_COUNT];
+    let mut cuts = [0u16; SLOT_COUNT];
+    let pieces = piece_count(labels, &mut sizes, &mut opens, &mut cuts);
+    if pieces > MOST_PIECES {
+        return CountedAnswer::Refused {
+            number: TOO_MANY_PIECES,
+            place: 0,
+        };
+    }
+    CountedAnswer::Counted {
+        records: labels.len(),
+        pieces,
+        classes: class_count(labels),
+    }
+}
+
+// Reads an expression into the labels of its tree and counts: every refusal that needs no buffer.
+pub fn count(expr: &[u8], labels: &mut [u16], second: bool) -> CountedAnswer
+    requires { ⌜ most-labels ≡ length (now labels) ⌝ }
+    ensures { λ r. ⌜ Count-answer (syntax-of second) (now (expr .entry)) (now (labels .exit)) r ⌝ }
+{
+    let whole = expression(expr, labels, second);
+    match whole {
+        Part::Refused { number, place } => CountedAnswer::Refused { number, place },
+        Part::Read { next: _, count } => count_labels(&labels[..count]),
+    }
+}

@@ -1,0 +1,108 @@
+-- The proof of the cycle of the readers of an operand, a catenation and a union, which call each other.
+use Rattle.scanner.proofs.catenation.catenation.Reads as catenation
+use Rattle.scanner.proofs.operand.operand.Reads as operand
+use Rattle.scanner.proofs.union.union.Reads as union
+use Rattle.scanner.proofs.+catenation-catenation+operand-operand+union-union.Lts-catenation-catenation as
+    catenation-lts
+use Rattle.scanner.proofs.+catenation-catenation+operand-operand+union-union.Lts-operand-operand as operand-lts
+use Rattle.scanner.proofs.+catenation-catenation+operand-operand+union-union.Lts-union-union as union-lts
+use Rattle.scanner.proofs.+catenation-catenation+operand-operand+union-union.{statement}
+use Rattle.scanner.proofs.+catenation-catenation+operand-operand+union-union.Tie.{close}
+use Rattle.scanner.proofs.+catenation-catenation+operand-operand+union-union.Proof.Base.{
+  μ-operand,
+  μ-catenation,
+  μ-union,
+  operand-at,
+  catenation-at,
+  union-at,
+  operand-claims,
+  catenation-claims,
+  union-claims,
+}
+use Rattle.scanner.proofs.+catenation-catenation+operand-operand+union-union.Proof.Operand as the-operand
+use Rattle.scanner.proofs.+catenation-catenation+operand-operand+union-union.Proof.Catenation as the-catenation
+use Rattle.scanner.proofs.+catenation-catenation+operand-operand+union-union.Proof.Union as the-union
+mod Base
+mod Operand
+mod Catenation
+mod Union
+
+pub +catenation·catenation+operand·operand+union·union-spec : {M : Type 1} → statement M
++catenation·catenation+operand·operand+union·union-spec =
+    close
+    μ-catenation
+    μ-operand
+    μ-union
+    (λ t. catenation-lts.spec (catenation-claims t) (catenation-at t) catenation.Post the-catenation.Inv-loop
+    the-catenation.μ-loop
+    (the-catenation.operand-requires t)
+    (the-catenation.enum-known-first t)
+    (the-catenation.enum-told t)
+    (the-catenation.same-length t)
+    (the-catenation.returns t)
+    (the-catenation.loop-holds t)
+    (the-catenation.shared-slice-read-byte t)
+    (the-catenation.operand-requires-2 t)
+    (the-catenation.enum-known-part t)
+    (the-catenation.enum-told-2 t)
+    (the-catenation.same-length-2 t)
+    (the-catenation.returns-2 t)
+    (the-catenation.mul-labels t)
+    (the-catenation.slice-write-labels t)
+    (the-catenation.add-n t)
+    (the-catenation.loop-less t)
+    (the-catenation.loop-again t)
+    (the-catenation.same-length-3 t)
+    (the-catenation.returns-3 t)
+    (the-catenation.same-length-4 t)
+    (the-catenation.returns-4 t)
+    (the-catenation.same-length-5 t)
+    (the-catenation.returns-5 t))
+    (λ t. operand-lts.spec (operand-claims t) (operand-at t) operand.Post
+    (the-operand.returns t)
+    (the-operand.shared-slice-read-if2 t)
+    (the-operand.returns-2 t)
+    (the-operand.add-union t)
+    (the-operand.add-union-2 t)
+    (the-operand.union-requires t)
+    (the-operand.enum-known-inner t)
+    (the-operand.enum-told t)
+    (the-operand.same-length t)
+    (the-operand.returns-3 t)
+    (the-operand.same-length-2 t)
+    (the-operand.returns-4 t)
+    (the-operand.add-stars t)
+    (the-operand.stars-requires t)
+    (the-operand.same-length-3 t)
+    (the-operand.returns-5 t)
+    (the-operand.single-requires t)
+    (the-operand.enum-known-part t)
+    (the-operand.enum-told-2 t)
+    (the-operand.same-length-4 t)
+    (the-operand.returns-6 t)
+    (the-operand.stars-requires-2 t)
+    (the-operand.same-length-5 t)
+    (the-operand.returns-7 t))
+    (λ t. union-lts.spec (union-claims t) (union-at t) union.Post the-union.Inv-loop the-union.μ-loop
+    (the-union.catenation-requires t)
+    (the-union.enum-known-first t)
+    (the-union.enum-told t)
+    (the-union.same-length t)
+    (the-union.returns t)
+    (the-union.loop-holds t)
+    (the-union.shared-slice-read-if1 t)
+    (the-union.add-catenation t)
+    (the-union.catenation-requires-2 t)
+    (the-union.enum-known-part t)
+    (the-union.enum-told-2 t)
+    (the-union.same-length-2 t)
+    (the-union.returns-2 t)
+    (the-union.mul-labels t)
+    (the-union.slice-write-labels t)
+    (the-union.add-n t)
+    (the-union.loop-less t)
+    (the-union.loop-again t)
+    (the-union.same-length-3 t)
+    (the-union.returns-3 t)
+    (the-union.same-length-4 t)
+    (the-union.returns-4 t))

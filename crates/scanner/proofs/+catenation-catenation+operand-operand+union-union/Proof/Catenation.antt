@@ -1,0 +1,195 @@
+-- `reader::catenation::catenation`. The loop's invariant: what was read where the loop begins is read on up to `place`,
+-- and an operand ends there.
+use Prim.Native.Nat.{ℕ, _-_}
+use mathlib.Core.Path.{_≡_, refl, _∙_}
+use native.Mathlib.Omega.{arith}
+use borrow.Author.Needs.{needs}
+use lib.ListN.{length, getD, length-set}
+use mathlib.Core.Bool.{true}
+use Rattle.scanner.specs.Bytes.{syntax-of, sign-of}
+use Rattle.scanner.specs.Grammar.{starred, joined}
+use Rattle.scanner.specs.Stopping.{Stops, at-end, beginning, stops-at, begins-next}
+use Rattle.scanner.specs.Surroundings.{fails-joined, fails-factor}
+use Rattle.scanner.specs.Reading.{Carries, Whole, Read-up-to, went-joined, went-factor}
+use Rattle.scanner.proofs.catenation.catenation.Reads as catenation
+use Rattle.scanner.proofs.+catenation-catenation+operand-operand+union-union.Lts-catenation-catenation as lts
+use Rattle.scanner.proofs.+catenation-catenation+operand-operand+union-union.Proof.Base.{
+  catenation-at,
+  catenation-claims,
+}
+
+abbrev pub Inv-loop : lts.InvT-loop
+Inv-loop expr at depth labels₀ count second next count' place₀ n₀ labels place n =
+    Carries (syntax-of second) joined expr depth place₀ n₀ labels₀ place n labels
+    × Stops (syntax-of second) starred expr place × (length labels ≡ length labels₀)
+
+abbrev pub μ-loop : lts.MeasureT-loop
+μ-loop expr at depth labels₀ count second next count' place₀ n₀ labels place n = length expr - place
+
+-- the places that the needs go back to: the entry, after the first part, at the loop's head, at the next operand,
+-- after it
+abbrev Start : ℕ → Type 0
+Start t = lts.Start (catenation-claims t) (catenation-at t) catenation.Post Inv-loop μ-loop
+
+abbrev After-first : ℕ → Type 0
+After-first t = lts.After-known-told (catenation-claims t) (catenation-at t) catenation.Post Inv-loop μ-loop
+
+abbrev At-head : ℕ → Type 0
+At-head t = lts.At-loop (catenation-claims t) (catenation-at t) catenation.Post Inv-loop μ-loop
+
+abbrev At-operand : ℕ → Type 0
+At-operand t = lts.Else2 (catenation-claims t) (catenation-at t) catenation.Post Inv-loop μ-loop
+
+abbrev After-next : ℕ → Type 0
+After-next t = lts.After-known-told2 (catenation-claims t) (catenation-at t) catenation.Post Inv-loop μ-loop
+
+abbrev start-of : (t : ℕ) → After-first t → Start t
+start-of t c = c .before .before .before .before .before .before .before .before .before
+
+abbrev operand-of : (t : ℕ) → After-next t → At-operand t
+operand-of t c = c .before .before .before .before .before .before .before
+
+abbrev head-of : (t : ℕ) → After-next t → At-head t
+head-of t c = operand-of t c .before .before .before .before
+
+-- the first part was read
+first-read : (t : ℕ) (c : After-first t)
+    → let s = start-of t c in
+    Whole (syntax-of (s .args .second)) starred (s .args .expr .now) (s .args .depth) (s .args .at) (s .args .count)
+    (s .args .labels .now) (c .before .first .given .0 .0) (c .before .first .given .0 .1 .0)
+    (c .before .before .before .before .before .operand .last .1 .1 .1 .0)
+first-read t c = rw (c .before .first .given .1) at (c .before .before .before .before .before .operand .ensures)
+
+-- what was read up to the loop's place
+here : (t : ℕ) (c : At-head t)
+    → let s = start-of t (c .before) in
+    Read-up-to (syntax-of (s .args .second)) joined (s .args .expr .now) (s .args .depth) (s .args .at) (s .args .count)
+    (s .args .labels .now) (c .loop .place) (c .loop .n) (c .loop .labels)
+here t c = c .loop .inv .0 .on _ _ _ (went-joined (first-read t (c .before) .went))
+
+-- the next part was read
+part-read : (t : ℕ) (c : After-next t)
+    → let s = start-of t (head-of t c .before) in
+    let l = head-of t c .loop in
+    Whole (syntax-of (s .args .second)) starred (s .args .expr .now) (s .args .depth) (l .place) (l .n) (l .labels)
+    (c .before .part .given .0 .0) (c .before .part .given .0 .1 .0)
+    (c .before .before .before .before .before .operand2 .last .1 .1 .1 .0)
+part-read t c = rw (c .before .part .given .1) at (c .before .before .before .before .before .operand2 .ensures)
+
+-- after both tests the next operand begins at the loop's place
+operand-begins : (t : ℕ) (c : At-operand t)
+    → let l = c .before .before .before .before in
+    let s = start-of t (l .before) in
+    beginning (sign-of (syntax-of (s .args .second)) (getD (s .args .expr .now) (l .loop .place) 0)) ≡ true
+operand-begins t c =
+    let l = c .before .before .before .before in
+    begins-next _ (start-of t (l .before) .args .expr .now) (l .loop .place)
+    (c .before .before .before .loop-test .taken) (c .before .if1 .left) (c .if2 .left) (l .loop .inv .1)
+
+pub operand-requires : (t : ℕ) → lts.Need-operand-requires (catenation-claims t) (catenation-at t) catenation.Post
+    Inv-loop μ-loop
+operand-requires t c κs = search needs
+
+pub enum-known-first : (t : ℕ) → lts.Need-enum-known-first (catenation-claims t) (catenation-at t) catenation.Post
+    Inv-loop μ-loop
+enum-known-first t c = search needs
+
+pub enum-told : (t : ℕ) → lts.Need-enum-told (catenation-claims t) (catenation-at t) catenation.Post Inv-loop μ-loop
+enum-told t c = search needs
+
+pub same-length : (t : ℕ) → lts.Need-same-length (catenation-claims t) (catenation-at t) catenation.Post Inv-loop μ-loop
+same-length t c = search needs
+
+pub returns : (t : ℕ) → lts.Need-returns (catenation-claims t) (catenation-at t) catenation.Post Inv-loop μ-loop
+returns t c =
+    let e = c .enum-told .given .1 in
+    rw e (fails-joined _ _
+    (rw e at (c .before .before .before .before .operand .ensures)))
+
+pub loop-holds : (t : ℕ) → lts.Need-loop-holds (catenation-claims t) (catenation-at t) catenation.Post Inv-loop μ-loop
+loop-holds t c = (record { on = λ at first start w. w }, first-read t c .stops, refl)
+
+pub shared-slice-read-byte : (t : ℕ)
+    → lts.Need-shared-slice-read-byte (catenation-claims t) (catenation-at t) catenation.Post Inv-loop μ-loop
+shared-slice-read-byte t c = search needs
+
+pub operand-requires-2 : (t : ℕ) → lts.Need-operand-requires-2 (catenation-claims t) (catenation-at t) catenation.Post
+    Inv-loop μ-loop
+operand-requires-2 t c κs = let w = here t (c .before .before .before .before .before) in omega arith
+
+pub enum-known-part : (t : ℕ) → lts.Need-enum-known-part (catenation-claims t) (catenation-at t) catenation.Post
+    Inv-loop μ-loop
+enum-known-part t c = search needs
+
+pub enum-told-2 : (t : ℕ) → lts.Need-enum-told-2 (catenation-claims t) (catenation-at t) catenation.Post Inv-loop μ-loop
+enum-told-2 t c = search needs
+
+pub same-length-2 : (t : ℕ) → lts.Need-same-length-2 (catenation-claims t) (catenation-at t) catenation.Post Inv-loop
+    μ-loop
+same-length-2 t c = search needs
+
+pub returns-2 : (t : ℕ) → lts.Need-returns-2 (catenation-claims t) (catenation-at t) catenation.Post Inv-loop μ-loop
+returns-2 t c =
+    let e = c .enum-told2 .given .1 in
+    let o = c .before .before .before .before .before .before in
+    let l = o .before .before .before .before in
+    rw e (fails-factor _ _ (l .loop .place) (here t l .leads) (o .before .before .before .loop-test .taken)
+    (operand-begins t o) (rw e at (c .before .before .before .before .operand2 .ensures)))
+
+pub mul-labels : (t : ℕ) → lts.Need-mul-labels (catenation-claims t) (catenation-at t) catenation.Post Inv-loop μ-loop
+mul-labels t c = let w = here t (head-of t c) in let r = part-read t c in omega arith
+
+pub slice-write-labels : (t : ℕ) → lts.Need-slice-write-labels (catenation-claims t) (catenation-at t) catenation.Post
+    Inv-loop μ-loop
+slice-write-labels t c = let w = here t (head-of t c) in let r = part-read t c in omega arith
+
+pub add-n : (t : ℕ) → lts.Need-add-n (catenation-claims t) (catenation-at t) catenation.Post Inv-loop μ-loop
+add-n t c = let w = here t (head-of t c) in let r = part-read t c in omega arith
+
+pub loop-less : (t : ℕ) → lts.Need-loop-less (catenation-claims t) (catenation-at t) catenation.Post Inv-loop μ-loop
+loop-less t c = let w = here t (head-of t c) in let r = part-read t c in omega arith
+
+pub loop-again : (t : ℕ) → lts.Need-loop-again (catenation-claims t) (catenation-at t) catenation.Post Inv-loop μ-loop
+loop-again t c =
+    let l = head-of t c in
+    let o = operand-of t c in
+    let r = part-read t c in (
+      record {
+        on = λ at first start w. went-factor (l .loop .inv .0 .on at first start w)
+            (o .before .before .before .loop-test .taken) (operand-begins t o) r (slice-write-labels t c);
+      },
+      r .stops,
+      simp length-set (c .before .before .before .before .before .operand2 .kept .1 .1 .1 .0 ∙ l .loop .inv .2),
+    )
+
+pub same-length-3 : (t : ℕ) → lts.Need-same-length-3 (catenation-claims t) (catenation-at t) catenation.Post Inv-loop
+    μ-loop
+same-length-3 t c = search needs
+
+pub returns-3 : (t : ℕ) → lts.Need-returns-3 (catenation-claims t) (catenation-at t) catenation.Post Inv-loop μ-loop
+returns-3 t c = let w = here t (c .before) in record { went = w; stops = at-end (omega arith) }
+
+pub same-length-4 : (t : ℕ) → lts.Need-same-length-4 (catenation-claims t) (catenation-at t) catenation.Post Inv-loop
+    μ-loop
+same-length-4 t c = search needs
+
+pub returns-4 : (t : ℕ) → lts.Need-returns-4 (catenation-claims t) (catenation-at t) catenation.Post Inv-loop μ-loop
+returns-4 t c =
+    let l = c .before .before .before in
+    record {
+      went = here t l;
+      stops = stops-at _ _ (l .loop .place) (c .before .before .loop-test .taken)
+          (c .if1 .taken) refl;
+    }
+
+pub same-length-5 : (t : ℕ) → lts.Need-same-length-5 (catenation-claims t) (catenation-at t) catenation.Post Inv-loop
+    μ-loop
+same-length-5 t c = search needs
+
+pub returns-5 : (t : ℕ) → lts.Need-returns-5 (catenation-claims t) (catenation-at t) catenation.Post Inv-loop μ-loop
+returns-5 t c =
+    let l = c .before .before .before .before in
+    record {
+      went = here t l;
+      stops = stops-at _ _ (l .loop .place) (c .before .before .before .loop-test .taken) (c .if2 .taken) refl;
+    }

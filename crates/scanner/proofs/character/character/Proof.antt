@@ -1,0 +1,107 @@
+-- `reader::character::character` meets its contract: each answer is one step of the scanner, or two after a `\`.
+use Prim.Native.Nat.{ℕ}
+use mathlib.Core.Path.{_≡_, sym, ap, _∙_}
+use mathlib.Core.List.{List}
+use native.Mathlib.Omega.{arith}
+use lib.ListN.{set}
+use Rattle.tree.specs.Leaf.{character}
+use Rattle.scanner.specs.Stopping.{not-special}
+use Rattle.scanner.specs.Surroundings.{leads-plain, leads-escaped, fails-escaped, fails-last, fails-special}
+use Rattle.scanner.specs.Reading.{leaf-read}
+use borrow.Author.Needs.{needs}
+use Rattle.scanner.proofs.character.character.Statement.{statement}
+use Rattle.scanner.proofs.character.character.Tie as tie
+
+shared-slice-read-byte : tie.Need-shared-slice-read-byte
+shared-slice-read-byte c = search needs
+
+add-place : tie.Need-add-place
+add-place c = search needs
+
+returns : tie.Need-returns
+returns c =
+    let s = c .before .before .before .before .before in
+    record {
+      fails = λ depth. fails-last _ (s .args .expr .now) depth (s .args .at) (c .if2 .taken) (c .before .if1 .taken);
+    }
+
+shared-slice-read-escaped : tie.Need-shared-slice-read-escaped
+shared-slice-read-escaped c = search needs
+
+is-special-requires : tie.Need-is-special-requires
+is-special-requires c κs = search needs
+
+label-of-requires : tie.Need-label-of-requires
+label-of-requires c κs = search needs
+
+add-leaf : tie.Need-add-leaf
+add-leaf c = search needs
+
+leaf-requires : tie.Need-leaf-requires
+leaf-requires c κs = search needs
+
+same-length : tie.Need-same-length
+same-length c = search needs
+
+returns-2 : tie.Need-returns-2
+returns-2 c =
+    let tested = c .before .before .before .before .before .before in
+    let escape = c .before .before .before .before .before .before .before .before .before in
+    let s = c .before .before .before .before .before .before .before .before .before .before .before .before .before in
+    let l = c .before .before in
+    let label = c .before .before .before .before .label-of .ensures in
+    let special = sym (tested .is-special .ensures) ∙ c .before .before .before .before .before .if3 .taken in
+    leaf-read (s .args .labels .now) _ (character _) tt
+    (λ depth. leads-escaped _ (s .args .expr .now) depth (s .args .at) (omega arith) (escape .if1 .taken) special)
+    (omega arith) (omega arith) (omega arith) (l .leaf .ensures .0)
+    (l .leaf .ensures .1 ∙ ap (λ (n : ℕ). set (s .args .labels .now) (s .args .count) n) label)
+
+returns-3 : tie.Need-returns-3
+returns-3 c =
+    let s = c .before .before .before .before .before .before .before .before in
+    record {
+      fails = λ depth. fails-escaped _ (s .args .expr .now) depth (s .args .at) (omega arith)
+          (c .before .before .before .before .if1 .taken) (sym (c .before .is-special .ensures) ∙ c .if3 .left);
+    }
+
+is-special-requires-2 : tie.Need-is-special-requires-2
+is-special-requires-2 c κs = search needs
+
+returns-4 : tie.Need-returns-4
+returns-4 c =
+    let s = c .before .before .before .before .before .before in
+    record {
+      fails = λ depth. fails-special _ (s .args .expr .now) depth (s .args .at) (s .pre .0) (s .pre .1 .0)
+          (c .before .before .if1 .left) (s .pre .1 .1 .0) (sym (c .before .is-special2 .ensures) ∙ c .if4 .taken);
+    }
+
+label-of-requires-2 : tie.Need-label-of-requires-2
+label-of-requires-2 c κs = search needs
+
+add-leaf-2 : tie.Need-add-leaf-2
+add-leaf-2 c = search needs
+
+leaf-requires-2 : tie.Need-leaf-requires-2
+leaf-requires-2 c κs = search needs
+
+same-length-2 : tie.Need-same-length-2
+same-length-2 c = search needs
+
+returns-5 : tie.Need-returns-5
+returns-5 c =
+    let tested = c .before .before .before .before .before .before in
+    let s = c .before .before .before .before .before .before .before .before .before .before .before in
+    let l = c .before .before in
+    let label = c .before .before .before .before .label-of2 .ensures in
+    let itself = not-special _ (sym (tested .is-special2 .ensures)
+    ∙ c .before .before .before .before .before .if4 .left) in
+    leaf-read (s .args .labels .now) _ (character _) tt
+    (λ depth. leads-plain _ (s .args .expr .now) depth (s .args .at) (s .pre .0) itself) (omega arith) (omega arith)
+    (omega arith) (l .leaf2 .ensures .0)
+    (l .leaf2 .ensures .1 ∙ ap (λ (n : ℕ). set (s .args .labels .now) (s .args .count) n) label)
+
+pub character-spec : {M : Type 1} → statement M
+character-spec =
+    tie.close (tie.spec shared-slice-read-byte add-place returns shared-slice-read-escaped is-special-requires
+    label-of-requires add-leaf leaf-requires same-length returns-2 returns-3 is-special-requires-2 returns-4
+    label-of-requires-2 add-leaf-2 leaf-requires-2 same-length-2 returns-5)

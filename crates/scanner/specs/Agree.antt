@@ -1,0 +1,199 @@
+-- The two descriptions of the syntax agree: the scanner gives the tree that the grammar reads, and there is one at
+-- most.
+use Prim.Native.Nat.{ℕ, suc, _+_, _*_, _≤_, _<_}
+use mathlib.Core.Path.{_≡_, refl}
+use mathlib.Core.Logic.{_↔_}
+use mathlib.Core.Bool.{Bool, true, false, cond}
+use mathlib.Core.List.{List, [], _∷_}
+use native.Mathlib.Omega.{arith}
+use lib.ListN.{length}
+use lib.Dec.{ltb}
+use borrow.Author.Tests.{ltb-true, ltb-false}
+use Rattle.language.specs.Tree.{Tree, nodes}
+use Rattle.tree.specs.RefusalNumbers.{expression-empty, expression-too-long}
+use Rattle.tree.specs.Limits.{longest-expression}
+use Rattle.scanner.specs.Bytes.{Syntax}
+use Rattle.classes.specs.ClassGrammar.{
+  Spells-byte,
+  bare,
+  slashed,
+  Spells-item,
+  single,
+  range,
+  Spells-items,
+  one-item,
+  next-item,
+  Spells-class,
+  these,
+  all-but-these,
+}
+use Rattle.classes.specs.Class.{Item, Class}
+use Rattle.scanner.specs.Scanner.{Atom, Outcome, tree, refused, due, nothing, scan, scanned}
+use Rattle.scanner.specs.Grammar.{
+  Level,
+  Spells,
+  Written,
+  itself,
+  escaped,
+  any-but-line-end,
+  bracketed,
+  group,
+  no-star,
+  one-star,
+  one-factor,
+  next-factor,
+  one-branch,
+  next-branch,
+}
+use Rattle.scanner.specs.Complete.{scanner-gives}
+use Rattle.scanner.specs.Sound.{no-tree, scanner-reads}
+use Rattle.scanner.specs.Faults.{highest, seven-given, refused-cases}
+
+-- the scanner gives t exactly when the bytes are a written t
+pub scanner-exactly : (syntax : Syntax) (bytes : List ℕ) (t : Tree Atom)
+    → (scan syntax bytes 0 due nothing [] ≡ tree t) ↔ Written syntax bytes t
+scanner-exactly syntax bytes t = (scanner-reads syntax bytes t, scanner-gives)
+
+-- bytes are written one tree at most: the scanner gives one outcome
+pub grammar-unique : {syntax : Syntax} {bytes : List ℕ} {s t : Tree Atom} → Written syntax bytes s
+    → Written syntax bytes t → s ≡ t
+grammar-unique p q = cc (scanner-gives p, scanner-gives q)
+
+-- a class takes two bytes at least
+byte-shorter : {bytes rest : List ℕ} {b : ℕ} → Spells-byte bytes rest b → length rest < length bytes
+byte-shorter (bare p) = omega arith
+byte-shorter (slashed p) = omega arith
+
+item-shorter : {bytes rest : List ℕ} {item : Item} → Spells-item bytes rest item → length rest < length bytes
+item-shorter (single r) = byte-shorter r
+item-shorter (range r q h) = omega (arith, byte-shorter r, byte-shorter q)
+
+items-shorter : {bytes rest : List ℕ} {items : List Item} → Spells-items bytes rest items → length rest < length bytes
+items-shorter (one-item r) = item-shorter r
+items-shorter (next-item r q) = omega (arith, items-shorter r, item-shorter q)
+
+class-shorter : {bytes rest : List ℕ} {class : Class} → Spells-class bytes rest class → length rest < length bytes
+class-shorter (these r h) = omega (arith, items-shorter r)
+class-shorter (all-but-these r h) = omega (arith, items-shorter r)
+
+-- a written tree has fewer than two nodes for each of its bytes: a leaf takes a byte, a star its `*`, and a catenation
+-- or a union joins two
+reads-size : {syntax : Syntax} {depth : ℕ} {level : Level} {bytes rest : List ℕ} {t : Tree Atom}
+    → Spells syntax depth level bytes rest t
+    → nodes t + 1 + 2 * length rest ≤ 2 * length bytes
+reads-size (itself p) = omega arith
+reads-size (escaped p) = omega arith
+reads-size (any-but-line-end p) = omega arith
+reads-size (bracketed p r) = omega (arith, class-shorter r)
+reads-size (group h r) = omega (arith, reads-size r)
+reads-size (no-star r) = reads-size r
+reads-size (one-star r) = omega (arith, reads-size r)
+reads-size (one-factor r) = reads-size r
+reads-size (next-factor r q) = omega (arith, reads-size r, reads-size q)
+reads-size (one-branch r) = reads-size r
+reads-size (next-branch r q) = omega (arith, reads-size r, reads-size q)
+
+-- so an expression of 1,024 bytes has at most 2,047 nodes
+pub written-size : {syntax : Syntax} {bytes : List ℕ} {t : Tree Atom} → Written syntax bytes t
+    → nodes t + 1 ≤ 2 * length bytes
+written-size w = omega (arith, reads-size w)
+
+-- what scanning a whole expression comes to: 1 for no bytes, 2 for more than 1,024, and else what the scan gives
+pub data Case (syntax : Syntax) (bytes : List ℕ) : Outcome Atom → Type 0 where
+  empty : bytes ≡ [] → Case syntax bytes (refused expression-empty 0)
+  long : longest-expression < length bytes → Case syntax bytes (refused expression-too-long longest-expression)
+  usual : 0 < length bytes → length bytes ≤ longest-expression → Case syntax bytes (scan syntax bytes 0 due nothing [])
+
+-- every expression is one of the three
+pub cases : (syntax : Syntax) (bytes : List ℕ) → Case syntax bytes (scanned syntax bytes)
+unfolding scanned
+cases syntax [] = empty refl
+cases syntax (b ∷ rest) = go (ltb longest-expression (suc (length rest))) refl
+  where
+    go : (test : Bool) → ltb longest-expression (suc (length rest)) ≡ test
+        → Case syntax (b ∷ rest) (cond test (refused expression-too-long longest-expression) (scan syntax
+        (b ∷ rest) 0 due nothing []))
+    go true e = long (ltb-true longest-expression (suc (length rest)) e)
+    go false e = usual (omega arith) (ltb-false longest-expression (suc (length rest)) e)
+
+-- an outcome that is a tree comes from a written expression of at most 1,024 bytes
+tree-case : {syntax : Syntax} {bytes : List ℕ} {outcome : Outcome Atom} {t : Tree Atom} → Case syntax bytes outcome
+    → outcome ≡ tree t
+    → (length bytes ≤ longest-expression) × Written syntax bytes t
+tree-case (empty p) e = no-tree e
+tree-case (long h) e = no-tree e
+tree-case {syntax} {bytes} {t = t} (usual h k) e = (k, scanner-reads syntax bytes t e)
+
+-- a written expression of at most 1,024 bytes has its tree for an outcome
+written-case : {syntax : Syntax} {bytes : List ℕ} {outcome : Outcome Atom} {t : Tree Atom} → Case syntax bytes outcome
+    → length bytes ≤ longest-expression
+    → Written syntax bytes t → outcome ≡ tree t
+written-case {bytes = bytes} (empty p) h w = let none : length bytes ≡ 0 =
+    rw p in absurd (omega (arith, written-size w))
+written-case (long k) h w = absurd (omega arith)
+written-case (usual k l) h w = scanner-gives w
+
+-- an expression is taken with the tree t exactly when it has at most 1,024 bytes and is a written t
+pub scanned-exactly : (syntax : Syntax) (bytes : List ℕ) (t : Tree Atom) → (scanned syntax bytes ≡ tree t)
+    ↔ ((length bytes ≤ longest-expression) × Written syntax bytes t)
+scanned-exactly syntax bytes t = (tree-case (cases syntax bytes), λ (h, w). written-case (cases syntax bytes) h w)
+
+-- the number of a refusal tells the case apart, since the scan itself gives none below 3
+module _ {syntax : Syntax} {bytes : List ℕ} {place : ℕ} where
+  -- 1 comes from no bytes alone
+  empty-case : {outcome : Outcome Atom} → Case syntax bytes outcome → outcome ≡ refused expression-empty place
+      → (bytes ≡ []) × (place ≡ 0)
+  empty-case (empty p) e = (p, cc)
+  empty-case (long h) e = let z : _≡_ {A = ℕ} 2 1 = cc in absurd (omega arith)
+  empty-case (usual h k) e = absurd (omega (arith, refused-cases syntax bytes 1 place e))
+
+  -- 2 comes from more than 1,024 bytes alone
+  long-case : {outcome : Outcome Atom} → Case syntax bytes outcome → outcome ≡ refused expression-too-long place
+      → (longest-expression < length bytes) × (place ≡ longest-expression)
+  long-case (empty p) e = let z : _≡_ {A = ℕ} 1 2 = cc in absurd (omega arith)
+  long-case (long h) e = (h, cc)
+  long-case (usual h k) e = absurd (omega (arith, refused-cases syntax bytes 2 place e))
+
+  -- and more than 1,024 bytes give 2
+  long-given : {outcome : Outcome Atom} → Case syntax bytes outcome → longest-expression < length bytes → place
+      ≡ longest-expression → outcome ≡ refused expression-too-long place
+  long-given (empty p) h q = let none : length bytes ≡ 0 = rw p in absurd (omega arith)
+  long-given (long k) h q = rw q
+  long-given (usual k l) h q = absurd (omega arith)
+
+-- 1 is given exactly when the expression has no bytes, at place 0
+pub one-exactly : (syntax : Syntax) (bytes : List ℕ) (place : ℕ)
+    → (scanned syntax bytes ≡ refused expression-empty place) ↔ ((bytes ≡ []) × (place ≡ 0))
+unfolding scanned
+one-exactly syntax bytes place = (empty-case (cases syntax bytes), λ (p, q). rw (p, q))
+
+-- 2 is given exactly when it has more than 1,024 bytes, at place 1,024
+pub two-exactly : (syntax : Syntax) (bytes : List ℕ) (place : ℕ)
+    → (scanned syntax bytes ≡ refused expression-too-long place)
+    ↔ ((longest-expression < length bytes) × (place ≡ longest-expression))
+two-exactly syntax bytes place = (long-case (cases syntax bytes), λ (h, q). long-given (cases syntax bytes) h q)
+
+-- a refusal of an expression by its bytes alone: its number is at least 1 and not above the syntax's highest, its place
+-- is at most 1,024
+pub record Refusal (syntax : Syntax) (number place : ℕ) : Type 0 where
+  pub least : 1 ≤ number
+  pub most : number ≤ highest syntax
+  pub inside : place ≤ longest-expression
+
+-- in each of the three cases
+refusal-case : {syntax : Syntax} {bytes : List ℕ} {outcome : Outcome Atom} {number place : ℕ}
+    → Case syntax bytes outcome
+    → outcome ≡ refused number place → Refusal syntax number place
+refusal-case {syntax} {number = number} {place = place} (empty p) e = let n : expression-empty
+    ≡ number = cc in let at : 0 ≡ place =
+    cc in omega (arith, seven-given syntax)
+refusal-case {syntax} {number = number} {place = place} (long h) e = let n : expression-too-long
+    ≡ number = cc in let at : longest-expression
+    ≡ place =
+    cc in omega (arith, seven-given syntax)
+refusal-case {syntax} {bytes} (usual h k) e = omega (arith, refused-cases syntax bytes _ _ e)
+
+-- so is every refusal of an expression
+pub scanned-refusal : (syntax : Syntax) (bytes : List ℕ) (number place : ℕ)
+    → scanned syntax bytes ≡ refused number place → Refusal syntax number place
+scanned-refusal syntax bytes number place e = refusal-case (cases syntax bytes) e

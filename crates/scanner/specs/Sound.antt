@@ -1,0 +1,342 @@
+-- What the scanner gives, the grammar reads: at every place the scanner's state says what was read from the beginning
+-- up to there.
+use Prim.Native.Nat.{ℕ, _+_, _<_}
+use mathlib.Core.Path.{_≡_, refl}
+use mathlib.Core.Bool.{Bool, true, false, cond}
+use mathlib.Core.Option.{Option, none, some}
+use mathlib.Core.List.{List, [], _∷_}
+use native.Mathlib.Numerals.{add-one}
+use native.Mathlib.Omega.{arith}
+use lib.ListN.{length}
+use lib.Dec.{ltb}
+use borrow.Author.Tests.{ltb-true}
+use Rattle.language.specs.Tree.{Tree, leaf, star}
+use Rattle.tree.specs.RefusalNumbers.{too-many-groups, backslash-before-no-sign}
+use Rattle.tree.specs.Limits.{most-groups}
+use Rattle.scanner.specs.Bytes.{
+  Syntax,
+  Sign,
+  opening,
+  closing,
+  bar,
+  asterisk,
+  backslash,
+  dot,
+  bracket,
+  end-bracket,
+  plain,
+  sign-of,
+  special,
+}
+use Rattle.classes.specs.Class.{
+  Class,
+  the-dot,
+  unread,
+  Inside,
+  opened,
+  Step,
+  goes-on,
+  whole as whole-class,
+  faulty,
+  class-step,
+}
+use Rattle.classes.specs.ClassGrammar.{Spells-class}
+use Rattle.classes.specs.ClassSound.{So-far, at-opened, Kept, step-kept}
+use Rattle.scanner.specs.Signs.{Means, sign-means}
+use Rattle.scanner.specs.Scanner.{
+  Atom,
+  literal,
+  one-of,
+  Outcome,
+  tree,
+  refused,
+  Phase,
+  due,
+  escaping,
+  in-class,
+  after,
+  Before,
+  Group,
+  nothing,
+  catenated,
+  united as branched,
+  finished,
+  next-union,
+  next-factor as with-factor,
+  Onward,
+  operand,
+  closed,
+  follow,
+  classed,
+  byte-at,
+  end-at,
+  scan,
+}
+use Rattle.scanner.specs.Grammar.{
+  starred,
+  joined,
+  united,
+  Spells,
+  Written,
+  itself,
+  escaped,
+  any-but-line-end,
+  bracketed,
+  group,
+  no-star,
+  one-star,
+  one-factor,
+  next-factor,
+  one-branch,
+  next-branch,
+}
+
+-- the union collected: the bytes hold it up to a `|` and go on with `between`, or nothing is collected
+abbrev pub Branches : Syntax → ℕ → List ℕ → List ℕ → Option (Tree Atom) → Type 0
+Branches syntax depth bytes between none = bytes ≡ between
+Branches syntax depth bytes between (some s) = Spells syntax depth united bytes (124 ∷ between) s
+
+-- the catenation collected: the bytes hold it and go on with the rest, or nothing is collected
+abbrev pub Factors : Syntax → ℕ → List ℕ → List ℕ → Option (Tree Atom) → Type 0
+Factors syntax depth between rest none = between ≡ rest
+Factors syntax depth between rest (some s) = Spells syntax depth joined between rest s
+
+-- what stands before the rest, within the group that holds it, is already read
+pub record Read-before (syntax : Syntax) (depth : ℕ) (bytes rest : List ℕ) (before : Before) : Type 0 where
+  pub between : List ℕ
+  pub branches : Branches syntax depth bytes between (before .unions)
+  pub factors : Factors syntax depth between rest (before .factors)
+
+-- what stands before each open group's inside is already read: `inside` is where the innermost one's begins
+pub data Read-around (syntax : Syntax) (whole : List ℕ) : List Group → List ℕ → Type 0 where
+  outermost : Read-around syntax whole [] whole
+  in-group : {g : Group} {groups : List Group} {outer inside : List ℕ} → length groups < most-groups
+      → Read-around syntax whole groups outer
+      → Read-before syntax (length groups) outer (40 ∷ inside) (g .outside)
+      → Read-around syntax whole (g ∷ groups) inside
+
+-- what the scanner's state says of the bytes before the rest, by its phase: where an operand is due, after a `\`, in a
+-- class, after an operand
+pub data Read-so-far (syntax : Syntax) (whole : List ℕ) : List ℕ → Phase → Before → List Group → Type 0 where
+  at-operand : {inside rest : List ℕ} {before : Before} {groups : List Group} → Read-around syntax whole groups inside
+      → Read-before syntax (length groups) inside rest before → Read-so-far syntax whole rest due before groups
+  at-escape : {place : ℕ} {inside rest : List ℕ} {before : Before} {groups : List Group}
+      → Read-around syntax whole groups inside
+      → Read-before syntax (length groups) inside (92 ∷ rest) before
+      → Read-so-far syntax whole rest (escaping place) before groups
+  at-class : {place b : ℕ} {class : Class} {inner : Inside} {inside from rest : List ℕ} {before : Before}
+      {groups : List Group} → Read-around syntax whole groups inside
+      → Read-before syntax (length groups) inside (b ∷ from) before → sign-of syntax b ≡ bracket
+      → So-far from rest (class .all-but) (class .items) inner
+      → Read-so-far syntax whole rest (in-class place class inner) before groups
+  past-operand : {inside from rest : List ℕ} {before : Before} {groups : List Group} {t : Tree Atom}
+      → Read-around syntax whole groups inside → Read-before syntax (length groups) inside from before
+      → Spells syntax (length groups) starred from rest t → Read-so-far syntax whole rest (after t) before groups
+
+-- nothing is read yet
+started : {syntax : Syntax} {depth : ℕ} {bytes : List ℕ} → Read-before syntax depth bytes bytes nothing
+started {bytes = bytes} = record { between = bytes; branches = refl; factors = refl }
+
+-- one more factor makes the catenation
+one-more-factor : {syntax : Syntax} {depth : ℕ} {between from rest : List ℕ} {t : Tree Atom} (collected : Option
+    (Tree Atom))
+    → Factors syntax depth between from collected → Spells syntax depth starred from rest t
+    → Spells syntax depth joined between rest (catenated collected t)
+one-more-factor none e r = rw e (one-factor r)
+one-more-factor (some s) q r = next-factor q r
+
+-- one more branch makes the union
+one-more-branch : {syntax : Syntax} {depth : ℕ} {bytes between rest : List ℕ} {t : Tree Atom} (collected : Option
+    (Tree Atom))
+    → Branches syntax depth bytes between collected → Spells syntax depth joined between rest t
+    → Spells syntax depth united bytes rest (branched collected t)
+one-more-branch none e r = rw e (one-branch r)
+one-more-branch (some s) q r = next-branch q r
+
+-- the last operand makes the whole expression of a group
+complete : {syntax : Syntax} {depth : ℕ} {bytes from rest : List ℕ} {before : Before} {t : Tree Atom}
+    → Read-before syntax depth bytes from before
+    → Spells syntax depth starred from rest t → Spells syntax depth united bytes rest (finished before t)
+complete {before = before} w r =
+    one-more-branch (before .unions) (w .branches) (one-more-factor (before .factors) (w .factors) r)
+
+module _ {syntax : Syntax} {whole rest : List ℕ} {before : Before} {groups : List Group} where
+  -- where another operand begins, the one read joins the catenation
+  joins : {t : Tree Atom} → Read-so-far syntax whole rest (after t) before groups
+      → Read-so-far syntax whole rest due (with-factor before t) groups
+  joins (past-operand around w r) =
+      at-operand around
+      (record {
+        between = w .between;
+        branches = w .branches;
+        factors =
+            one-more-factor (before .factors) (w .factors) r;
+      })
+
+  -- a `*` makes a star of the operand
+  stars : {t : Tree Atom} → Read-so-far syntax whole (42 ∷ rest) (after t) before groups
+      → Read-so-far syntax whole rest (after (star t)) before groups
+  stars (past-operand around w r) = past-operand around w (one-star r)
+
+  -- a `|` ends the branch
+  ends-branch : {t : Tree Atom} → Read-so-far syntax whole (124 ∷ rest) (after t) before groups
+      → Read-so-far syntax whole rest due (next-union before t) groups
+  ends-branch (past-operand around w r) =
+      at-operand around (record { between = rest; branches = complete w r; factors = refl })
+
+  -- a `)` ends the group: what it held is an operand of what stands around it
+  ends-group : {t : Tree Atom} {g : Group} → Read-so-far syntax whole (41 ∷ rest) (after t) before (g ∷ groups)
+      → Read-so-far syntax whole rest (after (finished before t)) (g .outside) groups
+  ends-group (past-operand (in-group h around out) w r) =
+      past-operand around out (no-star (group h (rw (← (add-one (length groups))) at (complete w r))))
+
+  -- a `(` opens a group
+  opens-group : {place : ℕ} → length groups < most-groups → Read-so-far syntax whole (40 ∷ rest) due before groups
+      → Read-so-far syntax whole rest due nothing (record { place = place; outside = before } ∷ groups)
+  opens-group h (at-operand around w) = at-operand (in-group h around w) started
+
+  -- a `\` stands before the operand
+  escapes : {place : ℕ} → Read-so-far syntax whole (92 ∷ rest) due before groups
+      → Read-so-far syntax whole rest (escaping place) before groups
+  escapes (at-operand around w) = at-escape around w
+
+  -- a special byte after a `\`
+  takes-special : {b place : ℕ} → special (sign-of syntax b) ≡ true → Read-so-far syntax whole (b ∷ rest)
+      (escaping place) before groups
+      → Read-so-far syntax whole rest (after (leaf (literal b))) before groups
+  takes-special p (at-escape around w) = past-operand around w (no-star (escaped p))
+
+  -- a byte that stands for itself
+  takes-plain : {b : ℕ} → sign-of syntax b ≡ plain → Read-so-far syntax whole (b ∷ rest) due before groups
+      → Read-so-far syntax whole rest (after (leaf (literal b))) before groups
+  takes-plain p (at-operand around w) = past-operand around w (no-star (itself p))
+
+  -- a `.` is an operand
+  takes-dot : {b : ℕ} → sign-of syntax b ≡ dot → Read-so-far syntax whole (b ∷ rest) due before groups
+      → Read-so-far syntax whole rest (after (leaf (one-of the-dot))) before groups
+  takes-dot p (at-operand around w) = past-operand around w (no-star (any-but-line-end p))
+
+  -- a `[` begins a class
+  opens-class : {b place : ℕ} → sign-of syntax b ≡ bracket → Read-so-far syntax whole (b ∷ rest) due before groups
+      → Read-so-far syntax whole rest (in-class place unread opened) before groups
+  opens-class p (at-operand around w) = at-class around w p (at-opened refl)
+
+-- a refusal is no tree
+pub no-tree : {B : Type 0} {number place : ℕ} {t : Tree B} {A : Type 0} → refused number place ≡ tree t → A
+no-tree e = let z : _≡_ {A = ℕ} 0 1 = cc in absurd (omega arith)
+
+-- one byte, where what follows it is sound: a state that stands goes over into one that stands, or the byte is refused
+module _ (syntax : Syntax) (whole rest : List ℕ) (t : Tree Atom) (on : Onward)
+    (sound : (phase : Phase) (before : Before) (groups : List Group) → Read-so-far syntax whole rest phase before groups
+    → on phase before groups ≡ tree t → Written syntax whole t) where
+  -- a test that has to pass
+  only-true : (test : Bool) (first : Outcome Atom) (number place : ℕ) → (test ≡ true → first ≡ tree t
+      → Written syntax whole t)
+      → cond test first (refused number place) ≡ tree t → Written syntax whole t
+  only-true true first number place k e = k refl e
+  only-true false first number place k e = no-tree e
+
+  -- where an operand is due
+  operand-sound : (s : Sign) (b place : ℕ) (before : Before) (groups : List Group) → sign-of syntax b ≡ s
+      → Means syntax b s
+      → Read-so-far syntax whole (b ∷ rest) due before groups → operand s b place on before groups ≡ tree t
+      → Written syntax whole t
+  operand-sound opening b place before groups p m st e =
+      only-true (ltb (length groups) most-groups) _ too-many-groups place
+      (λ h. sound due nothing _ (opens-group (ltb-true (length groups) most-groups h) (rw m at st))) e
+  operand-sound closing b place before groups p m st e = no-tree e
+  operand-sound bar b place before groups p m st e = no-tree e
+  operand-sound asterisk b place before groups p m st e = no-tree e
+  operand-sound backslash b place before groups p m st e = sound (escaping place) before groups (escapes (rw m at st)) e
+  operand-sound dot b place before groups p m st e =
+      sound (after (leaf (one-of the-dot))) before groups (takes-dot p st) e
+  operand-sound bracket b place before groups p m st e =
+      sound (in-class place unread opened) before groups (opens-class p st) e
+  operand-sound end-bracket b place before groups p m st e = no-tree e
+  operand-sound plain b place before groups p m st e =
+      sound (after (leaf (literal b))) before groups (takes-plain p st) e
+
+  -- at a `)` after an operand
+  closed-sound : (s : Tree Atom) (place : ℕ) (before : Before) (groups : List Group)
+      → Read-so-far syntax whole (41 ∷ rest) (after s) before groups → closed s place on before groups ≡ tree t
+      → Written syntax whole t
+  closed-sound s place before [] st e = no-tree e
+  closed-sound s place before (g ∷ groups) st e = sound (after (finished before s)) (g .outside) groups (ends-group st)
+      e
+
+  -- after an operand
+  follow-sound : (sign : Sign) (b : ℕ) (s : Tree Atom) (place : ℕ) (before : Before) (groups : List Group)
+      → sign-of syntax b ≡ sign → Means syntax b sign → Read-so-far syntax whole (b ∷ rest) (after s) before groups
+      → follow sign b s place on before groups ≡ tree t → Written syntax whole t
+  follow-sound asterisk b s place before groups p m st e = sound (after (star s)) before groups (stars (rw m at st)) e
+  follow-sound bar b s place before groups p m st e =
+      sound due (next-union before s) groups (ends-branch (rw m at st)) e
+  follow-sound closing b s place before groups p m st e = closed-sound s place before groups (rw m at st) e
+  follow-sound opening b s place before groups p m st e =
+      operand-sound opening b place (with-factor before s) groups p m (joins st) e
+  follow-sound backslash b s place before groups p m st e =
+      operand-sound backslash b place (with-factor before s) groups p m (joins st) e
+  follow-sound dot b s place before groups p m st e =
+      operand-sound dot b place (with-factor before s) groups p m (joins st) e
+  follow-sound bracket b s place before groups p m st e =
+      operand-sound bracket b place (with-factor before s) groups p m (joins st) e
+  follow-sound end-bracket b s place before groups p m st e =
+      operand-sound end-bracket b place (with-factor before s) groups p m (joins st) e
+  follow-sound plain b s place before groups p m st e =
+      operand-sound plain b place (with-factor before s) groups p m (joins st) e
+
+  -- in a class
+  class-sound : {inside from : List ℕ} (b begin : ℕ) (before : Before) (groups : List Group)
+      → Read-around syntax whole groups inside → Read-before syntax (length groups) inside (b ∷ from) before
+      → sign-of syntax b ≡ bracket → (step : Step) → Kept from rest step → classed step begin on before groups ≡ tree t
+      → Written syntax whole t
+  class-sound b begin before groups around w p (goes-on class inner) kept e =
+      sound (in-class begin class inner) before groups (at-class around w p kept) e
+  class-sound b begin before groups around w p (whole-class c) kept e =
+      sound (after (leaf (one-of c))) before groups (past-operand around w (no-star (bracketed p kept))) e
+  class-sound b begin before groups around w p faulty kept e = no-tree e
+
+  -- in each phase
+  byte-sound : (b place : ℕ) (phase : Phase) (before : Before) (groups : List Group)
+      → Read-so-far syntax whole (b ∷ rest) phase before groups → byte-at syntax b place phase on before groups ≡ tree t
+      → Written syntax whole t
+  byte-sound b place due before groups st e =
+      operand-sound (sign-of syntax b) b place before groups refl (sign-means syntax b) st e
+  byte-sound b place (escaping begin) before groups st e =
+      only-true (special (sign-of syntax b)) _ backslash-before-no-sign begin
+      (λ p. sound (after (leaf (literal b))) before groups (takes-special p st)) e
+  byte-sound b place (in-class begin class inner) before groups (at-class {b = sign} {from =
+      from} around w p so-far) e =
+      class-sound sign begin before groups around w p (class-step b class inner)
+      (step-kept from rest b (class .all-but) (class .items) inner so-far) e
+  byte-sound b place (after s) before groups st e =
+      follow-sound (sign-of syntax b) b s place before groups refl (sign-means syntax b)
+      st e
+
+-- at the end only an operand with no group open gives a tree
+end-sound : (syntax : Syntax) (whole : List ℕ) (t : Tree Atom) (place : ℕ) (phase : Phase) (before : Before)
+    (groups : List Group)
+    → Read-so-far syntax whole [] phase before groups → end-at place phase before groups ≡ tree t
+    → Written syntax whole t
+end-sound syntax whole t place due before groups st e = no-tree e
+end-sound syntax whole t place (escaping begin) before groups st e = no-tree e
+end-sound syntax whole t place (in-class begin class inner) before groups st e = no-tree e
+end-sound syntax whole t place (after s) before [] (past-operand outermost w r) e = let same : finished before s ≡ t =
+    cc in rw same at (complete w r)
+end-sound syntax whole t place (after s) before (g ∷ groups) st e = no-tree e
+
+-- by induction on the bytes that are left
+pub scan-sound : (syntax : Syntax) (whole : List ℕ) (t : Tree Atom) (rest : List ℕ) (place : ℕ) (phase : Phase)
+    (before : Before)
+    (groups : List Group) → Read-so-far syntax whole rest phase before groups
+    → scan syntax rest place phase before groups ≡ tree t
+    → Written syntax whole t
+unfolding scan
+scan-sound syntax whole t [] place = end-sound syntax whole t place
+scan-sound syntax whole t (b ∷ rest) place =
+    byte-sound syntax whole rest t (scan syntax rest (place + 1)) (scan-sound syntax whole t rest (place + 1)) b place
+
+-- what the scanner gives, is written
+pub scanner-reads : (syntax : Syntax) (bytes : List ℕ) (t : Tree Atom) → scan syntax bytes 0 due nothing [] ≡ tree t
+    → Written syntax bytes t
+scanner-reads syntax bytes t = scan-sound syntax bytes t bytes 0 due nothing [] (at-operand outermost started)

@@ -1,0 +1,48 @@
+// A catenation: operands one after the other, up to a `|`, a `)` or the end.
+use crate::operand::operand;
+use crate::part::Part;
+use tree::layout::CATENATION_LABEL;
+ghost use Rattle.scanner.specs.Bytes.{syntax-of};
+ghost use Rattle.scanner.specs.Grammar.{joined};
+ghost use Rattle.scanner.specs.Reading.{Scratch-room, Part-answer};
+
+// Reads a catenation from a place on.
+pub fn catenation(
+    expr: &[u8],
+    at: usize,
+    depth: usize,
+    labels: &mut [u16],
+    count: usize,
+    second: bool,
+) -> Part
+    requires { ⌜ Scratch-room (now expr) at depth count (now labels) ⌝ }
+    ensures { λ r. ⌜ Part-answer (syntax-of second) joined (now (expr .entry)) at depth count (now (labels .entry)) (now
+        (labels .exit)) r ⌝ }
+{
+    let first = operand(expr, at, depth, labels, count, second);
+    let Part::Read { next, count } = first else {
+        return first;
+    };
+    let mut place = next;
+    let mut n = count;
+    while place < expr.len() {
+        let byte = expr[place];
+        if byte == b'|' {
+            break;
+        }
+        if byte == b')' {
+            break;
+        }
+        let part = operand(expr, place, depth, labels, n, second);
+        let Part::Read { next, count } = part else {
+            return part;
+        };
+        labels[count] = CATENATION_LABEL;
+        n = count + 1;
+        place = next;
+    }
+    Part::Read {
+        next: place,
+        count: n,
+    }
+}

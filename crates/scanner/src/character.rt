@@ -1,0 +1,101 @@
+// One character: a byte that stands for itself, or a special byte after a `\`.
+use crate::part::Part;
+use tree::layout::CHARACTER;
+use tree::layout::label_of;
+use tree::refusal_numbers::BACKSLASH_BEFORE_NO_SIGN;
+use tree::refusal_numbers::OPERAND_MISSING;
+ghost use mathlib.Core.Path.{_≡_};
+ghost use mathlib.Core.Bool.{true, false};
+ghost use Prim.Native.Nat.{_+_, _<_};
+ghost use lib.ListN.{length, getD, set};
+ghost use Rattle.scanner.specs.Bytes.{syntax-of, sign-of, sign-of-class, special};
+ghost use Rattle.scanner.specs.Surroundings.{class-begins};
+ghost use Rattle.scanner.specs.Reading.{Scratch-room, Character-answer};
+
+// Whether a byte is one of the three that are special in the second syntax alone.
+fn is_class_sign(byte: u8) -> bool
+    ensures { λ r. ⌜ r ≡ special (sign-of-class (syntax-of true) byte) ⌝ }
+{
+    if byte == b'.' {
+        return true;
+    }
+    if byte == b'[' {
+        return true;
+    }
+    byte == b']'
+}
+
+// Whether a byte is special.
+fn is_special(byte: u8, second: bool) -> bool
+    ensures { λ r. ⌜ r ≡ special (sign-of (syntax-of second) byte) ⌝ }
+{
+    if byte == b'(' {
+        return true;
+    }
+    if byte == b')' {
+        return true;
+    }
+    if byte == b'|' {
+        return true;
+    }
+    if byte == b'*' {
+        return true;
+    }
+    if byte == b'\\' {
+        return true;
+    }
+    if second {
+        return is_class_sign(byte);
+    }
+    false
+}
+
+// Writes the label of a leaf.
+pub fn leaf(label: u16, next: usize, labels: &mut [u16], count: usize) -> Part
+    requires { ⌜ count < length (now labels) ⌝ }
+    ensures answer { λ r. ⌜ r ≡ Part.Read next (count + 1) ⌝ }
+    ensures written { λ r. ⌜ now (labels .exit) ≡ set (now (labels .entry)) count label ⌝ }
+{
+    labels[count] = label;
+    Part::Read {
+        next,
+        count: count + 1,
+    }
+}
+
+// Reads the character at a place: 3 where a `|`, `*` or `)` stands there, 7 at a `\` that is last or not before a
+// special byte.
+pub fn character(expr: &[u8], at: usize, labels: &mut [u16], count: usize, second: bool) -> Part
+    requires within { ⌜ at < length (now expr) ⌝ }
+    requires character { ⌜ (getD (now expr) at 0 ≡ 40 → ⊥) ⌝ }
+    requires common { ⌜ class-begins (sign-of (syntax-of second) (getD (now expr) at 0)) ≡ false ⌝ }
+    requires room { ⌜ Scratch-room (now expr) at 0 count (now labels) ⌝ }
+    ensures { λ r. ⌜ Character-answer (syntax-of second) (now (expr .entry)) at count (now (labels .entry)) (now
+        (labels .exit)) r ⌝ }
+{
+    let byte = expr[at];
+    if byte == b'\\' {
+        let place = at + 1;
+        if place == expr.len() {
+            return Part::Refused {
+                number: BACKSLASH_BEFORE_NO_SIGN,
+                place: at,
+            };
+        }
+        let escaped = expr[place];
+        if is_special(escaped, second) {
+            return leaf(label_of(CHARACTER, escaped), place + 1, labels, count);
+        }
+        return Part::Refused {
+            number: BACKSLASH_BEFORE_NO_SIGN,
+            place: at,
+        };
+    }
+    if is_special(byte, second) {
+        return Part::Refused {
+            number: OPERAND_MISSING,
+            place: at,
+        };
+    }
+    leaf(label_of(CHARACTER, byte), at + 1, labels, count)
+}

@@ -1,0 +1,58 @@
+// An operand with its stars: a single one, or a group.
+use crate::part::Part;
+use crate::single::single;
+use crate::stars::stars;
+use crate::union::union;
+use tree::limits::MOST_GROUPS;
+use tree::refusal_numbers::GROUP_LEFT_OPEN;
+use tree::refusal_numbers::OPERAND_MISSING;
+use tree::refusal_numbers::TOO_MANY_GROUPS;
+ghost use Rattle.scanner.specs.Bytes.{syntax-of};
+ghost use Rattle.scanner.specs.Grammar.{starred};
+ghost use Rattle.scanner.specs.Reading.{Scratch-room, Part-answer};
+
+// Reads the operand at a place: 3 where none stands there, 4 and 6 at a `(`, 7 and 14.
+pub fn operand(
+    expr: &[u8],
+    at: usize,
+    depth: usize,
+    labels: &mut [u16],
+    count: usize,
+    second: bool,
+) -> Part
+    requires { ⌜ Scratch-room (now expr) at depth count (now labels) ⌝ }
+    ensures { λ r. ⌜ Part-answer (syntax-of second) starred (now (expr .entry)) at depth count (now (labels .entry)) (now
+        (labels .exit)) r ⌝ }
+{
+    if at == expr.len() {
+        return Part::Refused {
+            number: OPERAND_MISSING,
+            place: at,
+        };
+    }
+    if expr[at] == b'(' {
+        if depth >= MOST_GROUPS {
+            return Part::Refused {
+                number: TOO_MANY_GROUPS,
+                place: at,
+            };
+        }
+        let open = at;
+        let inner = union(expr, open + 1, depth + 1, labels, count, second);
+        let Part::Read { next, count } = inner else {
+            return inner;
+        };
+        if next == expr.len() {
+            return Part::Refused {
+                number: GROUP_LEFT_OPEN,
+                place: open,
+            };
+        }
+        return stars(expr, next + 1, labels, count);
+    }
+    let part = single(expr, at, labels, count, second);
+    let Part::Read { next, count } = part else {
+        return part;
+    };
+    stars(expr, next, labels, count)
+}

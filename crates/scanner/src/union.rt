@@ -1,0 +1,44 @@
+// A union: catenations with `|` between them, up to a `)` or the end.
+use crate::catenation::catenation;
+use crate::part::Part;
+use tree::layout::UNION_LABEL;
+ghost use Rattle.scanner.specs.Bytes.{syntax-of};
+ghost use Rattle.scanner.specs.Grammar.{united};
+ghost use Rattle.scanner.specs.Reading.{Scratch-room, Part-answer};
+
+// Reads a union from a place on.
+pub fn union(
+    expr: &[u8],
+    at: usize,
+    depth: usize,
+    labels: &mut [u16],
+    count: usize,
+    second: bool,
+) -> Part
+    requires { ⌜ Scratch-room (now expr) at depth count (now labels) ⌝ }
+    ensures { λ r. ⌜ Part-answer (syntax-of second) united (now (expr .entry)) at depth count (now (labels .entry)) (now
+        (labels .exit)) r ⌝ }
+{
+    let first = catenation(expr, at, depth, labels, count, second);
+    let Part::Read { next, count } = first else {
+        return first;
+    };
+    let mut place = next;
+    let mut n = count;
+    while place < expr.len() {
+        if expr[place] != b'|' {
+            break;
+        }
+        let part = catenation(expr, place + 1, depth, labels, n, second);
+        let Part::Read { next, count } = part else {
+            return part;
+        };
+        labels[count] = UNION_LABEL;
+        n = count + 1;
+        place = next;
+    }
+    Part::Read {
+        next: place,
+        count: n,
+    }
+}
