@@ -1,12 +1,52 @@
 //! Safe wrappers for the proved library: slices in, `Result` out. Add this file to a crate and link `libfoamlattice.a`.
+//! [`Expression`] owns what was read and is all that most callers need; the functions below it take slices of the caller's.
+
+use std::ops::Range;
 
 // SAFETY: these are the functions of `libfoamlattice.a`, declared as `include/foamlattice.h` has them.
 unsafe extern "C" {
     fn foam_read(expression: *const u8, expression_length: usize, records: *mut u8, records_length: usize) -> u64;
-    fn foam_match(records: *const u8, records_length: usize, text: *const u8, text_length: usize) -> u64;
-    fn foam_search(records: *const u8, records_length: usize, text: *const u8, text_length: usize) -> u64;
-    fn foam_start(records: *const u8, records_length: usize, words: *mut u64, words_length: usize) -> u64;
-    fn foam_step(records: *const u8, records_length: usize, words: *mut u64, words_length: usize, byte: u8) -> u64;
+    fn foam_read2(
+        expression: *const u8,
+        expression_length: usize,
+        records: *mut u8,
+        records_length: usize,
+        classes: *mut u8,
+        classes_length: usize,
+    ) -> u64;
+    fn foam_match(
+        records: *const u8,
+        records_length: usize,
+        classes: *const u8,
+        classes_length: usize,
+        text: *const u8,
+        text_length: usize,
+    ) -> u64;
+    fn foam_search(
+        records: *const u8,
+        records_length: usize,
+        classes: *const u8,
+        classes_length: usize,
+        text: *const u8,
+        text_length: usize,
+    ) -> u64;
+    fn foam_start(
+        records: *const u8,
+        records_length: usize,
+        classes: *const u8,
+        classes_length: usize,
+        words: *mut u64,
+        words_length: usize,
+    ) -> u64;
+    fn foam_step(
+        records: *const u8,
+        records_length: usize,
+        classes: *const u8,
+        classes_length: usize,
+        words: *mut u64,
+        words_length: usize,
+        byte: u8,
+    ) -> u64;
     fn foam_pick(input: *const u8, input_length: usize, output: *mut u8, output_length: usize) -> u64;
 }
 
@@ -17,15 +57,26 @@ pub struct Refusal {
     pub place: usize,
 }
 
-/// How many records an expression has, and how many pieces its tree is cut into.
+/// How many records an expression has, how many pieces its tree is cut into, and how many class records it has: none in the
+/// first syntax.
 #[derive(Clone, Copy, Debug, PartialEq, Eq)]
 pub struct Counts {
     pub records: usize,
     pub pieces: usize,
+    pub classes: usize,
 }
 
-/// The longest list that a call can write or take: 15 nodes for each of 128 pieces, 8 bytes for each.
-pub const MOST_RECORD_BYTES: usize = 15 * 128 * 8;
+/// Bytes of a record.
+pub const RECORD_SIZE: usize = 8;
+
+/// Bytes of a class record.
+pub const CLASS_SIZE: usize = 32;
+
+/// The longest list that a call can write or take: 15 nodes for each of 128 pieces.
+pub const MOST_RECORD_BYTES: usize = 15 * 128 * RECORD_SIZE;
+
+/// The class records of the longest list: half of its nodes are leaves.
+pub const MOST_CLASS_BYTES: usize = 15 * 128 / 2 * CLASS_SIZE;
 
 /// One word for each piece that a list can have.
 pub const MOST_WORDS: usize = 128;
@@ -48,6 +99,9 @@ impl Packed {
     fn y(&self) -> usize {
         (self.0 >> 40) as usize
     }
+    fn counts(&self) -> Counts {
+        Counts { records: self.x(), pieces: self.y() % 256, classes: self.y() / 256 }
+    }
     fn checked(self) -> Result<Packed, Refusal> {
         match self.number() {
             0 => Ok(self),
@@ -56,41 +110,125 @@ impl Packed {
     }
 }
 
-/// Reads an expression into `records`; on a refusal no byte of it is changed.
+/// An expression that was read: it owns its records and its classes.
+#[derive(Clone, Debug, PartialEq, Eq)]
+pub struct Expression {
+    records: Vec<u8>,
+    classes: Vec<u8>,
+    pieces: usize,
+}
+
+impl Expression {
+    /// Reads an expression of the first syntax: `(` `)` `|` `*` `\`.
+    pub fn first(expression: &[u8]) -> Result<Expression, Refusal> {
+        let mut records = vec![0; MOST_RECORD_BYTES];
+        let counts = read(expression, &mut records)?;
+        Ok(Expression::of(records, vec![], counts))
+    }
+
+    /// Reads an expression of the second syntax, which has classes and the dot too.
+    pub fn second(expression: &[u8]) -> Result<Expression, Refusal> {
+        let mut records = vec![0; MOST_RECORD_BYTES];
+        let mut classes = vec![0; MOST_CLASS_BYTES];
+        let counts = read_second(expression, &mut records, &mut classes)?;
+        Ok(Expression::of(records, classes, counts))
+    }
+
+    fn of(records: Vec<u8>, classes: Vec<u8>, counts: Counts) -> Expression {
+        let records = records[..RECORD_SIZE * counts.records].to_vec();
+        let classes = classes[..CLASS_SIZE * counts.classes].to_vec();
+        Expression { records, classes, pieces: counts.pieces }
+    }
+
+    /// The list of its tree records.
+    pub fn records(&self) -> &[u8] {
+        &self.records
+    }
+
+    /// Its class records, in the order of the class leaves.
+    pub fn classes(&self) -> &[u8] {
+        &self.classes
+    }
+
+    /// How many words its marks take.
+    pub fn pieces(&self) -> usize {
+        self.pieces
+    }
+
+    /// Whether the whole text is in its language.
+    pub fn is_match(&self, text: &[u8]) -> Result<bool, Refusal> {
+        is_match(&self.records, &self.classes, text)
+    }
+
+    /// The part of the text that starts earliest and then ends furthest, if any part is in its language.
+    pub fn find(&self, text: &[u8]) -> Result<Option<Range<usize>>, Refusal> {
+        find(&self.records, &self.classes, text)
+    }
+
+    /// The marks to start with, and whether the empty text is in its language: [`start`].
+    pub fn start(&self, words: &mut [u64]) -> Result<bool, Refusal> {
+        start(&self.records, &self.classes, words)
+    }
+
+    /// The marks after one more byte, and whether the text so far is in its language: [`step`].
+    pub fn step(&self, words: &mut [u64], byte: u8) -> Result<bool, Refusal> {
+        step(&self.records, &self.classes, words, byte)
+    }
+}
+
+/// Reads an expression of the first syntax into `records`; on a refusal no byte of it is changed.
 pub fn read(expression: &[u8], records: &mut [u8]) -> Result<Counts, Refusal> {
     // SAFETY: both slices are valid for their lengths for the call, and `records` is lent to it alone.
     let packed = Packed(unsafe { foam_read(expression.as_ptr(), expression.len(), records.as_mut_ptr(), records.len()) });
-    packed.checked().map(|p| Counts { records: p.x(), pieces: p.y() })
+    packed.checked().map(|p| p.counts())
 }
 
-/// Whether the whole text is in the language of the list.
-pub fn is_match(records: &[u8], text: &[u8]) -> Result<bool, Refusal> {
-    // SAFETY: both slices are valid for their lengths for the call.
-    let packed = Packed(unsafe { foam_match(records.as_ptr(), records.len(), text.as_ptr(), text.len()) });
+/// Reads an expression of the second syntax into `records` and `classes`; on a refusal no byte of them is changed.
+pub fn read_second(expression: &[u8], records: &mut [u8], classes: &mut [u8]) -> Result<Counts, Refusal> {
+    let (records_length, classes_length) = (records.len(), classes.len());
+    let (records, classes) = (records.as_mut_ptr(), classes.as_mut_ptr());
+    // SAFETY: the slices are valid for their lengths for the call, and the last two are lent to it alone.
+    let packed =
+        Packed(unsafe { foam_read2(expression.as_ptr(), expression.len(), records, records_length, classes, classes_length) });
+    packed.checked().map(|p| p.counts())
+}
+
+/// Whether the whole text is in the language of the list with these class records.
+pub fn is_match(records: &[u8], classes: &[u8], text: &[u8]) -> Result<bool, Refusal> {
+    // SAFETY: the slices are valid for their lengths for the call.
+    let packed = Packed(unsafe {
+        foam_match(records.as_ptr(), records.len(), classes.as_ptr(), classes.len(), text.as_ptr(), text.len())
+    });
     packed.checked().map(|p| p.flag())
 }
 
 /// The part of the text that starts earliest and then ends furthest, if any part is in the language.
-pub fn find(records: &[u8], text: &[u8]) -> Result<Option<std::ops::Range<usize>>, Refusal> {
-    // SAFETY: both slices are valid for their lengths for the call.
-    let packed = Packed(unsafe { foam_search(records.as_ptr(), records.len(), text.as_ptr(), text.len()) });
+pub fn find(records: &[u8], classes: &[u8], text: &[u8]) -> Result<Option<Range<usize>>, Refusal> {
+    // SAFETY: the slices are valid for their lengths for the call.
+    let packed = Packed(unsafe {
+        foam_search(records.as_ptr(), records.len(), classes.as_ptr(), classes.len(), text.as_ptr(), text.len())
+    });
     packed.checked().map(|p| p.flag().then(|| p.x()..p.y()))
 }
 
 /// Writes the marks to start with into `words`, one for each piece, and answers whether the root's accepting state is marked:
 /// whether the empty text is in the language. Words past the pieces are neither read nor written.
-pub fn start(records: &[u8], words: &mut [u64]) -> Result<bool, Refusal> {
-    // SAFETY: both slices are valid for their lengths for the call, and `words` is lent to it alone.
-    let packed = Packed(unsafe { foam_start(records.as_ptr(), records.len(), words.as_mut_ptr(), words.len()) });
+pub fn start(records: &[u8], classes: &[u8], words: &mut [u64]) -> Result<bool, Refusal> {
+    // SAFETY: the slices are valid for their lengths for the call, and `words` is lent to it alone.
+    let packed = Packed(unsafe {
+        foam_start(records.as_ptr(), records.len(), classes.as_ptr(), classes.len(), words.as_mut_ptr(), words.len())
+    });
     packed.checked().map(|p| p.flag())
 }
 
 /// Moves the marks in `words` along one byte, and answers whether the root's accepting state is marked then. Any marks are
 /// taken that are not refused; only after a [`start`] and a step for each byte of a text does that say whether the text is in
 /// the language. Words past the pieces are neither read nor written.
-pub fn step(records: &[u8], words: &mut [u64], byte: u8) -> Result<bool, Refusal> {
-    // SAFETY: both slices are valid for their lengths for the call, and `words` is lent to it alone.
-    let packed = Packed(unsafe { foam_step(records.as_ptr(), records.len(), words.as_mut_ptr(), words.len(), byte) });
+pub fn step(records: &[u8], classes: &[u8], words: &mut [u64], byte: u8) -> Result<bool, Refusal> {
+    // SAFETY: the slices are valid for their lengths for the call, and `words` is lent to it alone.
+    let packed = Packed(unsafe {
+        foam_step(records.as_ptr(), records.len(), classes.as_ptr(), classes.len(), words.as_mut_ptr(), words.len(), byte)
+    });
     packed.checked().map(|p| p.flag())
 }
 

@@ -1,11 +1,9 @@
-/* Reads an expression, matches some dates, searches a text, steps through another, picks lines, and shows a refusal. */
+/* Reads expressions of both syntaxes, matches some dates, searches a text, steps through another, picks lines, and shows
+ * refusals. */
 #include <stdio.h>
 #include <string.h>
 
 #include "foamlattice.h"
-
-/* The longest list that a call can write or take, and the most words that it can want. */
-enum { MOST_RECORD_BYTES = 15 * 128 * 8, MOST_WORDS = 128 };
 
 /* The parts of an answer. */
 static unsigned number(uint64_t answer) { return answer & 0xff; }
@@ -15,48 +13,73 @@ static size_t y(uint64_t answer) { return answer >> 40; }
 
 static const uint8_t *bytes(const char *text) { return (const uint8_t *)text; }
 
-int main(void) {
-    static uint8_t buffer[MOST_RECORD_BYTES];
-    const char *expression = "02-(0|1|2)(0|1|2|3|4|5|6|7|8|9)";
+/* An expression that was read owns its records and its classes. */
+struct expression {
+    uint8_t records[FOAM_MOST_RECORD_BYTES], classes[FOAM_MOST_CLASS_BYTES];
+    size_t records_length, classes_length;
+};
 
-    /* Read: the answer says how many records were written, so how long the list is. */
-    uint64_t answer = foam_read(bytes(expression), strlen(expression), buffer, sizeof buffer);
+/* Reads an expression of the second syntax: the answer says how many records and classes were written. */
+static uint64_t read_second(const char *text, struct expression *e) {
+    uint64_t answer =
+        foam_read2(bytes(text), strlen(text), e->records, sizeof e->records, e->classes, sizeof e->classes);
+    if (number(answer) == 0) {
+        e->records_length = FOAM_RECORD_SIZE * x(answer);
+        e->classes_length = FOAM_CLASS_SIZE * (y(answer) / 256);
+    }
+    return answer;
+}
+
+int main(void) {
+    static struct expression february;
+    const char *written = "02-[0-2][0-9]";
+    uint64_t answer = read_second(written, &february);
     if (number(answer) != 0) {
         printf("refused %u at %zu\n", number(answer), x(answer));
         return 1;
     }
-    size_t length = 8 * x(answer);
-    printf("%s has %zu records in %zu pieces\n", expression, x(answer), y(answer));
+    printf("%s has records: %zu, pieces: %zu, classes: %zu\n", written, x(answer), y(answer) % 256, y(answer) / 256);
+    const uint8_t *records = february.records, *classes = february.classes;
+    size_t records_length = february.records_length, classes_length = february.classes_length;
 
-    /* Match: whole lines. */
+    /* Match: whole lines. The classes are lent after the records. */
     const char *lines[] = {"02-28", "02-29", "03-01"};
     for (size_t i = 0; i < sizeof lines / sizeof *lines; i++) {
-        answer = foam_match(buffer, length, bytes(lines[i]), strlen(lines[i]));
+        answer = foam_match(records, records_length, classes, classes_length, bytes(lines[i]), strlen(lines[i]));
         printf("%s %s\n", lines[i], flag(answer) ? "yes" : "no");
     }
 
     /* Search: the earliest start, then the furthest end. */
     const char *text = "from 02-28 to 03-01";
-    answer = foam_search(buffer, length, bytes(text), strlen(text));
+    answer = foam_search(records, records_length, classes, classes_length, bytes(text), strlen(text));
     if (flag(answer))
         printf("found %.*s from %zu to %zu\n", (int)(y(answer) - x(answer)), text + x(answer), x(answer), y(answer));
 
     /* Step: the marks are yours to keep, and after a start each step says whether the bytes so far match. */
-    uint64_t words[MOST_WORDS];
-    foam_start(buffer, length, words, MOST_WORDS);
+    uint64_t words[FOAM_MOST_WORDS];
+    foam_start(records, records_length, classes, classes_length, words, FOAM_MOST_WORDS);
     for (const char *at = "02-29"; *at != 0; at++) {
-        answer = foam_step(buffer, length, words, MOST_WORDS, (uint8_t)*at);
+        answer = foam_step(records, records_length, classes, classes_length, words, FOAM_MOST_WORDS, (uint8_t)*at);
         printf("after %c: %s\n", *at, flag(answer) ? "yes" : "no");
     }
 
-    /* Pick: an expression and its texts, a line each, in one call; the answer says how long the output is. */
+    /* The first syntax has no classes: its lists take a class buffer of length 0. */
+    static uint8_t list[FOAM_MOST_RECORD_BYTES];
+    answer = foam_read(bytes("02-2(8|9)"), 9, list, sizeof list);
+    answer = foam_match(list, FOAM_RECORD_SIZE * x(answer), classes, 0, bytes("02-29"), 5);
+    printf("02-2(8|9) in the first syntax: 02-29 %s\n", flag(answer) ? "yes" : "no");
+
+    /* Pick: an expression of the first syntax and its texts, a line each; the answer says how long the output is. */
     static uint8_t output[FOAM_MOST_OUTPUT];
     const char *input = "02-2(8|9)\n02-28\n02-29\n03-01\n";
     answer = foam_pick(bytes(input), strlen(input), output, sizeof output);
     printf("%.*s", (int)x(answer), (const char *)output);
 
     /* A refusal has a number and a place, and changes nothing that was lent. */
-    answer = foam_read(bytes("02-2(8|9"), 8, buffer, sizeof buffer);
-    printf("02-2(8|9 is refused: %u at %zu\n", number(answer), x(answer));
+    const char *faulty[] = {"02-2(8|9", "02-[9-0]"};
+    for (size_t i = 0; i < sizeof faulty / sizeof *faulty; i++) {
+        answer = read_second(faulty[i], &february);
+        printf("%s is refused: %u at %zu\n", faulty[i], number(answer), x(answer));
+    }
     return 0;
 }

@@ -1,48 +1,59 @@
-//! Reads an expression, matches some dates, searches a text, steps through another, picks lines, and shows a refusal.
+//! Reads expressions of both syntaxes, matches some dates, searches a text, steps through another, picks lines, and shows
+//! refusals.
 
 #[path = "../../rust/foamlattice.rs"]
 mod foamlattice;
 
-use foamlattice::{Refusal, MOST_OUTPUT, MOST_RECORD_BYTES, MOST_WORDS};
+use foamlattice::{Expression, Refusal, CLASS_SIZE, MOST_OUTPUT, MOST_WORDS, RECORD_SIZE};
+
+fn yes_or_no(yes: bool) -> &'static str {
+    if yes {
+        "yes"
+    } else {
+        "no"
+    }
+}
 
 fn main() -> Result<(), Refusal> {
-    let mut buffer = [0; MOST_RECORD_BYTES];
-    let expression = "02-(0|1|2)(0|1|2|3|4|5|6|7|8|9)";
-
-    // Read: the counts say how many records were written, so how long the list is.
-    let counts = foamlattice::read(expression.as_bytes(), &mut buffer)?;
-    println!("{expression} has {} records in {} pieces", counts.records, counts.pieces);
-    let list = &buffer[..8 * counts.records];
+    // An expression that was read owns its records and its classes.
+    let written = "02-[0-2][0-9]";
+    let february = Expression::second(written.as_bytes())?;
+    let (records, classes) = (february.records().len() / RECORD_SIZE, february.classes().len() / CLASS_SIZE);
+    println!("{written} has records: {records}, pieces: {}, classes: {classes}", february.pieces());
 
     // Match: whole lines.
     for line in ["02-28", "02-29", "03-01"] {
-        let yes = foamlattice::is_match(list, line.as_bytes())?;
-        println!("{line} {}", if yes { "yes" } else { "no" });
+        println!("{line} {}", yes_or_no(february.is_match(line.as_bytes())?));
     }
 
     // Search: the earliest start, then the furthest end.
     let text = "from 02-28 to 03-01";
-    if let Some(part) = foamlattice::find(list, text.as_bytes())? {
+    if let Some(part) = february.find(text.as_bytes())? {
         println!("found {} from {} to {}", &text[part.clone()], part.start, part.end);
     }
 
     // Step: the marks are yours to keep, and after a start each step says whether the bytes so far match.
     let mut words = [0; MOST_WORDS];
-    foamlattice::start(list, &mut words)?;
+    february.start(&mut words)?;
     for byte in "02-29".bytes() {
-        let yes = foamlattice::step(list, &mut words, byte)?;
-        println!("after {}: {}", byte as char, if yes { "yes" } else { "no" });
+        println!("after {}: {}", byte as char, yes_or_no(february.step(&mut words, byte)?));
     }
 
-    // Pick: an expression and its texts, a line each, in one call.
+    // The first syntax has no classes.
+    let first = Expression::first(b"02-2(8|9)")?;
+    println!("02-2(8|9) in the first syntax: 02-29 {}", yes_or_no(first.is_match(b"02-29")?));
+
+    // Pick: an expression of the first syntax and its texts, a line each, in one call.
     let mut output = vec![0; MOST_OUTPUT];
     if let Some(lines) = foamlattice::pick(b"02-2(8|9)\n02-28\n02-29\n03-01\n", &mut output) {
         print!("{}", String::from_utf8_lossy(lines));
     }
 
     // A refusal has a number and a place, and changes nothing that was lent.
-    if let Err(refusal) = foamlattice::read(b"02-2(8|9", &mut buffer) {
-        println!("02-2(8|9 is refused: {} at {}", refusal.number, refusal.place);
+    for faulty in ["02-2(8|9", "02-[9-0]"] {
+        if let Err(refusal) = Expression::second(faulty.as_bytes()) {
+            println!("{faulty} is refused: {} at {}", refusal.number, refusal.place);
+        }
     }
     Ok(())
 }

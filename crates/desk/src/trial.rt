@@ -23,7 +23,7 @@ fn say_number(number: u64) {
 
 // Whether the list's language has the text.
 fn picks(list: &[u8], text: &[u8]) -> bool {
-    let matched = finder::is_match(list, text);
+    let matched = finder::is_match(list, b"", text);
     let Matched::Yes = matched else {
         return false;
     };

@@ -1,7 +1,11 @@
-// Cases from lines of text: a letter for the call, a space, an expression, and for all but `r` a space and a text.
+// Cases from lines of text: a letter for the call, a space, an expression, and for all but reading a space and a text.
+use crate::finding::match_second_shown;
 use crate::finding::match_shown;
+use crate::finding::search_second_shown;
 use crate::finding::search_shown;
 use crate::marking::marks_after;
+use crate::marking::second_marks_after;
+use crate::reading::read_second_shown;
 use crate::reading::read_shown;
 ghost use Prim.Native.Nat.{_≤_};
 ghost use lib.ListN.{length};
@@ -35,6 +39,18 @@ fn case_of(call: u8, expr: &[u8], text: &[u8]) {
         b's' => search_shown(expr, text),
         b'1' => marks_after(expr, text, 1),
         b'2' => marks_after(expr, text, 2),
+        _ => second_case_of(call, expr, text),
+    }
+}
+
+// The same of the second syntax, by other letters.
+fn second_case_of(call: u8, expr: &[u8], text: &[u8]) {
+    match call {
+        b'R' => read_second_shown(expr),
+        b'M' => match_second_shown(expr, text),
+        b'S' => search_second_shown(expr, text),
+        b'A' => second_marks_after(expr, text, 1),
+        b'B' => second_marks_after(expr, text, 2),
         _ => return,
     }
 }

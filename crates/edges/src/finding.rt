@@ -1,5 +1,7 @@
 // Texts matched and searched.
+use crate::reading::class_bytes;
 use crate::reading::list_of;
+use crate::reading::record_bytes;
 use crate::say::say;
 use crate::say::say_number;
 use crate::say::say_refused;
@@ -8,6 +10,7 @@ use finder::Matched;
 use finder::Searched;
 use finder::numbers::match_numbers;
 use finder::numbers::search_numbers;
+use reader::CountedAnswer;
 
 fn say_matched(matched: Matched) {
     let numbers = match_numbers(matched);
@@ -38,11 +41,11 @@ fn say_searched(searched: Searched) {
     }
 }
 
-// A line of its own: the name, and whether the list's language has the text.
-pub fn match_list(name: &[u8], list: &[u8], text: &[u8]) {
+// A line of its own: the name, and whether the list's language, by these classes, has the text.
+pub fn match_list(name: &[u8], list: &[u8], classes: &[u8], text: &[u8]) {
     say(name);
     say(b": ");
-    say_matched(finder::is_match(list, text));
+    say_matched(finder::is_match(list, classes, text));
     say(b"\n");
 }
 
@@ -50,7 +53,31 @@ pub fn match_named(name: &[u8], expr: &[u8], text: &[u8]) {
     let mut list = [0u8; 15360];
     let bytes = list_of(expr, &mut list);
     let n = io::count(bytes, &list);
-    match_list(name, &list[..n], text);
+    match_list(name, &list[..n], b"", text);
+}
+
+// By an expression of the second syntax.
+pub fn match_second(name: &[u8], expr: &[u8], text: &[u8]) {
+    let mut list = [0u8; 15360];
+    let mut classes = [0u8; 30720];
+    let answer = reader::read_second(expr, &mut list, &mut classes);
+    let CountedAnswer::Counted {
+        records,
+        pieces: _,
+        classes: count,
+    } = answer
+    else {
+        return;
+    };
+    let n = io::count(record_bytes(records), &list);
+    let k = io::count(class_bytes(count), &classes);
+    match_list(name, &list[..n], &classes[..k], text);
+}
+
+pub fn match_second_shown(expr: &[u8], text: &[u8]) {
+    say(expr);
+    say(b" on ");
+    match_second(text, expr, text);
 }
 
 pub fn match_shown(expr: &[u8], text: &[u8]) {
@@ -60,10 +87,10 @@ pub fn match_shown(expr: &[u8], text: &[u8]) {
 }
 
 // A line of its own: the name, and the part of the text that is found.
-pub fn search_list(name: &[u8], list: &[u8], text: &[u8]) {
+pub fn search_list(name: &[u8], list: &[u8], classes: &[u8], text: &[u8]) {
     say(name);
     say(b": ");
-    say_searched(finder::search(list, text));
+    say_searched(finder::search(list, classes, text));
     say(b"\n");
 }
 
@@ -71,7 +98,26 @@ pub fn search_named(name: &[u8], expr: &[u8], text: &[u8]) {
     let mut list = [0u8; 15360];
     let bytes = list_of(expr, &mut list);
     let n = io::count(bytes, &list);
-    search_list(name, &list[..n], text);
+    search_list(name, &list[..n], b"", text);
+}
+
+pub fn search_second_shown(expr: &[u8], text: &[u8]) {
+    say(expr);
+    say(b" in ");
+    let mut list = [0u8; 15360];
+    let mut classes = [0u8; 30720];
+    let answer = reader::read_second(expr, &mut list, &mut classes);
+    let CountedAnswer::Counted {
+        records,
+        pieces: _,
+        classes: count,
+    } = answer
+    else {
+        return;
+    };
+    let n = io::count(record_bytes(records), &list);
+    let k = io::count(class_bytes(count), &classes);
+    search_list(text, &list[..n], &classes[..k], text);
 }
 
 pub fn search_shown(expr: &[u8], text: &[u8]) {

@@ -2,6 +2,7 @@
 // that a line can hold come from standard input; long texts, buffers and words of a given length and damaged lists
 // stand here.
 mod cases;
+mod classes;
 mod finding;
 mod marking;
 mod reading;
@@ -81,11 +82,11 @@ const RECORDS: [u8; 33] =
 // Lists that are not good: bytes and records cut off or added.
 fn damaged() {
     list_shown(b"a*b");
-    match_list(b"the records of a*b on b", &RECORDS[..32], b"b");
-    match_list(b"a byte less", &RECORDS[..31], b"b");
-    match_list(b"a byte more", &RECORDS, b"b");
-    match_list(b"a record less", &RECORDS[..24], b"b");
-    match_list(b"no record", b"", b"b");
+    match_list(b"the records of a*b on b", &RECORDS[..32], b"", b"b");
+    match_list(b"a byte less", &RECORDS[..31], b"", b"b");
+    match_list(b"a byte more", &RECORDS, b"", b"b");
+    match_list(b"a record less", &RECORDS[..24], b"", b"b");
+    match_list(b"no record", b"", b"", b"b");
 }
 
 // The records of `a*b`, with the last one in piece 1.
@@ -93,9 +94,9 @@ const OTHER_PIECE: [u8; 32] =
     *b"\x01\x61\xff\xff\xff\xff\x00\x00\x04\x00\x00\x00\xff\xff\x00\x00\x01\x62\xff\xff\xff\xff\x00\x00\x02\x00\x01\x00\x02\x00\x01\x00";
 
 fn other_piece() {
-    match_list(b"the last record in piece 1", &OTHER_PIECE, b"b");
-    search_list(b"a search by it", &OTHER_PIECE, b"b");
-    step_list(b"a step by it from", &OTHER_PIECE, 256);
+    match_list(b"the last record in piece 1", &OTHER_PIECE, b"", b"b");
+    search_list(b"a search by it", &OTHER_PIECE, b"", b"b");
+    step_list(b"a step by it from", &OTHER_PIECE, b"", 256);
 }
 
 // Texts of 65,536 bytes and of one byte more.
@@ -105,7 +106,7 @@ fn long_texts() {
     match_named(b"(a|b)* on 65537 letters", b"(a|b)*", &text);
     search_named(b"(a|b)* in 65536 letters", b"(a|b)*", &text[..65536]);
     search_named(b"(a|b)* in 65537 letters", b"(a|b)*", &text);
-    match_list(b"no record on 65537 letters", b"", &text);
+    match_list(b"no record on 65537 letters", b"", b"", &text);
 }
 
 fn last_byte() {
@@ -129,4 +130,5 @@ fn main() {
     other_piece();
     long_texts();
     last_byte();
+    classes::show();
 }

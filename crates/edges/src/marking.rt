@@ -1,11 +1,14 @@
 // Marks started and stepped.
+use crate::reading::class_bytes;
 use crate::reading::list_of;
+use crate::reading::record_bytes;
 use crate::say::say;
 use crate::say::say_refused;
 use crate::say::say_yes;
 use libc::STDOUT_FILENO;
 use marks::MarksAnswer;
 use marks::numbers::numbers_of;
+use reader::CountedAnswer;
 
 fn say_answer(answer: MarksAnswer) {
     let numbers = numbers_of(answer);
@@ -35,19 +38,19 @@ fn say_words(words: &[u64], shown: usize) {
 }
 
 // Starts, and steps along each byte of the text; answers what the last of these answered.
-fn walk(list: &[u8], words: &mut [u64], text: &[u8]) -> MarksAnswer {
-    let mut answer = marks::start(list, words);
+fn walk(list: &[u8], classes: &[u8], words: &mut [u64], text: &[u8]) -> MarksAnswer {
+    let mut answer = marks::start(list, classes, words);
     let mut i = 0;
     while i < text.len() {
-        answer = marks::step(list, words, text[i]);
+        answer = marks::step(list, classes, words, text[i]);
         i += 1;
     }
     answer
 }
 
 // The rest of a line: what the start and the steps along a text answer, and the first words then.
-fn say_walk(list: &[u8], words: &mut [u64], text: &[u8], shown: usize) {
-    let answer = walk(list, words, text);
+fn say_walk(list: &[u8], classes: &[u8], words: &mut [u64], text: &[u8], shown: usize) {
+    let answer = walk(list, classes, words, text);
     say_answer(answer);
     say(b", marks");
     say_words(words, shown);
@@ -63,7 +66,37 @@ fn marks_in(expr: &[u8], words: &mut [u64], text: &[u8], shown: usize) {
     let mut list = [0u8; 15360];
     let bytes = list_of(expr, &mut list);
     let n = io::count(bytes, &list);
-    say_walk(&list[..n], words, text, shown);
+    say_walk(&list[..n], b"", words, text, shown);
+}
+
+// The marks after a text by an expression of the second syntax, in as many words as there can be pieces.
+pub fn second_marks_after(expr: &[u8], text: &[u8], shown: usize) {
+    say(expr);
+    say(b" after ");
+    say(text);
+    say(b": ");
+    let mut words = [0u64; 128];
+    let mut list = [0u8; 15360];
+    let mut classes = [0u8; 30720];
+    let answer = reader::read_second(expr, &mut list, &mut classes);
+    let CountedAnswer::Counted {
+        records,
+        pieces: _,
+        classes: count,
+    } = answer
+    else {
+        return;
+    };
+    let n = io::count(record_bytes(records), &list);
+    let k = io::count(class_bytes(count), &classes);
+    say_walk(&list[..n], &classes[..k], &mut words, text, shown);
+}
+
+// A line of its own: a start by a list with these classes, in these words.
+pub fn start_list(name: &[u8], list: &[u8], classes: &[u8], words: &mut [u64]) {
+    say(name);
+    say(b": ");
+    say_walk(list, classes, words, b"", words.len());
 }
 
 // The marks after a text, in as many words as there can be pieces.
@@ -83,10 +116,10 @@ pub fn marks_in_three_words(expr: &[u8], text: &[u8]) {
 }
 
 // The rest of a line: what a step along `a` from these marks answers, and the marks then.
-fn say_step(list: &[u8], words: &mut [u64]) {
+fn say_step(list: &[u8], classes: &[u8], words: &mut [u64]) {
     say_words(words, words.len());
     say(b": ");
-    let answer = marks::step(list, words, b'a');
+    let answer = marks::step(list, classes, words, b'a');
     say_answer(answer);
     say(b", marks");
     say_words(words, words.len());
@@ -100,7 +133,7 @@ fn step_from(expr: &[u8], words: &mut [u64]) {
     let mut list = [0u8; 15360];
     let bytes = list_of(expr, &mut list);
     let n = io::count(bytes, &list);
-    say_step(&list[..n], words);
+    say_step(&list[..n], b"", words);
 }
 
 pub fn step_from_one(expr: &[u8], word: u64) {
@@ -112,7 +145,7 @@ pub fn step_from_two(expr: &[u8], first: u64, second: u64) {
 }
 
 // A line of its own: a step by a list, from a single word.
-pub fn step_list(name: &[u8], list: &[u8], word: u64) {
+pub fn step_list(name: &[u8], list: &[u8], classes: &[u8], word: u64) {
     say(name);
-    say_step(list, &mut [word]);
+    say_step(list, classes, &mut [word]);
 }

@@ -3,6 +3,7 @@ use crate::say::say;
 use crate::say::say_number;
 use crate::say::say_refused;
 use libc::STDOUT_FILENO;
+use reader::CountedAnswer;
 use reader::ReadAnswer;
 
 fn say_answer(answer: ReadAnswer) {
@@ -49,15 +50,64 @@ fn bytes_of(answer: ReadAnswer) -> isize {
     let ReadAnswer::Read { records, pieces: _ } = answer else {
         return 0;
     };
-    if records <= 1920 {
-        return (8 * records) as isize;
-    }
-    0
+    record_bytes(records)
 }
 
 // Reads an expression into a list, and answers how many bytes its records have.
 pub fn list_of(expr: &[u8], list: &mut [u8]) -> isize {
     bytes_of(reader::read(expr, list))
+}
+
+fn say_counted(answer: CountedAnswer) {
+    match answer {
+        CountedAnswer::Counted {
+            records,
+            pieces,
+            classes,
+        } => {
+            say(b"records ");
+            say_number(records as u64);
+            say(b", pieces ");
+            say_number(pieces as u64);
+            say(b", classes ");
+            say_number(classes as u64);
+        }
+        CountedAnswer::Refused { number, place } => say_refused(number, place),
+    }
+}
+
+// A line of its own: the name, and what reading the expression in the second syntax into these bytes answers.
+pub fn read_second_into(name: &[u8], expr: &[u8], list: &mut [u8], classes: &mut [u8]) {
+    say(name);
+    say(b": ");
+    say_counted(reader::read_second(expr, list, classes));
+    say(b"\n");
+}
+
+pub fn read_second_named(name: &[u8], expr: &[u8]) {
+    let mut list = [0u8; 15360];
+    let mut classes = [0u8; 30720];
+    read_second_into(name, expr, &mut list, &mut classes);
+}
+
+pub fn read_second_shown(expr: &[u8]) {
+    read_second_named(expr, expr);
+}
+
+// How many bytes so many records have: none of a count that no list has.
+pub fn record_bytes(count: usize) -> isize {
+    if count <= 1920 {
+        return (8 * count) as isize;
+    }
+    0
+}
+
+// How many bytes so many class records have.
+pub fn class_bytes(count: usize) -> isize {
+    if count <= 1920 {
+        return (32 * count) as isize;
+    }
+    0
 }
 
 fn say_byte(byte: u8) {
@@ -82,5 +132,28 @@ pub fn list_shown(expr: &[u8]) {
     let bytes = list_of(expr, &mut list);
     let n = io::count(bytes, &list);
     say_list(&list[..n]);
+    say(b"\n");
+}
+
+// A line of its own: the bytes of an expression's records, in the second syntax, and of its class records.
+pub fn second_list_shown(expr: &[u8]) {
+    let mut list = [0u8; 15360];
+    let mut classes = [0u8; 30720];
+    let answer = reader::read_second(expr, &mut list, &mut classes);
+    let CountedAnswer::Counted {
+        records,
+        pieces: _,
+        classes: count,
+    } = answer
+    else {
+        return;
+    };
+    let n = io::count(record_bytes(records), &list);
+    let k = io::count(class_bytes(count), &classes);
+    say(expr);
+    say(b":");
+    say_list(&list[..n]);
+    say(b", classes");
+    say_list(&classes[..k]);
     say(b"\n");
 }

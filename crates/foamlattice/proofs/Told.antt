@@ -1,16 +1,17 @@
 -- The number that an answer is packed into, by its case: each case's tag finds it in a list.
-use Prim.Native.Nat.{ℕ}
+use Prim.Native.Nat.{ℕ, _+_, _*_}
 use mathlib.Core.Path.{_≡_, refl, ap, _∙_}
 use mathlib.Core.List.{List, [], _∷_}
 use native.Mathlib.Omega.{arith}
 use lib.ListN.{getD}
 use denote.Enum.Declared.{tagOf}
 use Rattle.reader.specs.Answer.{refusing}
+use Rattle.reader.specs.SecondAnswer.{refusing-counts}
 use Rattle.picker.specs.declared.Picked.{Picked}
 use Rattle.picker.specs.declared.Picked.the-variants.{Written, NoRoom}
 use Rattle.picker.proofs.Picked.{the-type as picked-type}
 use Rattle.foamlattice.specs.Packed.{packed}
-use Rattle.foamlattice.specs.Promise.{read-packed, pick-packed}
+use Rattle.foamlattice.specs.Promise.{read-packed, second-packed, pick-packed}
 
 -- the numbers of a picking: that of an output written is its own
 abbrev pub pick-numbers : Picked → List ℕ
@@ -31,3 +32,12 @@ read-number records pieces = omega arith
 
 pub refused-number : (number place : ℕ) → packed number 0 place 0 ≡ read-packed (refusing number place)
 refused-number number place = omega arith
+
+-- the same in the second syntax
+pub second-number : (records pieces classes : ℕ) → packed 0 0 records (pieces + 256 * classes)
+    ≡ second-packed (record { refusal = 0; place = 0; records = records; pieces = pieces; classes = classes })
+second-number records pieces classes = omega arith
+
+pub second-refused-number : (number place : ℕ) → packed number 0 place 0
+    ≡ second-packed (refusing-counts number place)
+second-refused-number number place = omega arith

@@ -1,32 +1,49 @@
 -- The parts of every right answer are in range, so unpacking its number gives them back.
-use Prim.Native.Nat.{ℕ, _+_, _*_, _≤_}
+use Prim.Native.Nat.{ℕ, _+_, _*_, _/_, _%_, _≤_}
 use native.Mathlib.Omega.{arith}
 use mathlib.Core.Path.{_≡_, refl, ap}
 use mathlib.Core.Bool.{Bool, true, false, cond}
-use mathlib.Core.List.{List}
+use mathlib.Core.List.{List, []}
+use lib.ListN.{length-append}
 use lib.Dec.{ltb}
 use borrow.Author.Tests.{ltb-false}
-use Rattle.language.specs.Tree.{Tree, nodes}
+use Rattle.language.specs.Tree.{Tree, leaf, catenation, union, star, nodes}
 use Rattle.language.specs.Automaton.{States}
-use Rattle.tree.specs.RefusalNumbers.{too-many-pieces, buffer-too-short, text-too-long, words-not-marks}
+use Rattle.tree.specs.RefusalNumbers.{too-many-pieces, buffer-too-short, class-buffer-too-short}
 use Rattle.tree.specs.Leaf.{Leaf}
 use Rattle.tree.specs.Layout.{record-size}
 use Rattle.tree.specs.Limits.{longest-expression, most-records, most-pieces, longest-text}
 use Rattle.tree.specs.Records.{piece-count}
 use Rattle.tree.specs.Pieces.{nodes-per-piece}
-use Rattle.reader.specs.Scanner.{Outcome, tree, refused, scanned}
-use Rattle.reader.specs.Agree.{scanned-refusal}
+use Rattle.scanner.specs.Bytes.{first, second}
+use Rattle.scanner.specs.Scanner.{Atom, literal, one-of, Outcome, tree, refused, scanned}
+use Rattle.reader.specs.Drawn.{drawn, recorded-from, recorded, classes-in}
+use Rattle.scanner.specs.Agree.{scanned-refusal}
+use Rattle.reader.specs.DrawnLaws.{drawn-refusal}
 use Rattle.reader.specs.Answer.{Numbers, refusing, reading, answer-for, answered}
+use Rattle.reader.specs.SecondAnswer.{
+  Counted-numbers,
+  refusing-counts,
+  counting,
+  too-many,
+  too-short,
+  too-few-classes as lent-too-few,
+  pick-stored,
+  second-answer-for,
+  second-answered,
+}
 use Rattle.marks.specs.declared.numbers.Numbers.{Numbers as Marks-numbers}
 use Rattle.marks.specs.Promise.{
   Refused,
   Made,
   Starts,
   start-not-good,
+  start-too-few-classes,
   start-too-few,
   started,
   Steps,
   step-not-good,
+  step-too-few-classes,
   step-too-few,
   step-not-marks,
   stepped,
@@ -35,6 +52,7 @@ use Rattle.finder.specs.declared.numbers.Numbers.{Numbers as Found-numbers}
 use Rattle.finder.specs.Promise.{
   Refuses,
   not-good,
+  too-few-classes,
   too-long,
   Match-answers,
   match-refused,
@@ -53,6 +71,7 @@ use Rattle.picker.specs.Promise.{Picks}
 use Rattle.foamlattice.specs.Packed.{packed, Ranges, Unpacks}
 use Rattle.foamlattice.specs.Promise.{
   read-packed,
+  second-packed,
   found-packed,
   marks-packed,
   pick-flag,
@@ -107,10 +126,10 @@ picked-ranges t false false e =
       pieces-small = few;
     }
 
-outcome-ranges : (bytes : List ℕ) (room : ℕ) (outcome : Outcome) → scanned bytes ≡ outcome
+outcome-ranges : (bytes : List ℕ) (room : ℕ) (outcome : Outcome Leaf) → drawn (scanned first bytes) ≡ outcome
     → Read-ranges (answer-for outcome room)
 outcome-ranges bytes room (refused number place) e =
-    let known = scanned-refusal bytes number place e in
+    let known = drawn-refusal first bytes number place e in
     record {
       refusal-small = omega (arith, known .most);
       place-small = known .inside;
@@ -122,28 +141,96 @@ outcome-ranges bytes room (tree t) e =
 
 -- what is answered for any bytes and any buffer
 pub answered-ranges : (bytes : List ℕ) (room : ℕ) → Read-ranges (answered bytes room)
-answered-ranges bytes room = outcome-ranges bytes room (scanned bytes) refl
+answered-ranges bytes room = outcome-ranges bytes room (drawn (scanned first bytes)) refl
 
 -- so for numbers that fit the promise
 pub read-ranges : (bytes : List ℕ) (room : ℕ) (n : Numbers) → n ≡ answered bytes room → Read-ranges n
 read-ranges bytes room n e = rw e (answered-ranges bytes room)
 
+-- the numbers that reading in the second syntax can answer
+pub record Second-ranges (n : Counted-numbers) : Type 0 where
+  pub refusal-small : n .refusal ≤ class-buffer-too-short
+  pub place-small : n .place ≤ longest-expression
+  pub records-small : n .records ≤ most-records
+  pub pieces-small : n .pieces ≤ most-pieces
+  pub classes-small : n .classes ≤ most-records
+
+-- a refusal's counts are 0
+refused-counts : (number place : ℕ) → number ≤ class-buffer-too-short → place ≤ longest-expression
+    → Second-ranges (refusing-counts number place)
+refused-counts number place small inside = record {
+  refusal-small = small;
+  place-small = inside;
+  records-small = omega arith;
+  pieces-small = omega arith;
+  classes-small = omega arith;
+}
+
+-- there are no more classes than nodes
+classes-most : (t : Tree Atom) (next : ℕ) → classes-in t ≤ nodes (recorded-from t next)
+classes-most (leaf (literal b)) next = omega arith
+classes-most (leaf (one-of class)) next = omega arith
+classes-most (catenation s t) next =
+    rw length-append (omega (arith, classes-most s next, classes-most t (next + classes-in s)))
+classes-most (union s t) next =
+    rw length-append (omega (arith, classes-most s next, classes-most t (next + classes-in s)))
+classes-most (star s) next = omega (arith, classes-most s next)
+
+-- by the three tests of an expression that is read
+stored-ranges : (t : Tree Atom) (many short few : Bool) → too-many t ≡ many
+    → Second-ranges (pick-stored many short few (λ number. refusing-counts number 0) (counting t))
+stored-ranges t true short few e = refused-counts too-many-pieces 0 (omega arith) (omega arith)
+stored-ranges t false true few e = refused-counts buffer-too-short 0 (omega arith) (omega arith)
+stored-ranges t false false true e = refused-counts class-buffer-too-short 0 (omega arith) (omega arith)
+stored-ranges t false false false e =
+    let pieces : piece-count (recorded t) ≤ most-pieces = ltb-false most-pieces (piece-count (recorded t)) e in
+    let records : nodes (recorded t) ≤ most-records = omega (arith, pieces, nodes-per-piece (recorded t)) in
+    record {
+      refusal-small = omega arith;
+      place-small = omega arith;
+      records-small = records;
+      pieces-small = pieces;
+      classes-small = omega (arith, records, classes-most t 0);
+    }
+
+second-outcome : (bytes : List ℕ) (room class-room : ℕ) (outcome : Outcome Atom) → scanned second bytes ≡ outcome
+    → Second-ranges (second-answer-for outcome room class-room)
+second-outcome bytes room class-room (refused number place) e =
+    let known = scanned-refusal second bytes number place e in
+    refused-counts number place (omega (arith, known .most)) (known .inside)
+second-outcome bytes room class-room (tree t) e =
+    stored-ranges t (too-many t) (too-short t room) (lent-too-few t class-room) refl
+
+-- what is answered for any bytes and any two buffers
+pub second-answered-ranges : (bytes : List ℕ) (room class-room : ℕ)
+    → Second-ranges (second-answered bytes room class-room)
+second-answered-ranges bytes room class-room =
+    second-outcome bytes room class-room (scanned second bytes) refl
+
+-- so for numbers that fit the promise
+pub second-ranges : (bytes : List ℕ) (room class-room : ℕ) (n : Counted-numbers)
+    → n ≡ second-answered bytes room class-room → Second-ranges n
+second-ranges bytes room class-room n e = rw e (second-answered-ranges bytes room class-room)
+
 -- the numbers that match and search can give back: a part found lies in a text of at most 65,536 bytes
 pub record Found-ranges (n : Found-numbers) : Type 0 where
-  pub refusal-small : n .refusal ≤ text-too-long
+  pub refusal-small : n .refusal ≤ class-buffer-too-short
   pub x-small : n .place + n .start ≤ longest-text
   pub y-small : n .end ≤ longest-text
 
-refused-ranges : {list text : List ℕ} {number : ℕ} → Refuses list text number → number ≤ text-too-long
+refused-ranges : {list classes text : List ℕ} {number : ℕ} → Refuses list classes text number → number ≤ class-buffer-too-short
 refused-ranges (not-good why) = omega arith
+refused-ranges (too-few-classes why) = omega arith
 refused-ranges (too-long a) = omega arith
 
-pub match-ranges : {list text : List ℕ} {n : Found-numbers} → Match-answers list text n → Found-ranges n
+pub match-ranges : {list classes text : List ℕ} {n : Found-numbers} → Match-answers list classes text n
+    → Found-ranges n
 match-ranges (match-refused r) =
     record { refusal-small = refused-ranges r; x-small = omega arith; y-small = omega arith }
 match-ranges (match-answered a) = record { refusal-small = omega arith; x-small = omega arith; y-small = omega arith }
 
-pub search-ranges : {list text : List ℕ} {n : Found-numbers} → Search-answers list text n → Found-ranges n
+pub search-ranges : {list classes text : List ℕ} {n : Found-numbers} → Search-answers list classes text n
+    → Found-ranges n
 search-ranges (search-refused r) =
     record { refusal-small = refused-ranges r; x-small = omega arith; y-small = omega arith }
 search-ranges (search-found a) =
@@ -156,10 +243,10 @@ search-ranges (search-nothing a) = record { refusal-small = omega arith; x-small
 
 -- the numbers that start and step can give back
 pub record Marks-ranges (n : Marks-numbers) : Type 0 where
-  pub refusal-small : n .refusal ≤ words-not-marks
+  pub refusal-small : n .refusal ≤ class-buffer-too-short
   pub front : n .place ≡ 0
 
-refused-marks : {number : ℕ} {why : Type 0} {before after : List ℕ} {n : Marks-numbers} → number ≤ words-not-marks
+refused-marks : {number : ℕ} {why : Type 0} {before after : List ℕ} {n : Marks-numbers} → number ≤ class-buffer-too-short
     → Refused number why before after n → Marks-ranges n
 refused-marks small r =
     record {
@@ -167,22 +254,25 @@ refused-marks small r =
       front = ap (λ (n : Marks-numbers). n .place) (r .refuses);
     }
 
-made-marks : {list : List ℕ} {X : Tree Leaf → States} {before after : List ℕ} {n : Marks-numbers}
-    → Made list X before after n → Marks-ranges n
+made-marks : {list classes : List ℕ} {X : Tree Leaf → States} {before after : List ℕ} {n : Marks-numbers}
+    → Made list classes X before after n → Marks-ranges n
 made-marks m =
     record {
       refusal-small = rw (ap (λ (n : Marks-numbers). n .refusal) (m .marks)) (omega arith);
       front = ap (λ (n : Marks-numbers). n .place) (m .marks);
     }
 
-pub start-ranges : {list before after : List ℕ} {n : Marks-numbers} → Starts list before after n → Marks-ranges n
+pub start-ranges : {list classes before after : List ℕ} {n : Marks-numbers} → Starts list classes before after n
+    → Marks-ranges n
 start-ranges (start-not-good r) = refused-marks (omega arith) r
+start-ranges (start-too-few-classes r) = refused-marks (omega arith) r
 start-ranges (start-too-few r) = refused-marks (omega arith) r
 start-ranges (started m) = made-marks m
 
-pub step-ranges : {list : List ℕ} {byte : ℕ} {before after : List ℕ} {n : Marks-numbers}
-    → Steps list byte before after n → Marks-ranges n
+pub step-ranges : {list classes : List ℕ} {byte : ℕ} {before after : List ℕ} {n : Marks-numbers}
+    → Steps list classes byte before after n → Marks-ranges n
 step-ranges (step-not-good r) = refused-marks (omega arith) r
+step-ranges (step-too-few-classes r) = refused-marks (omega arith) r
 step-ranges (step-too-few r) = refused-marks (omega arith) r
 step-ranges (step-not-marks r) = refused-marks (omega arith) r
 step-ranges (stepped s) = made-marks (s .made)
@@ -190,15 +280,15 @@ step-ranges (stepped s) = made-marks (s .made)
 -- an output has at most 1,048,575 bytes
 pub pick-length-small : (input before after : List ℕ) (answer : Picked) → Picks input before after answer
     → pick-length answer ≤ most-output
-pick-length-small input before after (Written size) right = omega (arith, right .sized, output-length matches input)
+pick-length-small input before after (Written size) right = omega (arith, right .sized, output-length (matches []) input)
 pick-length-small input before after NoRoom right = omega arith
 
 -- a number and a flag of a case are small
 pub record Small-case (number flag : ℕ) : Type 0 where
-  pub number-small : number ≤ words-not-marks
+  pub number-small : number ≤ class-buffer-too-short
   pub flag-small : flag ≤ 1
 
-small : (number flag : ℕ) → number ≤ words-not-marks → flag ≤ 1 → Small-case number flag
+small : (number flag : ℕ) → number ≤ class-buffer-too-short → flag ≤ 1 → Small-case number flag
 small number flag n f = record { number-small = n; flag-small = f }
 
 flag-small : (flag : Bool) → cond flag 1 0 ≤ 1
@@ -232,6 +322,22 @@ read-unpacks bytes room r e =
     case-unpacks r _ 0 _ _ (small _ 0 (omega (arith, known .refusal-small)) (omega arith))
     (omega (arith, known .place-small, known .records-small)) (omega (arith, known .pieces-small)) e
 
+-- so does that of reading in the second syntax: y has the pieces below 256, and then the classes
+pub second-unpacks : (bytes : List ℕ) (room class-room r : ℕ) → r ≡ second-packed (second-answered bytes room class-room)
+    → Unpacks r (second-answered bytes room class-room .refusal) 0
+    (second-answered bytes room class-room .place + second-answered bytes room class-room .records)
+    (second-answered bytes room class-room .pieces + 256 * second-answered bytes room class-room .classes)
+second-unpacks bytes room class-room r e =
+    let known = second-answered-ranges bytes room class-room in
+    case-unpacks r _ 0 _ _ (small _ 0 (known .refusal-small) (omega arith))
+    (omega (arith, known .place-small, known .records-small))
+    (omega (arith, known .pieces-small, known .classes-small)) e
+
+-- and y gives both counts back
+pub counts-back : (pieces classes y : ℕ) → pieces ≤ most-pieces → y ≡ pieces + 256 * classes
+    → (y % 256 ≡ pieces) × (y / 256 ≡ classes)
+counts-back pieces classes y few e = (omega arith, omega arith)
+
 -- so does that of a match, of a search, of a start, of a step and of a picking
 found-unpacks : (r : ℕ) (n : Found-numbers) → Found-ranges n → r ≡ found-packed n
     → Unpacks r (n .refusal) (cond (n .matched) 1 0) (n .place + n .start) (n .end)
@@ -239,15 +345,15 @@ found-unpacks r n known e =
     case-unpacks r _ _ _ _ (small _ _ (omega (arith, known .refusal-small)) (flag-small (n .matched)))
     (omega (arith, known .x-small)) (omega (arith, known .y-small)) e
 
-pub matching-unpacks : (list text : List ℕ) (r : ℕ) (m : Matching list text r)
+pub matching-unpacks : (list classes text : List ℕ) (r : ℕ) (m : Matching list classes text r)
     → Unpacks r (m .numbers .refusal) (cond (m .numbers .matched) 1 0) (m .numbers .place + m .numbers .start)
     (m .numbers .end)
-matching-unpacks list text r m = found-unpacks r (m .numbers) (match-ranges (m .right)) (m .as-number)
+matching-unpacks list classes text r m = found-unpacks r (m .numbers) (match-ranges (m .right)) (m .as-number)
 
-pub searching-unpacks : (list text : List ℕ) (r : ℕ) (m : Searching list text r)
+pub searching-unpacks : (list classes text : List ℕ) (r : ℕ) (m : Searching list classes text r)
     → Unpacks r (m .numbers .refusal) (cond (m .numbers .matched) 1 0) (m .numbers .place + m .numbers .start)
     (m .numbers .end)
-searching-unpacks list text r m = found-unpacks r (m .numbers) (search-ranges (m .right)) (m .as-number)
+searching-unpacks list classes text r m = found-unpacks r (m .numbers) (search-ranges (m .right)) (m .as-number)
 
 marks-unpacks : (r : ℕ) (n : Marks-numbers) → Marks-ranges n → r ≡ marks-packed n
     → Unpacks r (n .refusal) (cond (n .accepting) 1 0) (n .place) 0
@@ -255,14 +361,14 @@ marks-unpacks r n known e =
     case-unpacks r _ _ _ 0 (small _ _ (known .refusal-small) (flag-small (n .accepting)))
     (omega (arith, known .front)) (omega arith) e
 
-pub starting-unpacks : (list before after : List ℕ) (r : ℕ) (m : Starting list before after r)
+pub starting-unpacks : (list classes before after : List ℕ) (r : ℕ) (m : Starting list classes before after r)
     → Unpacks r (m .numbers .refusal) (cond (m .numbers .accepting) 1 0) (m .numbers .place) 0
-starting-unpacks list before after r m = marks-unpacks r (m .numbers) (start-ranges (m .right)) (m .as-number)
+starting-unpacks list classes before after r m = marks-unpacks r (m .numbers) (start-ranges (m .right)) (m .as-number)
 
-pub stepping-unpacks : (list : List ℕ) (byte : ℕ) (before after : List ℕ) (r : ℕ)
-    (m : Stepping list byte before after r)
+pub stepping-unpacks : (list classes : List ℕ) (byte : ℕ) (before after : List ℕ) (r : ℕ)
+    (m : Stepping list classes byte before after r)
     → Unpacks r (m .numbers .refusal) (cond (m .numbers .accepting) 1 0) (m .numbers .place) 0
-stepping-unpacks list byte before after r m =
+stepping-unpacks list classes byte before after r m =
     marks-unpacks r (m .numbers) (step-ranges (m .right)) (m .as-number)
 
 pub picking-unpacks : (input before after : List ℕ) (r : ℕ) (m : Picking input before after r)

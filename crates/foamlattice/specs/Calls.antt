@@ -1,5 +1,6 @@
 -- A caller's chain: `foam_start`, then `foam_step` for each byte of a text, each from the words that the call before
--- left. By a good list, with words enough, no call is refused, and the flag says whether the text is in the language.
+-- left. By a good list, with class records and words enough, no call is refused, and the flag says whether the text is
+-- in the language.
 use Prim.Native.Nat.{ℕ, _≤_}
 use native.Mathlib.Omega.{arith}
 use mathlib.Core.Path.{_≡_, refl, ap, _∙_}
@@ -11,6 +12,7 @@ use Rattle.language.specs.Tree.{Tree}
 use Rattle.tree.specs.Leaf.{Leaf, Matches}
 use Rattle.tree.specs.Records.{Good, piece-count}
 use Rattle.marks.specs.declared.numbers.Numbers.{Numbers}
+use Rattle.marks.specs.Promise.{Classed}
 use Rattle.marks.specs.Chain.{Chain, begun, further, Follows}
 use Rattle.marks.specs.ChainFollows.{chain-follows}
 use Rattle.foamlattice.specs.Packed.{number-in, flag-in, Unpacks}
@@ -18,25 +20,26 @@ use Rattle.foamlattice.specs.Promise.{Starting, Stepping}
 use Rattle.foamlattice.specs.Bounds.{starting-unpacks, stepping-unpacks}
 
 -- from the words `before`, over the bytes of w: the last call answered r and left the words `after`
-pub data Calls (list before : List ℕ) : (w after : List ℕ) → ℕ → Type 0 where
-  call-start : {after : List ℕ} {r : ℕ} → Starting list before after r → Calls list before [] after r
-  call-step : {w after later : List ℕ} {r s byte : ℕ} → Calls list before w after r
-      → Stepping list byte after later s → Calls list before (w ++ (byte ∷ [])) later s
+pub data Calls (list classes before : List ℕ) : (w after : List ℕ) → ℕ → Type 0 where
+  call-start : {after : List ℕ} {r : ℕ} → Starting list classes before after r → Calls list classes before [] after r
+  call-step : {w after later : List ℕ} {r s byte : ℕ} → Calls list classes before w after r
+      → Stepping list classes byte after later s → Calls list classes before (w ++ (byte ∷ [])) later s
 
 -- the numbers that the last call packed
-record Last (list before w after : List ℕ) (r : ℕ) : Type 0 where
+record Last (list classes before w after : List ℕ) (r : ℕ) : Type 0 where
   pub numbers : Numbers
-  pub chain : Chain list before w after numbers
+  pub chain : Chain list classes before w after numbers
   pub unpacked : Unpacks r (numbers .refusal) (cond (numbers .accepting) 1 0) (numbers .place) 0
 
-last-call : {list before w after : List ℕ} {r : ℕ} → Calls list before w after r → Last list before w after r
-last-call {list} {before} {r = r} (call-start {after = after} s) =
-    record { numbers = s .numbers; chain = begun (s .right); unpacked = starting-unpacks list before after r s }
-last-call {list} {r = r} (call-step {after = after} {later = later} {byte = byte} calls s) =
+last-call : {list classes before w after : List ℕ} {r : ℕ} → Calls list classes before w after r
+    → Last list classes before w after r
+last-call {list} {classes} {before} {r = r} (call-start {after = after} s) =
+    record { numbers = s .numbers; chain = begun (s .right); unpacked = starting-unpacks list classes before after r s }
+last-call {list} {classes} {r = r} (call-step {after = after} {later = later} {byte = byte} calls s) =
     record {
       numbers = s .numbers;
       chain = further (last-call calls .chain) (s .right);
-      unpacked = stepping-unpacks list byte after later r s;
+      unpacked = stepping-unpacks list classes byte after later r s;
     }
 
 -- a flag is 1 exactly where it is set
@@ -45,15 +48,15 @@ flag-set true = (λ e. refl, λ e. refl)
 flag-set false = (λ e. absurd (omega arith), λ e. absurd (false≢true e))
 
 -- no call was refused, and the last one's flag says whether the bytes so far are in the language
-pub record Says-of (t : Tree Leaf) (w : List ℕ) (r : ℕ) : Type 0 where
+pub record Says-of (classes : List ℕ) (t : Tree Leaf) (w : List ℕ) (r : ℕ) : Type 0 where
   pub not-refused : number-in r ≡ 0
-  pub flag : (flag-in r ≡ 1) ↔ Matches t w
+  pub flag : (flag-in r ≡ 1) ↔ Matches classes t w
 
-pub calls-follow : {list before w after : List ℕ} {r : ℕ} (t : Tree Leaf) → Good list t → piece-count t ≤ length before
-    → Calls list before w after r → Says-of t w r
-calls-follow {r = r} t good enough calls =
+pub calls-follow : {list classes before w after : List ℕ} {r : ℕ} (t : Tree Leaf) → Good list t → Classed classes t
+    → piece-count t ≤ length before → Calls list classes before w after r → Says-of classes t w r
+calls-follow {r = r} t good classed enough calls =
     let last = last-call calls in
-    let follows = chain-follows good enough (last .chain) in
+    let follows = chain-follows good classed enough (last .chain) in
     record {
       not-refused = last .unpacked .number-back ∙ ap (λ (n : Numbers). n .refusal) (follows .marks);
       flag =

@@ -1,10 +1,11 @@
 -- What each call of the outside interface answers: the number that an answer is packed into, and that the answer is
 -- right.
-use Prim.Native.Nat.{ℕ, _+_}
+use Prim.Native.Nat.{ℕ, _+_, _*_}
 use mathlib.Core.Path.{_≡_}
 use mathlib.Core.Bool.{cond}
 use mathlib.Core.List.{List}
 use Rattle.reader.specs.Answer.{Numbers}
+use Rattle.reader.specs.SecondAnswer.{Counted-numbers}
 use Rattle.marks.specs.declared.numbers.Numbers.{Numbers as Marks-numbers}
 use Rattle.marks.specs.Promise.{Starts, Steps}
 use Rattle.finder.specs.declared.numbers.Numbers.{Numbers as Found-numbers}
@@ -17,6 +18,10 @@ use Rattle.foamlattice.specs.Packed.{packed}
 -- read: x is the count of records, or the place of a refusal, the other of which is 0; y is the count of pieces
 abbrev pub read-packed : Numbers → ℕ
 read-packed n = packed (n .refusal) 0 (n .place + n .records) (n .pieces)
+
+-- read2: x as for read; y is the count of pieces, which is below 256, and 256 times that of classes
+abbrev pub second-packed : Counted-numbers → ℕ
+second-packed n = packed (n .refusal) 0 (n .place + n .records) (n .pieces + 256 * n .classes)
 
 -- match and search: the flag is 1 for yes, or where a part was found; x is that part's start, or the place of a
 -- refusal, and y is its end
@@ -40,27 +45,27 @@ abbrev pub pick-packed : Picked → ℕ
 pick-packed answer = packed 0 (pick-flag answer) (pick-length answer) 0
 
 -- the number r packs right numbers of a match
-pub record Matching (list text : List ℕ) (r : ℕ) : Type 0 where
+pub record Matching (list classes text : List ℕ) (r : ℕ) : Type 0 where
   pub numbers : Found-numbers
-  pub right : Match-answers list text numbers
+  pub right : Match-answers list classes text numbers
   pub as-number : r ≡ found-packed numbers
 
 -- the number r packs right numbers of a search
-pub record Searching (list text : List ℕ) (r : ℕ) : Type 0 where
+pub record Searching (list classes text : List ℕ) (r : ℕ) : Type 0 where
   pub numbers : Found-numbers
-  pub right : Search-answers list text numbers
+  pub right : Search-answers list classes text numbers
   pub as-number : r ≡ found-packed numbers
 
 -- the words afterwards and the number r are those of a right start
-pub record Starting (list before after : List ℕ) (r : ℕ) : Type 0 where
+pub record Starting (list classes before after : List ℕ) (r : ℕ) : Type 0 where
   pub numbers : Marks-numbers
-  pub right : Starts list before after numbers
+  pub right : Starts list classes before after numbers
   pub as-number : r ≡ marks-packed numbers
 
 -- the words afterwards and the number r are those of a right step
-pub record Stepping (list : List ℕ) (byte : ℕ) (before after : List ℕ) (r : ℕ) : Type 0 where
+pub record Stepping (list classes : List ℕ) (byte : ℕ) (before after : List ℕ) (r : ℕ) : Type 0 where
   pub numbers : Marks-numbers
-  pub right : Steps list byte before after numbers
+  pub right : Steps list classes byte before after numbers
   pub as-number : r ≡ marks-packed numbers
 
 -- the buffer afterwards and the number r are those of a right picking

@@ -1,5 +1,5 @@
--- Two results that both fit a call's promise are equal: the answers behind them are. What `foam_read` promises is two
--- equations.
+-- Two results that both fit a call's promise are equal: the answers behind them are. What `foam_read` and
+-- `foam_read2` promise are equations.
 use Prim.Native.Nat.{ℕ}
 use mathlib.Core.Path.{_≡_, ap, sym, _∙_}
 use mathlib.Core.List.{List}
@@ -22,24 +22,26 @@ same-number : {A : Type 0} (packed-from : A → ℕ) (r s : ℕ) (a b : A) → r
     → r ≡ s
 same-number packed-from r s a b e f same = e ∙ ap packed-from same ∙ sym f
 
-pub matching-unique : (list text : List ℕ) (r s : ℕ) → Matching list text r → Matching list text s → r ≡ s
-matching-unique list text r s m n =
-    same-number found-packed r s _ _ (m .as-number) (n .as-number) (match-unique list text (m .right) (n .right))
+pub matching-unique : (list classes text : List ℕ) (r s : ℕ) → Matching list classes text r
+    → Matching list classes text s → r ≡ s
+matching-unique list classes text r s m n =
+    same-number found-packed r s _ _ (m .as-number) (n .as-number) (match-unique list classes text (m .right) (n .right))
 
-pub searching-unique : (list text : List ℕ) (r s : ℕ) → Searching list text r → Searching list text s → r ≡ s
-searching-unique list text r s m n =
+pub searching-unique : (list classes text : List ℕ) (r s : ℕ) → Searching list classes text r
+    → Searching list classes text s → r ≡ s
+searching-unique list classes text r s m n =
     same-number found-packed r s _ _ (m .as-number) (n .as-number)
-    (search-unique-numbers list text (m .right) (n .right))
+    (search-unique-numbers list classes text (m .right) (n .right))
 
-pub starting-unique : (list before after after' : List ℕ) (r s : ℕ) → Starting list before after r
-    → Starting list before after' s → (r ≡ s) × (after ≡ after')
-starting-unique list before after after' r s m n =
+pub starting-unique : (list classes before after after' : List ℕ) (r s : ℕ) → Starting list classes before after r
+    → Starting list classes before after' s → (r ≡ s) × (after ≡ after')
+starting-unique list classes before after after' r s m n =
     let same = starts-unique (m .right) (n .right) in
     (same-number marks-packed r s _ _ (m .as-number) (n .as-number) (same .0), same .1)
 
-pub stepping-unique : (list : List ℕ) (byte : ℕ) (before after after' : List ℕ) (r s : ℕ)
-    → Stepping list byte before after r → Stepping list byte before after' s → (r ≡ s) × (after ≡ after')
-stepping-unique list byte before after after' r s m n =
+pub stepping-unique : (list classes : List ℕ) (byte : ℕ) (before after after' : List ℕ) (r s : ℕ)
+    → Stepping list classes byte before after r → Stepping list classes byte before after' s → (r ≡ s) × (after ≡ after')
+stepping-unique list classes byte before after after' r s m n =
     let same = steps-unique (m .right) (n .right) in
     (same-number marks-packed r s _ _ (m .as-number) (n .as-number) (same .0), same .1)
 

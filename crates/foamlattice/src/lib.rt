@@ -13,14 +13,18 @@ use marks::step;
 use pack::pack;
 use picker::Picked;
 use picker::pick;
+use reader::CountedAnswer;
 use reader::ReadAnswer;
 use reader::read;
+use reader::read_second;
 ghost use mathlib.Core.Path.{_≡_};
 ghost use lib.ListN.{length};
 ghost use Rattle.reader.specs.Answer.{answered, records-after};
+ghost use Rattle.reader.specs.SecondAnswer.{second-answered, second-records-after, second-classes-after};
 ghost use Rattle.foamlattice.specs.Bounds.{Found-ranges, Marks-ranges};
 ghost use Rattle.foamlattice.specs.Promise.{
   read-packed,
+  second-packed,
   found-packed,
   marks-packed,
   Matching,
@@ -30,7 +34,7 @@ ghost use Rattle.foamlattice.specs.Promise.{
   Picking,
 };
 
-// Reads an expression into tree records.
+// Reads an expression of the first syntax into tree records.
 #[no_mangle]
 pub extern "C" fn foam_read(expression: &[u8], records: &mut [u8]) -> u64
     ensures answer { λ r. ⌜ r ≡ read-packed (answered (now (expression .entry)) (length (now (records .entry)))) ⌝ }
@@ -40,6 +44,30 @@ pub extern "C" fn foam_read(expression: &[u8], records: &mut [u8]) -> u64
     match answer {
         ReadAnswer::Read { records, pieces } => pack(0, false, records, pieces),
         ReadAnswer::Refused { number, place } => pack(number, false, place, 0),
+    }
+}
+
+// In y the count of classes stands above that of pieces, by this factor.
+const CLASSES_PART: usize = 256;
+
+// Reads an expression of the second syntax into tree records and class records.
+#[no_mangle]
+pub extern "C" fn foam_read2(expression: &[u8], records: &mut [u8], classes: &mut [u8]) -> u64
+    ensures answer { λ r. ⌜ r ≡ second-packed (second-answered (now (expression .entry)) (length (now (records .entry)))
+        (length (now (classes .entry)))) ⌝ }
+    ensures records { λ _. ⌜ now (records .exit) ≡ second-records-after (now (expression .entry)) (now (records .entry))
+        (now (classes .entry)) ⌝ }
+    ensures classes { λ _. ⌜ now (classes .exit) ≡ second-classes-after (now (expression .entry)) (now (records .entry))
+        (now (classes .entry)) ⌝ }
+{
+    let answer = read_second(expression, records, classes);
+    match answer {
+        CountedAnswer::Counted {
+            records,
+            pieces,
+            classes,
+        } => pack(0, false, records, pieces + CLASSES_PART * classes),
+        CountedAnswer::Refused { number, place } => pack(number, false, place, 0),
     }
 }
 
@@ -58,20 +86,20 @@ fn pack_found(numbers: Numbers) -> u64
 
 // Whether the whole text is in the language of the list's tree.
 #[no_mangle]
-pub extern "C" fn foam_match(records: &[u8], text: &[u8]) -> u64
-    ensures { λ r. ⌜ Matching (now (records .entry)) (now (text .entry)) r ⌝ }
+pub extern "C" fn foam_match(records: &[u8], classes: &[u8], text: &[u8]) -> u64
+    ensures { λ r. ⌜ Matching (now (records .entry)) (now (classes .entry)) (now (text .entry)) r ⌝ }
 {
-    let answer = is_match(records, text);
+    let answer = is_match(records, classes, text);
     let numbers = match_numbers(answer);
     pack_found(numbers)
 }
 
 // The part of the text that starts earliest and then ends furthest, of those in the language of the list's tree.
 #[no_mangle]
-pub extern "C" fn foam_search(records: &[u8], text: &[u8]) -> u64
-    ensures { λ r. ⌜ Searching (now (records .entry)) (now (text .entry)) r ⌝ }
+pub extern "C" fn foam_search(records: &[u8], classes: &[u8], text: &[u8]) -> u64
+    ensures { λ r. ⌜ Searching (now (records .entry)) (now (classes .entry)) (now (text .entry)) r ⌝ }
 {
-    let answer = search(records, text);
+    let answer = search(records, classes, text);
     let numbers = search_numbers(answer);
     pack_found(numbers)
 }
@@ -86,20 +114,21 @@ fn pack_marked(numbers: marks::numbers::Numbers) -> u64
 
 // Writes the marks to start with.
 #[no_mangle]
-pub extern "C" fn foam_start(records: &[u8], words: &mut [u64]) -> u64
-    ensures { λ r. ⌜ Starting (now (records .entry)) (now (words .entry)) (now (words .exit)) r ⌝ }
+pub extern "C" fn foam_start(records: &[u8], classes: &[u8], words: &mut [u64]) -> u64
+    ensures { λ r. ⌜ Starting (now (records .entry)) (now (classes .entry)) (now (words .entry)) (now (words .exit)) r ⌝ }
 {
-    let answer = start(records, words);
+    let answer = start(records, classes, words);
     let numbers = numbers_of(answer);
     pack_marked(numbers)
 }
 
 // Turns the marks into those after one more byte.
 #[no_mangle]
-pub extern "C" fn foam_step(records: &[u8], words: &mut [u64], byte: u8) -> u64
-    ensures { λ r. ⌜ Stepping (now (records .entry)) byte (now (words .entry)) (now (words .exit)) r ⌝ }
+pub extern "C" fn foam_step(records: &[u8], classes: &[u8], words: &mut [u64], byte: u8) -> u64
+    ensures { λ r. ⌜ Stepping (now (records .entry)) (now (classes .entry)) byte (now (words .entry)) (now (words .exit))
+        r ⌝ }
 {
-    let answer = step(records, words, byte);
+    let answer = step(records, classes, words, byte);
     let numbers = numbers_of(answer);
     pack_marked(numbers)
 }

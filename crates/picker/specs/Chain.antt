@@ -1,109 +1,198 @@
 -- From an expression to an answer, in one line each: which texts match an expression that was read, and what search
--- finds by it.
-use Prim.Native.Nat.{ℕ, _*_, _≤_}
-use mathlib.Core.Path.{_≡_, subst}
+-- finds by it, in either syntax.
+use Prim.Native.Nat.{ℕ, zero, suc, _+_, _*_, _≤_}
+use native.Mathlib.Omega.{arith}
+use mathlib.Core.Path.{_≡_, subst, ap}
 use mathlib.Core.Bool.{Bool, true, false}
 use mathlib.Core.Logic.{_↔_, Iff·rfl, Iff·symm, Iff·trans, Iff·and}
-use mathlib.Core.List.{List}
-use lib.ListN.{length, take}
+use mathlib.Core.List.{List, [], _∷_}
+use lib.ListN.{length, take, drop, length-append}
 use Rattle.language.specs.Tree.{Tree}
-use Rattle.tree.specs.Layout.{record-size}
 use Rattle.tree.specs.Leaf.{Leaf, Matches}
+use Rattle.tree.specs.Layout.{record-size, class-record-size}
+use Rattle.tree.specs.Records.{Good}
 use Rattle.tree.specs.Readback.{good-unique}
 use Rattle.tree.specs.Limits.{longest-text}
-use Rattle.reader.specs.Grammar.{Written}
-use Rattle.reader.specs.Agree.{scanned-exactly, grammar-unique}
+use Rattle.scanner.specs.Bytes.{Syntax, first, second}
+use Rattle.scanner.specs.Scanner.{Atom, scanned}
+use Rattle.scanner.specs.Grammar.{Written}
+use Rattle.scanner.specs.Agree.{scanned-exactly, grammar-unique}
+use Rattle.reader.specs.Drawn.{recorded, classes-of, classes-in, Matches-written}
+use Rattle.classes.specs.Packed.{encode-classes}
 use Rattle.reader.specs.Answer.{numbers, answered, records-after}
-use Rattle.reader.specs.Kept.{Kept, kept}
+use Rattle.reader.specs.SecondAnswer.{counted-numbers, second-answered, second-records-after, second-classes-after}
+use Rattle.classes.specs.ClassRecord.{encode-classes-length}
+use Rattle.reader.specs.DrawnLaws.{class-count-recorded, first-has-no-class, drawn-tree}
+use Rattle.reader.specs.SameLanguage.{Of-bytes, same-language}
+use Rattle.reader.specs.Kept.{kept}
+use Rattle.reader.specs.SecondKept.{Second-kept, second-kept}
 use Rattle.reader.specs.declared.answer.ReadAnswer.the-variants.{Read}
+use Rattle.reader.specs.declared.answer.CountedAnswer.the-variants.{Counted}
+use Rattle.marks.specs.Promise.{Classed}
 use Rattle.finder.specs.Found.{Part-in-language, Found, Nothing-found}
 use Rattle.finder.specs.Answer.{answering, finding}
 use Rattle.finder.specs.Promise.{Of-good, Match-answers, Search-answers}
 use Rattle.finder.specs.Refusals.{match-exactly, search-found-exactly, search-nothing-exactly}
 
--- the text lies in the language of the expression
-abbrev pub In-expression : List ℕ → List ℕ → Type 0
-In-expression bytes text = (t : Tree Leaf) × Written bytes t × Matches t text
+-- the text lies in the language of the expression, as it is written
+abbrev pub In-expression : Syntax → List ℕ → List ℕ → Type 0
+In-expression syntax bytes text = (t : Tree Atom) × Written syntax bytes t × Matches-written t text
 
 -- `read` answered that the expression's records were written
 pub record Accepted (bytes before after : List ℕ) (records pieces : ℕ) : Type 0 where
   pub answer : numbers (Read records pieces) ≡ answered bytes (length before)
   pub buffer : after ≡ records-after bytes before
 
--- a part in a language lies in a larger one
-part-within : {L M : List ℕ → Type 0} (text : List ℕ) → ((w : List ℕ) → L w → M w) → (s e : ℕ)
-    → Part-in-language L text s e
-    → Part-in-language M text s e
-part-within text within s e p = record { ordered = p .ordered; inside = p .inside; belongs = within _ (p .belongs) }
+-- `read_second` answered that the expression's records and classes were written
+pub record Accepted-second (bytes before classes-before after classes-after : List ℕ) (records pieces classes : ℕ) :
+    Type 0 where
+  pub answer : counted-numbers (Counted records pieces classes)
+      ≡ second-answered bytes (length before) (length classes-before)
+  pub buffer : after ≡ second-records-after bytes before classes-before
+  pub class-buffer : classes-after ≡ second-classes-after bytes before classes-before
 
--- in two languages that are the same, search finds the same
-found-same : {L M : List ℕ → Type 0} (text : List ℕ) → ((w : List ℕ) → L w ↔ M w) → (s e : ℕ) → Found L text s e
-    → Found M text s e
-found-same text same s e f =
+-- a list and class records to lend with it, as reading an expression leaves them: the list is good, there are class records
+-- enough, and its leaves mean by these what was written
+pub record Usable (syntax : Syntax) (bytes list classes : List ℕ) : Type 0 where
+  pub read : Tree Atom
+  pub written : Written syntax bytes read
+  pub good : Good list (recorded read)
+  pub classed : Classed classes (recorded read)
+  pub means : (w : List ℕ) → Of-bytes w → Matches classes (recorded read) w ↔ Matches-written read w
+
+-- what `read` leaves is usable with any class records, with none too: the first syntax has no classes
+pub first-usable : {bytes before after : List ℕ} {records pieces : ℕ} → Accepted bytes before after records pieces
+    → (lent : List ℕ) → Usable first bytes (take (record-size * records) after) lent
+first-usable {bytes} {before} {after} {records} {pieces} accepted lent =
+    let held = kept bytes before after records pieces (accepted .answer) (accepted .buffer) in
+    let (s, scans, same) = drawn-tree (scanned first bytes) (held .read) (held .scans) in
+    let spelled = scanned-exactly first bytes s .0 scans .1 in
+    let classless : classes-of s ≡ [] = first-has-no-class spelled in
+    let none : classes-in s ≡ 0 = ap length classless in
     record {
-      here = part-within text (λ w. same w .0) s e (f .here);
-      earliest = λ i j h p. f .earliest i j h (part-within text (λ w. same w .1) i j p);
-      latest = λ j h p. f .latest j h (part-within text (λ w. same w .1) s j p);
+      read = s;
+      written = spelled;
+      good = rw same at (held .good);
+      classed = omega (arith, class-count-recorded s, none);
+      means = λ w bytes-only. rw classless at (same-language s lent w bytes-only);
     }
 
-module _ {bytes before after : List ℕ} {records pieces : ℕ} (accepted : Accepted bytes before after records pieces)
-  where
-    -- what the buffer then holds
-    held : Kept bytes before after records pieces
-    held = kept bytes before after records pieces (accepted .answer) (accepted .buffer)
+-- a list and class records that are those of an expression of the second syntax
+kept-usable : {bytes before classes-before after classes-after : List ℕ} {records pieces classes : ℕ}
+    → Second-kept bytes before classes-before after classes-after records pieces classes
+    → Usable second bytes (take (record-size * records) after) classes-after
+kept-usable {bytes} {before} {classes-before} {classes = classes} held =
+    let stored : List ℕ = encode-classes (classes-of (held .read)) in
+    let rest : List ℕ = drop (class-record-size * classes) classes-before in
+    record {
+      read = held .read;
+      written = scanned-exactly second bytes (held .read) .0 (held .scans) .1;
+      good = held .good;
+      classed = omega (
+        arith,
+        ap length (held .class-bytes),
+        length-append stored rest,
+        class-count-recorded (held .read),
+        encode-classes-length (classes-of (held .read)),
+      );
+      means = λ w bytes-only. rw (held .class-bytes) (same-language (held .read) rest w bytes-only);
+    }
 
-    -- its tree is the written one
-    written : Written bytes (held .read)
-    written = scanned-exactly bytes (held .read) .0 (held .scans) .1
+-- what `read_second` leaves is usable with the class buffer as it leaves that
+pub second-usable : {bytes before classes-before after classes-after : List ℕ} {records pieces classes : ℕ}
+    → Accepted-second bytes before classes-before after classes-after records pieces classes
+    → Usable second bytes (take (record-size * records) after) classes-after
+second-usable accepted =
+    kept-usable (second-kept _ _ _ _ _ _ _ _ (accepted .answer) (accepted .buffer) (accepted .class-buffer))
 
-    -- so the language of the tree is that of the expression
-    same-language : (text : List ℕ) → Matches (held .read) text ↔ In-expression bytes text
-    same-language text = (
-      λ matches. (held .read, written, matches),
-      λ (t, reads, matches). subst (λ (s : Tree Leaf). Matches s text) (grammar-unique reads written) matches,
-    )
+-- parts of a text of bytes are texts of bytes
+take-bytes : (n : ℕ) (w : List ℕ) → Of-bytes w → Of-bytes (take n w)
+take-bytes zero w h = tt
+take-bytes (suc n) [] h = tt
+take-bytes (suc n) (b ∷ w) h = (h .0, take-bytes n w (h .1))
 
-    -- the records that were written are a good list, so what is answered of the list is answered of the tree
-    of-read : (text : List ℕ) (P : Tree Leaf → Type 0) → Of-good (take (record-size * records) after) text P
-        ↔ ((length text ≤ longest-text) × P (held .read))
-    of-read text P = (
-      λ o. (
-        o .short,
-        subst P (good-unique (take (record-size * records) after) (o .t) (held .read) (o .good) (held .good))
-            (o .holds),
-      ),
-      λ (short, holds). record { t = held .read; good = held .good; short = short; holds = holds },
-    )
+drop-bytes : (n : ℕ) (w : List ℕ) → Of-bytes w → Of-bytes (drop n w)
+drop-bytes zero w h = h
+drop-bytes (suc n) [] h = tt
+drop-bytes (suc n) (b ∷ w) h = drop-bytes n w (h .1)
 
-    module _ (text : List ℕ) where
-      -- match answers yes or no exactly when the text has at most 65,536 bytes and is in the expression's language or
-      -- not
-      pub read-then-match : (matched : Bool)
-          → Match-answers (take (record-size * records) after) text (answering matched)
-          ↔ ((length text ≤ longest-text) × ((matched ≡ true) ↔ In-expression bytes text))
-      read-then-match matched =
-          Iff·trans (match-exactly _ text matched)
-          (Iff·trans (of-read text (λ t. (matched ≡ true) ↔ Matches t text))
-          (Iff·and Iff·rfl (
-            λ says. Iff·trans says (same-language text),
-            λ says. Iff·trans says (Iff·symm (same-language text)),
-          )))
+module _ {L M : List ℕ → Type 0} (text : List ℕ) (of-bytes : Of-bytes text) where
+  -- a part in a language lies in a larger one
+  part-within : ((w : List ℕ) → Of-bytes w → L w → M w) → (s e : ℕ) → Part-in-language L text s e
+      → Part-in-language M text s e
+  part-within within s e p =
+      let bytes = drop-bytes s (take e text) (take-bytes e text of-bytes) in
+      record { ordered = p .ordered; inside = p .inside; belongs = within _ bytes (p .belongs) }
 
-      -- search finds the part that starts earliest and then ends furthest, of those in the language of the expression
-      pub read-then-search : (s e : ℕ) → Search-answers (take (record-size * records) after) text (finding s e)
-          ↔ ((length text ≤ longest-text) × Found (In-expression bytes) text s e)
-      read-then-search s e =
-          Iff·trans (search-found-exactly _ text s e)
-          (Iff·trans (of-read text (λ t. Found (Matches t) text s e))
-          (Iff·and Iff·rfl (found-same text same-language s e, found-same text (λ w. Iff·symm (same-language w)) s e)))
+-- in two languages that are the same, search finds the same
+found-same : {L M : List ℕ → Type 0} (text : List ℕ) → Of-bytes text → ((w : List ℕ) → Of-bytes w → L w ↔ M w)
+    → (s e : ℕ) → Found L text s e → Found M text s e
+found-same text bytes same s e f =
+    record {
+      here = part-within text bytes (λ w h. same w h .0) s e (f .here);
+      earliest = λ i j h p. f .earliest i j h (part-within text bytes (λ w h. same w h .1) i j p);
+      latest = λ j h p. f .latest j h (part-within text bytes (λ w h. same w h .1) s j p);
+    }
 
-      -- and nothing exactly when no part is
-      pub read-then-nothing : Search-answers (take (record-size * records) after) text (answering false)
-          ↔ ((length text ≤ longest-text) × Nothing-found (In-expression bytes) text)
-      read-then-nothing =
-          Iff·trans (search-nothing-exactly _ text)
-          (Iff·trans (of-read text (λ t. Nothing-found (Matches t) text))
-          (Iff·and Iff·rfl (
-            λ none s e p. none s e (part-within text (λ w. same-language w .1) s e p),
-            λ none s e p. none s e (part-within text (λ w. same-language w .0) s e p),
-          )))
+module _ {syntax : Syntax} {bytes list classes : List ℕ} (usable : Usable syntax bytes list classes) where
+  -- the language of the list's tree, by the class records, is that of the expression
+  as-written : (text : List ℕ) → Of-bytes text → Matches classes (recorded (usable .read)) text
+      ↔ In-expression syntax bytes text
+  as-written text of-bytes = (
+    λ matches. (usable .read, usable .written, usable .means text of-bytes .0 matches),
+    λ (t, reads, matches).
+        usable .means text of-bytes .1
+        (subst (λ (s : Tree Atom). Matches-written s text) (grammar-unique reads (usable .written)) matches),
+  )
+
+  -- what is answered of the list is answered of its tree
+  of-read : (text : List ℕ) (P : Tree Leaf → Type 0) → Of-good list classes text P
+      ↔ ((length text ≤ longest-text) × P (recorded (usable .read)))
+  of-read text P = (
+    λ o. (
+      o .short,
+      subst P (good-unique list (o .t) (recorded (usable .read)) (o .good) (usable .good)) (o .holds),
+    ),
+    λ (short, holds).
+        record {
+          t = recorded (usable .read);
+          good = usable .good;
+          classed = usable .classed;
+          short = short;
+          holds = holds;
+        },
+  )
+
+  module _ (text : List ℕ) (of-bytes : Of-bytes text) where
+    -- match answers yes or no exactly when the text has at most 65,536 bytes and is in the expression's language or not
+    pub read-then-match : (matched : Bool) → Match-answers list classes text (answering matched)
+        ↔ ((length text ≤ longest-text) × ((matched ≡ true) ↔ In-expression syntax bytes text))
+    read-then-match matched =
+        Iff·trans (match-exactly _ classes text matched)
+        (Iff·trans (of-read text (λ t. (matched ≡ true) ↔ Matches classes t text))
+        (Iff·and Iff·rfl (
+          λ says. Iff·trans says (as-written text of-bytes),
+          λ says. Iff·trans says (Iff·symm (as-written text of-bytes)),
+        )))
+
+    -- search finds the part that starts earliest and then ends furthest, of those in the language of the expression
+    pub read-then-search : (s e : ℕ) → Search-answers list classes text (finding s e)
+        ↔ ((length text ≤ longest-text) × Found (In-expression syntax bytes) text s e)
+    read-then-search s e =
+        Iff·trans (search-found-exactly _ classes text s e)
+        (Iff·trans (of-read text (λ t. Found (Matches classes t) text s e))
+        (Iff·and Iff·rfl (
+          found-same text of-bytes as-written s e,
+          found-same text of-bytes (λ w h. Iff·symm (as-written w h)) s e,
+        )))
+
+    -- and nothing exactly when no part is
+    pub read-then-nothing : Search-answers list classes text (answering false)
+        ↔ ((length text ≤ longest-text) × Nothing-found (In-expression syntax bytes) text)
+    read-then-nothing =
+        Iff·trans (search-nothing-exactly _ classes text)
+        (Iff·trans (of-read text (λ t. Nothing-found (Matches classes t) text))
+        (Iff·and Iff·rfl (
+          λ none s e p. none s e (part-within text of-bytes (λ w h. as-written w h .1) s e p),
+          λ none s e p. none s e (part-within text of-bytes (λ w h. as-written w h .0) s e p),
+        )))

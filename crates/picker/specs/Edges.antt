@@ -13,14 +13,16 @@ use Rattle.language.specs.Tree.{Tree, nodes}
 use Rattle.tree.specs.Layout.{record-size}
 use Rattle.tree.specs.Leaf.{Leaf, Matches}
 use Rattle.tree.specs.Limits.{longest-text, most-pieces}
-use Rattle.tree.specs.Records.{Good, piece-count}
+use Rattle.tree.specs.Records.{Good, piece-count, class-count}
 use Rattle.tree.specs.Pieces.{cut-up}
-use Rattle.reader.specs.Text.{bytes}
-use Rattle.reader.specs.Scanner.{Outcome, tree, refused, scan, scanned}
+use Rattle.scanner.specs.Text.{bytes}
+use Rattle.scanner.specs.Bytes.{first}
+use Rattle.scanner.specs.Scanner.{Outcome, tree, refused, scan, scanned}
+use Rattle.reader.specs.Drawn.{drawn}
 use Rattle.reader.specs.Answer.{answer-for, answered, records-after}
 use Rattle.reader.specs.Kept.{kept}
 use Rattle.tables.specs.Tables.{Holding, Answered}
-use Rattle.marks.specs.Promise.{Starts, Steps}
+use Rattle.marks.specs.Promise.{Classed, Starts, Steps}
 use Rattle.finder.specs.Found.{Search-outcome, at, nothing, Answers}
 use Rattle.finder.specs.Promise.{
   Of-good,
@@ -75,7 +77,7 @@ pub data Row : Type 0 where
   -- what search finds in a text
   finds : (expression text : List ℕ) (answer : Search-outcome) → Row
 
--- the expression is read, with so many records and pieces, into every buffer that has room for them; and of the list of
+-- the expression, of the first syntax, is read, with so many records and pieces, into every buffer that has room for them; and of the list of
 -- records that the buffer then begins with, this holds
 pub record Read (expression : List ℕ) (records pieces : ℕ) (Says : List ℕ → Type 0) : Type 0 where
   pub gives : (buffer : List ℕ) → record-size * records ≤ length buffer
@@ -88,22 +90,22 @@ pub record Read (expression : List ℕ) (records pieces : ℕ) (Says : List ℕ 
 abbrev pub Each-step : (list words : List ℕ) → List Step → Type 0
 Each-step list words [] = Unit {0}
 Each-step list words (step ∷ later) =
-    Steps list (step .byte) words (step .left .words)
+    Steps list [] (step .byte) words (step .left .words)
     (record { refusal = 0; place = 0; accepting = step .left .accepting })
     × Each-step list (step .left .words) later
 
 -- a start, from any words, as many as it leaves; then the steps
 pub record Marking (list : List ℕ) (start : Left) (steps : List Step) : Type 0 where
   pub starts : (words : List ℕ) → length words ≡ length (start .words)
-      → Starts list words (start .words) (record { refusal = 0; place = 0; accepting = start .accepting })
+      → Starts list [] words (start .words) (record { refusal = 0; place = 0; accepting = start .accepting })
   pub goes-on : Each-step list (start .words) steps
 
 -- what search says of a text
 abbrev pub Finding : (list text : List ℕ) → Search-outcome → Type 0
 Finding list text (at s e) =
-    Search-answers list text (record { refusal = 0; place = 0; matched = true; start = s; end = e })
+    Search-answers list [] text (record { refusal = 0; place = 0; matched = true; start = s; end = e })
 Finding list text nothing =
-    Search-answers list text (record { refusal = 0; place = 0; matched = false; start = 0; end = 0 })
+    Search-answers list [] text (record { refusal = 0; place = 0; matched = false; start = 0; end = 0 })
 
 -- what is said of the list of an expression that is read
 abbrev pub Of-records : List ℕ → (List ℕ → Type 0) → Type 0
@@ -117,7 +119,7 @@ Row-says (reads expression records pieces) = Read expression records pieces (λ 
 Row-says (marks expression start steps) = Of-records expression (λ list. Marking list start steps)
 Row-says (answers expression text answer) =
     Of-records expression
-    (λ list. Match-answers list text (record { refusal = 0; place = 0; matched = answer; start = 0; end = 0 }))
+    (λ list. Match-answers list [] text (record { refusal = 0; place = 0; matched = answer; start = 0; end = 0 }))
 Row-says (finds expression text answer) = Of-records expression (λ list. Finding list text answer)
 
 -- the table
@@ -155,13 +157,14 @@ edges =
     ∷ []
 
 -- whether an outcome is this refusal
-unfoldable is-refusal : ℕ → ℕ → Outcome → Bool
+unfoldable is-refusal : ℕ → ℕ → Outcome Leaf → Bool
 is-refusal number place (tree t) = false
 is-refusal number place (refused n p) = also (eqb n number) (eqb p place)
 
--- whether an outcome is a tree of few pieces that passes a test
-unfoldable is-tree : (Tree Leaf → Bool) → Outcome → Bool
-is-tree test (tree t) = also (Bool·beq (ltb most-pieces (piece-count t)) false) (test t)
+-- whether an outcome is a tree of few pieces and no class that passes a test
+unfoldable is-tree : (Tree Leaf → Bool) → Outcome Leaf → Bool
+is-tree test (tree t) =
+    also (Bool·beq (ltb most-pieces (piece-count t)) false) (also (eqb (class-count t) 0) (test t))
 is-tree test (refused n p) = false
 
 -- whether two answers of search are the same
@@ -175,7 +178,7 @@ same-answer nothing nothing = true
 unfoldable left-test : Tree Leaf → (w : List ℕ) → Left → Bool
 left-test t w left =
     also (eqb (length (left .words)) (piece-count t))
-    (also (holds-after t w (left .words)) (Bool·beq (matches t w) (left .accepting)))
+    (also (holds-after [] t w (left .words)) (Bool·beq (matches [] t w) (left .accepting)))
 
 -- whether that is so after each step
 unfoldable steps-test : Tree Leaf → (w : List ℕ) → List Step → Bool
@@ -185,18 +188,18 @@ steps-test t w (step ∷ later) =
 
 -- a row, as a test that computes
 unfoldable row-test : Row → Bool
-row-test (refuses expression number place) = is-refusal number place (scanned expression)
+row-test (refuses expression number place) = is-refusal number place (drawn (scanned first expression))
 row-test (reads expression records pieces) = is-tree (λ t. also (eqb (nodes t) records) (eqb (piece-count t) pieces))
-    (scanned expression)
+    (drawn (scanned first expression))
 row-test (marks expression start steps) =
-    is-tree (λ t. also (left-test t [] start) (steps-test t [] steps)) (scanned expression)
+    is-tree (λ t. also (left-test t [] start) (steps-test t [] steps)) (drawn (scanned first expression))
 row-test (answers expression text answer) =
-    is-tree (λ t. also (Bool·beq (ltb longest-text (length text)) false) (Bool·beq (matches t text) answer))
-    (scanned expression)
+    is-tree (λ t. also (Bool·beq (ltb longest-text (length text)) false) (Bool·beq (matches [] t text) answer))
+    (drawn (scanned first expression))
 row-test (finds expression text answer) =
     is-tree
-    (λ t. also (Bool·beq (ltb longest-text (length text)) false) (same-answer (searched (matches t) text) answer))
-    (scanned expression)
+    (λ t. also (Bool·beq (ltb longest-text (length text)) false) (same-answer (searched (matches [] t) text) answer))
+    (drawn (scanned first expression))
 
 -- a test that is as false fails
 fails : (test : Bool) → Bool·beq test false ≡ true → test ≡ false
@@ -204,7 +207,7 @@ fails true e = absurd (false≢true e)
 fails false e = refl
 
 -- an outcome that passes the test is that refusal, whatever the room
-refusal-holds : (number place room : ℕ) (outcome : Outcome) → is-refusal number place outcome ≡ true
+refusal-holds : (number place room : ℕ) (outcome : Outcome Leaf) → is-refusal number place outcome ≡ true
     → answer-for outcome room ≡ record { refusal = number; place = place; records = 0; pieces = 0 }
 unfolding is-refusal
 refusal-holds number place room (tree t) e = absurd (false≢true e)
@@ -213,7 +216,7 @@ refusal-holds number place room (refused n p) e =
 
 module _ (expression : List ℕ) (Says : List ℕ → Type 0) where
   -- an expression with a tree of few pieces is read, and its records are a good list of the tree
-  tree-read : (t : Tree Leaf) → scanned expression ≡ tree t → ltb most-pieces (piece-count t) ≡ false
+  tree-read : (t : Tree Leaf) → drawn (scanned first expression) ≡ tree t → ltb most-pieces (piece-count t) ≡ false
       → ((list : List ℕ) → Good list t → Says list) → Read expression (nodes t) (piece-count t) Says
   tree-read t scans few says =
       let given : (buffer : List ℕ) → record-size * nodes t ≤ length buffer → answered expression (length buffer)
@@ -228,24 +231,29 @@ module _ (expression : List ℕ) (Says : List ℕ → Type 0) where
             says (take (record-size * nodes t) (records-after expression buffer)) (rw same at (k .good));
       }
     where
-      same-tree : {s u : Tree Leaf} → scanned expression ≡ tree s → scanned expression ≡ tree u → s ≡ u
+      same-tree : {s u : Tree Leaf} → drawn (scanned first expression) ≡ tree s → drawn (scanned first expression) ≡ tree u → s ≡ u
       same-tree e f = cc (e, f)
 
-  -- an outcome that passes the test is such a tree, and of it holds what the test stands for
-  tree-holds : (test : Tree Leaf → Bool) → ((t : Tree Leaf) → test t ≡ true → (list : List ℕ) → Good list t → Says list)
-      → (outcome : Outcome) → scanned expression ≡ outcome → is-tree test outcome ≡ true → Of-records expression Says
+  -- an outcome that passes the test is such a tree with no class, and of it holds what the test stands for
+  tree-holds : (test : Tree Leaf → Bool)
+      → ((t : Tree Leaf) → test t ≡ true → Classed [] t → (list : List ℕ) → Good list t → Says list)
+      → (outcome : Outcome Leaf) → drawn (scanned first expression) ≡ outcome → is-tree test outcome ≡ true → Of-records expression Says
   unfolding is-tree
   tree-holds test sound (tree t) scans e =
-      (nodes t, (piece-count t, tree-read t scans (fails _ (also-first _ _ e)) (sound t (also-second _ _ e))))
+      let rest = also-second _ _ e in
+      let classless = eqb-true (class-count t) 0 (also-first _ _ rest) in (
+        nodes t,
+        (piece-count t, tree-read t scans (fails _ (also-first _ _ e)) (sound t (also-second _ _ rest) (omega arith))),
+      )
   tree-holds test sound (refused n p) scans e = absurd (false≢true e)
 
 -- an expression that passes the test for its counts is read with them
-reads-holds : (expression : List ℕ) (records pieces : ℕ) (outcome : Outcome) → scanned expression ≡ outcome
+reads-holds : (expression : List ℕ) (records pieces : ℕ) (outcome : Outcome Leaf) → drawn (scanned first expression) ≡ outcome
     → is-tree (λ t. also (eqb (nodes t) records) (eqb (piece-count t) pieces)) outcome ≡ true
     → Read expression records pieces (λ list. Unit {0})
 unfolding is-tree
 reads-holds expression records pieces (tree t) scans e =
-    let counts = also-second _ _ e in
+    let counts = also-second _ _ (also-second _ _ e) in
     rw (eqb-true (nodes t) records (also-first _ _ counts), eqb-true (piece-count t) pieces (also-second _ _ counts))
     at (tree-read expression (λ list. Unit {0}) t scans (fails _ (also-first _ _ e)) (λ list good. tt))
 reads-holds expression records pieces (refused n p) scans e = absurd (false≢true e)
@@ -259,9 +267,9 @@ answer-holds nothing (at i j) h = absurd (false≢true h)
 answer-holds nothing nothing h = refl
 
 -- the test for a whole text
-match-holds : (t : Tree Leaf) (text : List ℕ) (answer : Bool) → Bool·beq (matches t text) answer ≡ true
-    → (answer ≡ true) ↔ Matches t text
-match-holds t text answer e = Iff·trans (Iff·symm (same-test (matches t text) answer e)) (matches-exactly t text)
+match-holds : (t : Tree Leaf) (text : List ℕ) (answer : Bool) → Bool·beq (matches [] t text) answer ≡ true
+    → (answer ≡ true) ↔ Matches [] t text
+match-holds t text answer e = Iff·trans (Iff·symm (same-test (matches [] t text) answer e)) (matches-exactly [] t text)
 
 -- what passes the test for what is left
 module _ (t : Tree Leaf) (w : List ℕ) (left : Left) (e : left-test t w left ≡ true) where
@@ -269,17 +277,17 @@ module _ (t : Tree Leaf) (w : List ℕ) (left : Left) (e : left-test t w left �
   unfolding left-test
   left-count = eqb-true (length (left .words)) (piece-count t) (also-first _ _ e)
 
-  left-answered : Answered t w (left .words) (left .accepting)
+  left-answered : Answered [] t w (left .words) (left .accepting)
   unfolding left-test
   left-answered =
       record {
-        holding = held-after t w (left .words) (also-first _ _ (also-second _ _ e));
+        holding = held-after [] t w (left .words) (also-first _ _ (also-second _ _ e));
         answer = match-holds t w (left .accepting) (also-second _ _ (also-second _ _ e));
       }
 
-module _ {list : List ℕ} {t : Tree Leaf} (good : Good list t) where
+module _ {list : List ℕ} {t : Tree Leaf} (good : Good list t) (classed : Classed [] t) where
   -- each step that passes leaves what is said
-  steps-hold : (w words : List ℕ) → As-many t words → Holding t w words → (steps : List Step)
+  steps-hold : (w words : List ℕ) → As-many t words → Holding [] t w words → (steps : List Step)
       → steps-test t w steps ≡ true → Each-step list words steps
   unfolding steps-test
   steps-hold w words many holding [] e = tt
@@ -288,7 +296,7 @@ module _ {list : List ℕ} {t : Tree Leaf} (good : Good list t) where
       let passes = also-first _ _ e in
       let many′ = left-count t next (step .left) passes in
       let there = left-answered t next (step .left) passes in (
-        steps-by good words (step .left .words) (step .left .accepting) many many′ w (step .byte) holding there,
+        steps-by good classed words (step .left .words) (step .left .accepting) many many′ w (step .byte) holding there,
         steps-hold next (step .left .words) many′ (there .holding) later (also-second _ _ e),
       )
 
@@ -300,43 +308,49 @@ module _ {list : List ℕ} {t : Tree Leaf} (good : Good list t) where
       let there = left-answered t [] start e in
       record {
         starts = λ words as-long.
-            starts-by good words (start .words) (start .accepting) (as-long ∙ many) many there;
+            starts-by good classed words (start .words) (start .accepting) (as-long ∙ many) many there;
         goes-on = steps-hold [] (start .words) many (there .holding) steps f;
       }
 
   -- what holds of the tree holds of the good list
   of-good : {text : List ℕ} {P : Tree Leaf → Type 0} → Bool·beq (ltb longest-text (length text)) false ≡ true → P t
-      → Of-good list text P
+      → Of-good list [] text P
   of-good {text} short holds =
-      record { t = t; good = good; short = ltb-false longest-text (length text) (fails _ short); holds = holds }
+      record {
+        t = t;
+        good = good;
+        classed = classed;
+        short = ltb-false longest-text (length text) (fails _ short);
+        holds = holds;
+      }
 
   -- a right answer is what search gives back
   finds-hold : (text : List ℕ) (answer : Search-outcome) → Bool·beq (ltb longest-text (length text)) false ≡ true
-      → Answers (Matches t) text answer → Finding list text answer
+      → Answers (Matches [] t) text answer → Finding list text answer
   finds-hold text (at s e) short found = search-found (of-good short found)
   finds-hold text nothing short none = search-nothing (of-good short none)
 
 -- a row whose test passes holds
 row-holds : (row : Row) → row-test row ≡ true → Row-says row
 unfolding row-test
-row-holds (refuses expression number place) e = λ room. refusal-holds number place room (scanned expression) e
-row-holds (reads expression records pieces) e = reads-holds expression records pieces (scanned expression) refl e
+row-holds (refuses expression number place) e = λ room. refusal-holds number place room (drawn (scanned first expression)) e
+row-holds (reads expression records pieces) e = reads-holds expression records pieces (drawn (scanned first expression)) refl e
 row-holds (marks expression start steps) e =
     tree-holds expression _ _
-    (λ t h list good. marks-hold good start steps (also-first _ _ h) (also-second _ _ h))
-    (scanned expression) refl e
+    (λ t h classed list good. marks-hold good classed start steps (also-first _ _ h) (also-second _ _ h))
+    (drawn (scanned first expression)) refl e
 row-holds (answers expression text answer) e =
     tree-holds expression _ _
-    (λ t h list good.
-    match-answered (of-good good (also-first _ _ h) (match-holds t text answer (also-second _ _ h))))
-    (scanned expression) refl e
+    (λ t h classed list good.
+    match-answered (of-good good classed (also-first _ _ h) (match-holds t text answer (also-second _ _ h))))
+    (drawn (scanned first expression)) refl e
 row-holds (finds expression text answer) e =
     tree-holds expression _ _
-    (λ t h list good.
-    finds-hold good text answer (also-first _ _ h)
-    (searched-exactly (Matches t) (matches t) (matches-exactly t) text answer .1
-    (answer-holds (searched (matches t) text) answer (also-second _ _ h))))
-    (scanned expression) refl e
+    (λ t h classed list good.
+    finds-hold good classed text answer (also-first _ _ h)
+    (searched-exactly (Matches [] t) (matches [] t) (matches-exactly [] t) text answer .1
+    (answer-holds (searched (matches [] t) text) answer (also-second _ _ h))))
+    (drawn (scanned first expression)) refl e
 
 -- all rows pass
 unfoldable rows-test : List Row → Bool

@@ -113,7 +113,7 @@ module _ (matching : Tree Leaf → List ℕ → Bool) (t : Tree Leaf) (input : L
 
 -- the answer for the part that is lent is the answer for the line
 pub lent-answer : {input : List ℕ} {place end : ℕ} → Ends input place end → (test : Bool) (t : Tree Leaf)
-    → (test ≡ true) ↔ Matches t (take (end - place) (drop place input)) → test ≡ matches t (part place end input)
+    → (test ≡ true) ↔ Matches [] t (take (end - place) (drop place input)) → test ≡ matches [] t (part place end input)
 lent-answer {input} {place} {end} ends test t says =
-    matches-answer test t (part place end input)
+    matches-answer [] test t (part place end input)
     (rw (lent-part place end input (ends .ordered) (omega (arith, ends))) at says)

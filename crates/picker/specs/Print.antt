@@ -9,21 +9,23 @@ use Rattle.tree.specs.RefusalNumbers.{too-many-pieces}
 use Rattle.tree.specs.Leaf.{Leaf}
 use Rattle.tree.specs.Limits.{most-pieces}
 use Rattle.tree.specs.Records.{piece-count}
-use Rattle.reader.specs.Text.{bytes}
-use Rattle.reader.specs.Scanner.{Outcome, tree, refused, scanned}
+use Rattle.scanner.specs.Text.{bytes}
+use Rattle.scanner.specs.Bytes.{first}
+use Rattle.scanner.specs.Scanner.{Outcome, tree, refused, scanned}
+use Rattle.reader.specs.Drawn.{drawn}
 use Rattle.finder.specs.Decide.{matches}
 use Rattle.picker.specs.Limits.{longest-input}
 use Rattle.picker.specs.Lines.{lines, expression, texts}
 use Rattle.picker.specs.Digits.{digits}
 
 -- a tree is refused with 8 where its cut has more than 128 pieces
-abbrev pub few-pieces : Outcome → Outcome
+abbrev pub few-pieces : Outcome Leaf → Outcome Leaf
 few-pieces (tree t) = cond (ltb most-pieces (piece-count t)) (refused too-many-pieces 0) (tree t)
 few-pieces (refused number place) = refused number place
 
--- what reading an expression comes to, where there is room for its records
-abbrev pub answered : List ℕ → Outcome
-answered expr = few-pieces (scanned expr)
+-- what reading an expression of the first syntax comes to, where there is room for its records
+abbrev pub answered : List ℕ → Outcome Leaf
+answered expr = few-pieces (drawn (scanned first expr))
 
 -- the line of a text: its number, `yes` or `no`, and its rank among the yes lines, or `-`
 abbrev pub text-line : Bool → (number rank : ℕ) → List ℕ
@@ -59,7 +61,7 @@ module _ (matching : Tree Leaf → List ℕ → Bool) where
       ++ text-lines t (count + 1) (yes-after (matching t text) yes-lines) later
 
   -- what is printed for an expression's outcome and the texts
-  abbrev pub reported : Outcome → List (List ℕ) → List ℕ
+  abbrev pub reported : Outcome Leaf → List (List ℕ) → List ℕ
   reported (tree t) later = text-lines t 0 0 later
   reported (refused number place) later = refusal-line number place
 
@@ -69,6 +71,6 @@ module _ (matching : Tree Leaf → List ℕ → Bool) where
       cond (ltb longest-input (length input)) too-long-line
       (reported (answered (expression (lines input))) (texts (lines input)))
 
--- the output of `pick`
+-- the output of `pick`: the first syntax has no classes, so no class record is lent
 abbrev pub picked : List ℕ → List ℕ
-picked = output matches
+picked = output (matches [])

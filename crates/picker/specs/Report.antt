@@ -2,7 +2,7 @@
 use Prim.Native.Nat.{ℕ, _+_, _*_, _-_, _≤_, _<_}
 use mathlib.Core.Path.{_≡_, refl, ap}
 use mathlib.Core.Bool.{Bool, true, false, cond}
-use mathlib.Core.List.{List}
+use mathlib.Core.List.{List, []}
 use native.Mathlib.Omega.{arith}
 use lib.ListN.{length, drop}
 use lib.Dec.{ltb}
@@ -15,8 +15,10 @@ use Rattle.tree.specs.Limits.{most-pieces, most-records}
 use Rattle.tree.specs.Records.{piece-count}
 use Rattle.tree.specs.Lengths.{nodes-positive}
 use Rattle.tree.specs.Pieces.{nodes-per-piece}
-use Rattle.reader.specs.Scanner.{Outcome, tree, refused, scanned}
-use Rattle.reader.specs.Agree.{scanned-exactly, scanned-refusal, written-size}
+use Rattle.scanner.specs.Bytes.{first}
+use Rattle.scanner.specs.Scanner.{Outcome, tree, refused, scanned}
+use Rattle.reader.specs.Drawn.{drawn}
+use Rattle.reader.specs.DrawnLaws.{drawn-size, drawn-refusal}
 use Rattle.reader.specs.Answer.{Numbers, refusing, reading, answer-for, answered as answers}
 use Rattle.reader.specs.Kept.{Kept}
 use Rattle.finder.specs.Found.{part}
@@ -44,8 +46,8 @@ records-fit t few = omega (arith, nodes-per-piece t, ltb-false most-pieces (piec
 -- for a tree: 8 where it has too many pieces, and never 9
 told-tree : (bytes : List ℕ) (room number place : ℕ) → record-size * most-records ≤ room
     → (t : Tree Leaf) (many short : Bool)
-    → ltb most-pieces (piece-count t) ≡ many → ltb room (record-size * nodes t) ≡ short → few-pieces (scanned bytes)
-    ≡ cond many (refused too-many-pieces 0) (tree t)
+    → ltb most-pieces (piece-count t) ≡ many → ltb room (record-size * nodes t) ≡ short
+    → few-pieces (drawn (scanned first bytes)) ≡ cond many (refused too-many-pieces 0) (tree t)
     → refusing number place
     ≡ cond many (refusing too-many-pieces 0) (cond short (refusing buffer-too-short 0) (reading t))
     → Refusal-read bytes number place
@@ -58,11 +60,11 @@ told-tree bytes room number place large t false true m h outcome e =
 told-tree bytes room number place large t false false m h outcome e =
     absurd (omega (arith, nodes-positive t, ap (λ (n : Numbers). n .records) e))
 
-told-outcome : (bytes : List ℕ) (room number place : ℕ) → record-size * most-records ≤ room → (outcome : Outcome)
-    → scanned bytes ≡ outcome
+told-outcome : (bytes : List ℕ) (room number place : ℕ) → record-size * most-records ≤ room → (outcome : Outcome Leaf)
+    → drawn (scanned first bytes) ≡ outcome
     → refusing number place ≡ answer-for outcome room → Refusal-read bytes number place
 told-outcome bytes room number place large (refused number′ place′) scans e =
-    let bounds = scanned-refusal bytes number′ place′ scans in
+    let bounds = drawn-refusal first bytes number′ place′ scans in
     let same : number ≡ number′ = ap (λ (n : Numbers). n .refusal) e in
     let there : place ≡ place′ = ap (λ (n : Numbers). n .place) e in
     record {
@@ -79,7 +81,7 @@ told-outcome bytes room number place large (tree t) scans e =
 pub told : (bytes : List ℕ) (room number place : ℕ) → record-size * most-records ≤ room
     → refusing number place ≡ answers bytes room
     → Refusal-read bytes number place
-told bytes room number place large e = told-outcome bytes room number place large (scanned bytes) refl e
+told bytes room number place large e = told-outcome bytes room number place large (drawn (scanned first bytes)) refl e
 
 -- where it answers that the records were written, the outcome is their tree
 pub read-outcome : {bytes before after : List ℕ} {records pieces : ℕ} (k : Kept bytes before after records pieces)
@@ -91,13 +93,13 @@ module _ (input : List ℕ) (end : ℕ) (ends : Ends input 0 end) where
   pub reports-refusal : {number place : ℕ} {before out : List ℕ} {size : ℕ}
       → Refusal-read (part 0 end input) number place
       → Prints before 0 (refusal-line number place) out size
-      → Prints before 0 (reported matches (answered (expression (lines input))) (texts (lines input))) out size
+      → Prints before 0 (reported (matches []) (answered (expression (lines input))) (texts (lines input))) out size
   reports-refusal t p = rw (first-line input end ends .is-expression, t .outcome) p
 
   -- the lines of the texts and the last line are what is reported
   pub reports-texts : {t : Tree Leaf} {before out : List ℕ} {size : ℕ} → answered (part 0 end input) ≡ tree t
-      → Prints before 0 (text-lines matches t 0 0 (lines (drop (after input end) input))) out size
-      → Prints before 0 (reported matches (answered (expression (lines input))) (texts (lines input))) out size
+      → Prints before 0 (text-lines (matches []) t 0 0 (lines (drop (after input end) input))) out size
+      → Prints before 0 (reported (matches []) (answered (expression (lines input))) (texts (lines input))) out size
   reports-texts outcome p = rw (first-line input end ends .is-expression, outcome, first-line input end ends .are-texts)
       p
 
@@ -106,10 +108,10 @@ module _ (input : List ℕ) (end : ℕ) (ends : Ends input 0 end) where
       → most-output ≤ length out → Kept (part 0 end input) before after-reading records pieces
       → Print-space input (after input end) 0 0 0 out
   texts-space short room k =
-      let first = first-line input end ends in
-      let long = written-size (scanned-exactly (part 0 end input) (k .read) .0 (k .scans) .1) in
+      let line = first-line input end ends in
+      let long = drawn-size first (part 0 end input) (k .read) (k .scans) in
       let count : length (lines (drop (after input end) input)) ≤ length input - (length (part 0 end input) + 1) =
-      rw (first .is-expression, first .are-texts) at (texts-count input) in
+      rw (line .is-expression, line .are-texts) at (texts-count input) in
       record {
         inside = after-inside input end (ends .inside);
         ranked = omega arith;

@@ -3,8 +3,8 @@ use Prim.Native.Nat.{ℕ}
 use mathlib.Core.Path.{_≡_, refl}
 use mathlib.Core.List.{List, [], _∷_}
 use Rattle.tree.specs.Records.{piece-count}
-use Rattle.reader.specs.Text.{bytes}
-use Rattle.reader.specs.Scanner.{scan, scanned}
+use Rattle.scanner.specs.Text.{bytes}
+use Rattle.scanner.specs.Scanner.{scan, scanned}
 use Rattle.finder.specs.Decide.{any-split, any-repeat, leaf-text, matched}
 use Rattle.picker.specs.Edges.{Every}
 use Rattle.picker.specs.Lines.{lines}

@@ -1,7 +1,7 @@
 -- An output printed at the front of a buffer is what is promised, and lies within the buffer.
 use Prim.Native.Nat.{ℕ, _≤_}
 use mathlib.Core.Path.{_≡_, sym, ap, _∙_, subst}
-use mathlib.Core.List.{List, _++_}
+use mathlib.Core.List.{List, [], _++_}
 use native.Mathlib.Omega.{arith}
 use lib.ListN.{length, drop}
 use Rattle.finder.specs.Decide.{matches}
@@ -31,4 +31,4 @@ pub written-within : (input before after : List ℕ) (r : Picked) (size : ℕ) �
     → r ≡ Written size → size ≤ length before
 written-within input before after r size p e =
     let w : Wrote input before after size = subst (Picks input before after) e p in
-    omega (arith, w, output-length matches input)
+    omega (arith, w, output-length (matches []) input)

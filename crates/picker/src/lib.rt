@@ -14,6 +14,7 @@ use texts::list_texts;
 use tree::layout::RECORD_SIZE;
 use tree::limits::MOST_RECORDS;
 ghost use Prim.Native.Nat.{_≤_};
+ghost use mathlib.Core.List.{[]};
 ghost use lib.ListN.{length};
 ghost use Rattle.finder.specs.Decide.{matches};
 ghost use Rattle.picker.specs.Limits.{longest-input, most-output};
@@ -41,7 +42,7 @@ fn report_lines(input: &[u8], out: &mut [u8]) -> usize
     requires short { ⌜ length (now input) ≤ longest-input ⌝ }
     requires room { ⌜ most-output ≤ length (now out) ⌝ }
     ensures { λ r. ⌜ Prints (now (out .entry)) 0
-        (reported matches (answered (expression (lines (now (input .entry))))) (texts (lines (now (input .entry)))))
+        (reported (matches []) (answered (expression (lines (now (input .entry))))) (texts (lines (now (input .entry)))))
         (now (out .exit)) r ⌝ }
 {
     let end = line_end(input, 0);

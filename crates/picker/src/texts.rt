@@ -1,4 +1,5 @@
-// The lines of the texts, by the tables of the expression's list, which are made once.
+// The lines of the texts, by the tables of the expression's list, which are made once. The expression is one of the first
+// syntax, so no class records are lent.
 use crate::line::line_end;
 use crate::line::next_line;
 use crate::report::text_line;
@@ -11,6 +12,7 @@ use tree::good::decide_with;
 use tree::limits::MOST_PIECES;
 use tree::limits::SLOT_COUNT;
 ghost use Prim.Native.Nat.{ℕ};
+ghost use mathlib.Core.List.{[]};
 ghost use lib.ListN.{drop};
 ghost use Rattle.language.specs.Tree.{Tree};
 ghost use Rattle.tree.specs.Leaf.{Leaf};
@@ -41,7 +43,7 @@ pub fn texts(
         ⌜ ((t : Tree Leaf)
         → Prepared t (now (reach .entry)) (now (codes .entry)) (now (runs .entry)) (now (stands .entry))
         (now (tops .entry)) pieces
-        → Prints (now (out .entry)) 0 (text-lines matches t 0 0 (lines (drop start (now (input .entry)))))
+        → Prints (now (out .entry)) 0 (text-lines (matches []) t 0 0 (lines (drop start (now (input .entry)))))
         (now (out .exit)) r) ⌝ }
 {
     let mut place = start;
@@ -50,7 +52,16 @@ pub fn texts(
     let mut yes = 0;
     while place < input.len() {
         let end = line_end(input, place);
-        let matched = text_matches(reach, codes, runs, stands, tops, pieces, &input[place..end]);
+        let matched = text_matches(
+            reach,
+            codes,
+            runs,
+            stands,
+            tops,
+            pieces,
+            b"",
+            &input[place..end],
+        );
         count += 1;
         at = text_line(out, at, matched, count, yes + 1);
         if matched {
@@ -73,7 +84,7 @@ fn good_texts(
     requires list { ⌜ Decided-good (now list) (now cuts) pieces ⌝ }
     requires space { ⌜ Print-space (now input) start 0 0 0 (now out) ⌝ }
     ensures { λ r. ⌜ ((t : Tree Leaf) → Good (now (list .entry)) t
-        → Prints (now (out .entry)) 0 (text-lines matches t 0 0 (lines (drop start (now (input .entry)))))
+        → Prints (now (out .entry)) 0 (text-lines (matches []) t 0 0 (lines (drop start (now (input .entry)))))
         (now (out .exit)) r) ⌝ }
 {
     let mut reach = [0u64; TABLE_SIZE];
@@ -109,12 +120,17 @@ pub fn list_texts(list: &[u8], input: &[u8], start: usize, out: &mut [u8]) -> us
     requires list { ⌜ Good-list (now list) ⌝ }
     requires space { ⌜ Print-space (now input) start 0 0 0 (now out) ⌝ }
     ensures { λ r. ⌜ ((t : Tree Leaf) → Good (now (list .entry)) t
-        → Prints (now (out .entry)) 0 (text-lines matches t 0 0 (lines (drop start (now (input .entry)))))
+        → Prints (now (out .entry)) 0 (text-lines (matches []) t 0 0 (lines (drop start (now (input .entry)))))
         (now (out .exit)) r) ⌝ }
 {
     let mut cuts = [0u16; SLOT_COUNT];
     let decided = decide_with(list, &mut cuts);
-    let Decided::Good { records: _, pieces } = decided else {
+    let Decided::Good {
+        records: _,
+        pieces,
+        classes: _,
+    } = decided
+    else {
         // The list is good: this is never reached.
         return 0;
     };

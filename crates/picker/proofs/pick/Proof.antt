@@ -1,4 +1,5 @@
 -- `picker::pick` meets its contract: an input over 65,536 bytes has its one line, another one is reported by its lines.
+use mathlib.Core.List.{[]}
 use native.Mathlib.Omega.{arith}
 use Rattle.finder.specs.Decide.{matches}
 use Rattle.picker.specs.OutputCases.{output-long, output-short}
@@ -23,7 +24,7 @@ returns-2 : tie.Need-returns-2
 returns-2 c =
     let start = c .before .before .before .before .before .before .before .before .before in
     wrote (omega arith)
-    (rw (output-long matches (start .args .input .now) (omega arith)) (c .before .before .put .ensures))
+    (rw (output-long (matches []) (start .args .input .now) (omega arith)) (c .before .before .put .ensures))
 
 report-lines-requires : tie.Need-report-lines-requires
 report-lines-requires c κs = search needs
@@ -35,7 +36,7 @@ returns-3 : tie.Need-returns-3
 returns-3 c =
     let start = c .before .before .before .before .before .before .before .before in
     wrote (omega arith)
-    (rw (output-short matches (start .args .input .now) (omega arith)) (c .before .before .report-lines .ensures))
+    (rw (output-short (matches []) (start .args .input .now) (omega arith)) (c .before .before .report-lines .ensures))
 
 pub pick-spec : {M : Type 1} → statement M
 pick-spec =

@@ -8,10 +8,10 @@ use Rattle.edges.proofs.marking.walk.Statement.{statement}
 use Rattle.edges.proofs.marking.walk.Tie as tie
 
 abbrev Inv-loop : tie.InvT-loop
-Inv-loop list words₀ text answer₀ i₀ words answer i = length words ≡ length words₀
+Inv-loop list classes words₀ text answer₀ i₀ words answer i = length words ≡ length words₀
 
 abbrev μ-loop : tie.MeasureT-loop
-μ-loop list words₀ text answer₀ i₀ words answer i = length text - i
+μ-loop list classes words₀ text answer₀ i₀ words answer i = length text - i
 
 start-requires : tie.Need-start-requires Inv-loop μ-loop
 start-requires c κs = search needs

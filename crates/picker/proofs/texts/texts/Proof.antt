@@ -5,6 +5,7 @@ use Prim.Native.Nat.{ℕ, _-_}
 use mathlib.Core.Path.{_≡_, refl, sym, ap, _∙_}
 use mathlib.Core.Bool.{Bool}
 use mathlib.Core.Logic.{⊎-elim}
+use mathlib.Core.List.{[]}
 use native.Mathlib.Omega.{arith}
 use borrow.Author.Needs.{needs}
 use lib.ListN.{length}
@@ -29,13 +30,13 @@ use Rattle.picker.proofs.texts.texts.Statement.{statement}
 use Rattle.picker.proofs.texts.texts.Tie as tie
 
 abbrev Inv-loop : tie.InvT-loop
-Inv-loop reach codes runs stands tops pieces input start out₀ place₀ at₀ count₀ yes₀ out place at count yes' =
+Inv-loop reach codes runs stands tops pieces input start out₀ place₀ at₀ count₀ yes₀ no-classes out place at count yes' =
     Print-space input place at count yes' out × (length out ≡ length out₀)
     × ((t : Tree Leaf) → Prepared t reach codes runs stands tops pieces
-    → So-far matches t input start out₀ place at count yes' out)
+    → So-far (matches []) t input start out₀ place at count yes' out)
 
 abbrev μ-loop : tie.MeasureT-loop
-μ-loop reach codes runs stands tops pieces input start out₀ place₀ at₀ count₀ yes₀ out place at count yes' =
+μ-loop reach codes runs stands tops pieces input start out₀ place₀ at₀ count₀ yes₀ no-classes out place at count yes' =
     length input - place
 
 abbrev begun : tie.At-loop Inv-loop μ-loop → tie.Start Inv-loop μ-loop
@@ -46,7 +47,7 @@ abbrev turn : tie.After-next-line Inv-loop μ-loop → tie.After-text-line-arg I
 turn c = c .before .before .before .before .before
 
 abbrev head : tie.After-text-line-arg Inv-loop μ-loop → tie.At-loop Inv-loop μ-loop
-head c = c .before .before .before .before .before
+head c = c .before .before .before .before .before .before
 
 -- the yes lines after the turn
 counted : (c : tie.After-next-line Inv-loop μ-loop)
@@ -60,10 +61,13 @@ counted c =
 
 loop-holds : tie.Need-loop-holds Inv-loop μ-loop
 loop-holds c =
-    (c .before .before .before .before .before .before .before .pre .1, refl, λ t prepared. so-far-none matches t _ _ _)
+    (c .before .before .before .before .before .before .before .pre .1, refl, λ t prepared. so-far-none (matches []) t _ _ _)
 
 line-end-requires : tie.Need-line-end-requires Inv-loop μ-loop
 line-end-requires c κs = search needs
+
+slice-aggregate-text-matches : tie.Need-slice-aggregate-text-matches Inv-loop μ-loop
+slice-aggregate-text-matches c = search needs
 
 sub-text-matches : tie.Need-sub-text-matches Inv-loop μ-loop
 sub-text-matches c = search needs
@@ -84,7 +88,7 @@ add-text-line : tie.Need-add-text-line Inv-loop μ-loop
 add-text-line c = search needs
 
 text-line-requires : tie.Need-text-line-requires Inv-loop μ-loop
-text-line-requires c κs = space-line (head c .loop .inv .0) _ (c .before .before .before .line-end .ensures)
+text-line-requires c κs = space-line (head c .loop .inv .0) _ (c .before .before .before .before .line-end .ensures)
     (search needs) (c .before .text-matches .result)
 
 add-yes : tie.Need-add-yes Inv-loop μ-loop
@@ -95,19 +99,19 @@ next-line-requires c κs = search needs
 
 loop-less : tie.Need-loop-less Inv-loop μ-loop
 loop-less c =
-    let line = turn c .before .before .before .line-end .ensures in
+    let line = turn c .before .before .before .before .line-end .ensures in
     omega (arith, c .next-line .ensures, after-start _ _ _ line (omega arith))
 
 loop-again : tie.Need-loop-again Inv-loop μ-loop
 loop-again c =
-    let line = turn c .before .before .before .line-end .ensures in
+    let line = turn c .before .before .before .before .line-end .ensures in
     let printed = c .before .before .before .before .text-line .ensures in
     let space = head (turn c) .loop .inv .0 in
     rw (c .next-line .ensures, counted c) (
       space-next space _ line (omega arith) (turn c .before .text-matches .result) printed,
       search needs,
       λ t prepared.
-          so-far-next matches t _ _ _ (head (turn c) .loop .inv .2 t prepared) _ line (omega arith) _
+          so-far-next (matches []) t _ _ _ (head (turn c) .loop .inv .2 t prepared) _ line (omega arith) _
           (lent-answer line _ t (turn c .before .text-matches .ensures t prepared)) printed,
     )
 
@@ -119,7 +123,7 @@ same-length c = search needs
 
 returns : tie.Need-returns Inv-loop μ-loop
 returns c = λ t prepared.
-    so-far-done matches t _ _ _ (c .before .before .before .before .before .loop .inv .2 t prepared) (omega arith)
+    so-far-done (matches []) t _ _ _ (c .before .before .before .before .before .loop .inv .2 t prepared) (omega arith)
     (c .before .before .total-line .ensures)
 
 pub texts-spec : {M : Type 1} → statement M
@@ -130,6 +134,7 @@ texts-spec =
     μ-loop
     loop-holds
     line-end-requires
+    slice-aggregate-text-matches
     sub-text-matches
     part-text-matches-start
     part-text-matches-end
