@@ -1,7 +1,8 @@
 //! The matchers that are measured, behind one form. Each is prepared once for an expression, outside the measured time.
 
-use crate::foamlattice::{self, MOST_RECORD_BYTES};
+use crate::foamlattice::Expression;
 use crate::plain::Plain;
+use crate::workloads::Syntax;
 use std::ffi::{c_char, c_int, c_void, CString};
 
 /// A matcher with one expression. `None` where it gives up on a text.
@@ -12,20 +13,16 @@ pub trait Matcher {
 
 pub struct Engine {
     pub name: &'static str,
-    pub prepare: fn(&[u8]) -> Option<Box<dyn Matcher>>,
+    pub prepare: fn(&[u8], Syntax) -> Option<Box<dyn Matcher>>,
 }
 
 /// The library keeps nothing between calls: each call is lent the list, and checks it, again.
-struct Foamlattice {
-    list: Vec<u8>,
-}
-
-impl Matcher for Foamlattice {
+impl Matcher for Expression {
     fn is_match(&mut self, text: &[u8]) -> Option<bool> {
-        foamlattice::is_match(&self.list, text).ok()
+        Expression::is_match(self, text).ok()
     }
     fn find(&mut self, text: &[u8]) -> Option<Option<(usize, usize)>> {
-        let found = foamlattice::find(&self.list, text).ok()?;
+        let found = Expression::find(self, text).ok()?;
         Some(found.map(|part| (part.start, part.end)))
     }
 }
@@ -42,14 +39,66 @@ impl Matcher for Plain {
 /// The plain simulation that keeps nothing between calls either: its automaton is made from the expression in each call.
 struct PlainAnew {
     expression: Vec<u8>,
+    syntax: Syntax,
 }
 
 impl Matcher for PlainAnew {
     fn is_match(&mut self, text: &[u8]) -> Option<bool> {
-        Some(Plain::new(&self.expression).is_match(text))
+        Some(Plain::new(&self.expression, self.syntax).is_match(text))
     }
     fn find(&mut self, text: &[u8]) -> Option<Option<(usize, usize)>> {
-        Some(Plain::new(&self.expression).find(text))
+        Some(Plain::new(&self.expression, self.syntax).find(text))
+    }
+}
+
+/// Another build of the library, with a name of its own for each function: the landing before, saved. It takes the list that
+/// this build has read. Before the landing with classes its calls took none.
+#[cfg(before)]
+struct Before {
+    read: Expression,
+}
+
+#[cfg(all(before, not(before_classes)))]
+extern "C" {
+    fn before_foam_match(records: *const u8, records_length: usize, text: *const u8, text_length: usize) -> u64;
+    fn before_foam_search(records: *const u8, records_length: usize, text: *const u8, text_length: usize) -> u64;
+}
+
+#[cfg(all(before, before_classes))]
+extern "C" {
+    fn before_foam_match(r: *const u8, r_length: usize, c: *const u8, c_length: usize, t: *const u8, t_length: usize) -> u64;
+    fn before_foam_search(r: *const u8, r_length: usize, c: *const u8, c_length: usize, t: *const u8, t_length: usize) -> u64;
+}
+
+#[cfg(before)]
+impl Before {
+    fn usable(self, syntax: Syntax) -> Option<Before> {
+        (cfg!(before_classes) || syntax == Syntax::First).then_some(self)
+    }
+    #[cfg(not(before_classes))]
+    fn call(&self, call: unsafe extern "C" fn(*const u8, usize, *const u8, usize) -> u64, text: &[u8]) -> u64 {
+        let list = self.read.records();
+        // SAFETY: both slices are valid for their lengths for the call.
+        unsafe { call(list.as_ptr(), list.len(), text.as_ptr(), text.len()) }
+    }
+    #[cfg(before_classes)]
+    fn call(&self, call: unsafe extern "C" fn(*const u8, usize, *const u8, usize, *const u8, usize) -> u64, text: &[u8]) -> u64 {
+        let (list, classes) = (self.read.records(), self.read.classes());
+        // SAFETY: the slices are valid for their lengths for the call.
+        unsafe { call(list.as_ptr(), list.len(), classes.as_ptr(), classes.len(), text.as_ptr(), text.len()) }
+    }
+}
+
+#[cfg(before)]
+impl Matcher for Before {
+    fn is_match(&mut self, text: &[u8]) -> Option<bool> {
+        let answer = self.call(before_foam_match, text);
+        (answer & 0xff == 0).then_some(answer >> 8 & 0xff == 1)
+    }
+    fn find(&mut self, text: &[u8]) -> Option<Option<(usize, usize)>> {
+        let answer = self.call(before_foam_search, text);
+        let part = (answer as usize >> 16 & 0xff_ffff, answer as usize >> 40);
+        (answer & 0xff == 0).then_some((answer >> 8 & 0xff == 1).then_some(part))
     }
 }
 
@@ -106,23 +155,25 @@ extern "C" {
     fn pcre2_part(compiled: *mut c_void, text: *const c_char, length: usize, start: *mut usize, end: *mut usize) -> c_int;
 }
 
-fn prepare_foamlattice(expression: &[u8]) -> Option<Box<dyn Matcher>> {
-    let mut list = vec![0; MOST_RECORD_BYTES];
-    let counts = foamlattice::read(expression, &mut list).ok()?;
-    list.truncate(8 * counts.records);
-    Some(Box::new(Foamlattice { list }))
+fn read(expression: &[u8], syntax: Syntax) -> Option<Expression> {
+    match syntax {
+        Syntax::First => Expression::first(expression).ok(),
+        Syntax::Second => Expression::second(expression).ok(),
+    }
 }
 
 /// The plain simulation is first: the others are held against it.
 pub fn all() -> Vec<Engine> {
     vec![
-        Engine { name: "plain lists", prepare: |e| Some(Box::new(Plain::new(e))) },
-        Engine { name: "foamlattice", prepare: prepare_foamlattice },
-        Engine { name: "plain, made anew", prepare: |e| Some(Box::new(PlainAnew { expression: e.to_vec() })) },
-        Engine { name: "glibc regexec", prepare: |e| other(e, glibc_new, glibc_whole, glibc_part) },
+        Engine { name: "plain lists", prepare: |e, syntax| Some(Box::new(Plain::new(e, syntax))) },
+        Engine { name: "foamlattice", prepare: |e, syntax| Some(Box::new(read(e, syntax)?)) },
+        #[cfg(before)]
+        Engine { name: "before", prepare: |e, syntax| Some(Box::new(Before { read: read(e, syntax)? }.usable(syntax)?)) },
+        Engine { name: "plain, made anew", prepare: |e, syntax| Some(Box::new(PlainAnew { expression: e.to_vec(), syntax })) },
+        Engine { name: "glibc regexec", prepare: |e, _| other(e, glibc_new, glibc_whole, glibc_part) },
         #[cfg(re2)]
-        Engine { name: "RE2", prepare: |e| other(e, re2_new, re2_whole, re2_part) },
+        Engine { name: "RE2", prepare: |e, _| other(e, re2_new, re2_whole, re2_part) },
         #[cfg(pcre2)]
-        Engine { name: "PCRE2", prepare: |e| other(e, pcre2_new, pcre2_whole, pcre2_part) },
+        Engine { name: "PCRE2", prepare: |e, _| other(e, pcre2_new, pcre2_whole, pcre2_part) },
     ]
 }

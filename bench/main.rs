@@ -5,6 +5,7 @@ mod engines;
 #[path = "../tests/compare/expected.rs"]
 #[allow(dead_code)]
 mod expected;
+#[allow(dead_code)]
 #[path = "../rust/foamlattice.rs"]
 mod foamlattice;
 #[path = "../tests/compare/generate.rs"]
@@ -14,6 +15,9 @@ mod plain;
 mod sizes;
 mod stack;
 mod workloads;
+#[path = "../tests/compare/written.rs"]
+#[allow(dead_code)]
+mod written;
 
 use engines::{Engine, Matcher};
 use foamlattice::MOST_OUTPUT;
@@ -72,13 +76,17 @@ struct Measured {
 
 impl Measured {
     fn or_quicker(self, other: Measured) -> Measured {
-        if other.nanoseconds_per_byte < self.nanoseconds_per_byte { other } else { self }
+        if other.nanoseconds_per_byte < self.nanoseconds_per_byte {
+            other
+        } else {
+            self
+        }
     }
 }
 
 fn measure(engine: &Engine, load: &Workload, run: Run) -> Measured {
     let bytes = load.expressions.len() * load.texts.iter().map(Vec::len).sum::<usize>();
-    let prepared: Option<Vec<_>> = load.expressions.iter().map(|e| (engine.prepare)(e)).collect();
+    let prepared: Option<Vec<_>> = load.expressions.iter().map(|e| (engine.prepare)(e, load.syntax)).collect();
     let Some(mut matchers) = prepared else { return Measured { answers: None, nanoseconds_per_byte: f64::NAN } };
     let (answers, time) = quickest(|| run(&mut matchers, &load.texts));
     Measured { answers, nanoseconds_per_byte: time.as_nanos() as f64 / bytes as f64 }
@@ -132,8 +140,11 @@ fn measure_all(load: &Workload) -> Vec<Row> {
         Row { name: engine.name, whole, part: Some(part) }
     };
     let mut rows: Vec<Row> = engines::all().into_iter().map(measured).collect();
+    // A landing that had no classes yet has no row where there are some.
+    rows.retain(|row| row.name != "before" || row.whole.answers.is_some());
     if load.as_lines {
-        rows.insert(2, Row { name: "foamlattice pick", whole: measure_pick(load), part: None });
+        let after_library = rows.iter().position(|row| row.name == "plain, made anew").expect("it is there");
+        rows.insert(after_library, Row { name: "foamlattice pick", whole: measure_pick(load), part: None });
     }
     rows
 }

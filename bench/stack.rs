@@ -1,8 +1,8 @@
 //! The stack that each call of the library needs: the most over expressions that are large or deep.
 
-use crate::foamlattice::{self, MOST_OUTPUT, MOST_RECORD_BYTES, MOST_WORDS};
+use crate::foamlattice::{self, MOST_CLASS_BYTES, MOST_OUTPUT, MOST_RECORD_BYTES, MOST_WORDS};
 use crate::generate::{self, Random};
-use crate::{expected, workloads};
+use crate::{expected, workloads, written};
 use std::ffi::c_void;
 
 extern "C" {
@@ -32,33 +32,47 @@ fn expressions() -> Vec<Vec<u8>> {
     vec![workloads::date_expression(), words, vec![b'a'; 897], vec![b'a'; 1_025], deep]
 }
 
-/// The lists of the expressions, and the one with the most pieces below one another.
-fn lists() -> Vec<Vec<u8>> {
-    let list = |e: &Vec<u8>| expected::read(e).ok().map(|tree| expected::records(&tree));
-    let chain = expected::records(&generate::chain(1_919));
-    expressions().iter().filter_map(list).chain([chain]).collect()
+/// Expressions of the second syntax: those of the first, which have no dot and no class, and some with many classes.
+fn expressions_with_classes() -> Vec<Vec<u8>> {
+    let deep = ["(".repeat(32), "[^a-z]".into(), ")*".repeat(32)].concat().into_bytes();
+    let all = [vec![b'.'; 897], b"[a]".repeat(341), b"[a-zA-Z0-9_.:,;+=/%&]".repeat(48), deep];
+    expressions().into_iter().chain(all).collect()
+}
+
+/// The lists of the expressions with their classes, and the list with the most pieces below one another.
+fn lists() -> Vec<(Vec<u8>, Vec<u8>)> {
+    let list = |e: &Vec<u8>| written::read(e).ok().map(|read| read.laid_out());
+    let chain = (expected::records(&generate::chain(1_919)), vec![]);
+    let read =
+        expressions_with_classes().iter().filter_map(list).map(|l| (expected::records(&l.tree), l.class_records())).collect();
+    [read, vec![chain]].concat()
 }
 
 fn ignore<T>(_: T) {}
 
 pub fn print() {
     let mut buffer = vec![0; MOST_RECORD_BYTES];
+    let mut class_buffer = vec![0; MOST_CLASS_BYTES];
     let mut words = vec![0; MOST_WORDS];
     let text = b"02-29 and a longer text aaaaaaaaaaaaaaaa";
     let reads = expressions().iter().map(|e| used(|| ignore(foamlattice::read(e, &mut buffer)))).max();
+    let mut second = |e: &[u8]| used(|| ignore(foamlattice::read_second(e, &mut buffer, &mut class_buffer)));
+    let second_reads = expressions_with_classes().iter().map(|e| second(e)).max();
     let mut output = vec![0; MOST_OUTPUT];
     let mut pick = |e: &[u8]| {
         let input = [e, b"\n", text].concat();
         used(|| ignore(foamlattice::pick(&input, &mut output)))
     };
     let picks = expressions().iter().map(|e| pick(e)).max();
-    let of_lists = |call: &mut dyn FnMut(&[u8])| lists().iter().map(|list| used(|| call(list))).max();
+    let lists = lists();
+    let of_lists = |call: &mut dyn FnMut(&[u8], &[u8])| lists.iter().map(|(list, classes)| used(|| call(list, classes))).max();
     let rows = [
         ("read", reads),
-        ("match", of_lists(&mut |list| ignore(foamlattice::is_match(list, text)))),
-        ("search", of_lists(&mut |list| ignore(foamlattice::find(list, text)))),
-        ("start", of_lists(&mut |list| ignore(foamlattice::start(list, &mut words)))),
-        ("step", of_lists(&mut |list| ignore(foamlattice::step(list, &mut words, b'a')))),
+        ("read2", second_reads),
+        ("match", of_lists(&mut |list, classes| ignore(foamlattice::is_match(list, classes, text)))),
+        ("search", of_lists(&mut |list, classes| ignore(foamlattice::find(list, classes, text)))),
+        ("start", of_lists(&mut |list, classes| ignore(foamlattice::start(list, classes, &mut words)))),
+        ("step", of_lists(&mut |list, classes| ignore(foamlattice::step(list, classes, &mut words, b'a')))),
         ("pick", picks),
     ];
     println!("\nbytes of stack that a call needs at most, over large and deep lists");

@@ -2,8 +2,16 @@
 
 use crate::generate::Random;
 
+/// Which of the two readers an expression is for.
+#[derive(Clone, Copy, PartialEq)]
+pub enum Syntax {
+    First,
+    Second,
+}
+
 pub struct Workload {
     pub name: &'static str,
+    pub syntax: Syntax,
     pub expressions: Vec<Vec<u8>>,
     pub texts: Vec<Vec<u8>>,
     /// Whether the texts are also measured as the lines of one input of `pick`.
@@ -25,13 +33,18 @@ pub fn date_expression() -> Vec<u8> {
     months.join("|").into_bytes()
 }
 
-fn dates() -> Workload {
+/// The 366 lines of a leap year.
+fn date_lines() -> Vec<Vec<u8>> {
     let date = |month: usize, day: usize| format!("{month:02}-{day:02}").into_bytes();
-    let texts = (1..=12).flat_map(|month| (1..=DAYS[month - 1]).map(move |day| date(month, day))).collect();
+    (1..=12).flat_map(|month| (1..=DAYS[month - 1]).map(move |day| date(month, day))).collect()
+}
+
+fn dates() -> Workload {
     Workload {
         name: "dates: 708 bytes, 49 pieces, on 366 lines of 5 bytes",
+        syntax: Syntax::First,
         expressions: vec![date_expression()],
-        texts,
+        texts: date_lines(),
         as_lines: true,
     }
 }
@@ -60,6 +73,7 @@ fn words() -> Workload {
     let text = word_text(&mut r, &words);
     Workload {
         name: "words: 1,000 bytes, 119 pieces, on 64 KB",
+        syntax: Syntax::First,
         expressions: vec![expression],
         texts: vec![text],
         as_lines: false,
@@ -71,6 +85,7 @@ fn stars() -> Workload {
     let text = (0..20 * 1024).map(|_| r.pick(b"abc")).collect();
     Workload {
         name: "nested stars: ((a*b*)*c*)* on 20 KB",
+        syntax: Syntax::First,
         expressions: vec![b"((a*b*)*c*)*".to_vec()],
         texts: vec![text],
         as_lines: false,
@@ -92,12 +107,53 @@ fn log() -> Workload {
     let rules = ["error|warning".into(), format!("user {digit}{digit}* (login|logout)"), format!("(1|2|3|4){digit}{digit} ms")];
     Workload {
         name: "log: 3 short rules on 2,000 lines of some 80 bytes",
+        syntax: Syntax::First,
         expressions: rules.into_iter().map(String::into_bytes).collect(),
         texts: (0..2_000).map(|_| log_line(&mut r)).collect(),
         as_lines: false,
     }
 }
 
+fn dates_by_classes() -> Workload {
+    Workload {
+        name: "dates by classes: [01][0-9]-[0-3][0-9] on 366 lines of 5 bytes",
+        syntax: Syntax::Second,
+        expressions: vec![b"[01][0-9]-[0-3][0-9]".to_vec()],
+        texts: date_lines(),
+        as_lines: false,
+    }
+}
+
+fn log_by_classes() -> Workload {
+    let mut r = Random::new(3);
+    let rules = [
+        "(error|warning): user [0-9]*",
+        "user [0-9][0-9]* (login|logout)",
+        "[1-4][0-9][0-9] ms",
+        "[0-9]*-[0-9]*-[0-9]* [0-9:]* [a-z]*-[0-9]* [a-z]*: .*",
+    ];
+    Workload {
+        name: "log by classes: 4 short rules on 2,000 lines of some 80 bytes",
+        syntax: Syntax::Second,
+        expressions: rules.map(|rule| rule.as_bytes().to_vec()).to_vec(),
+        texts: (0..2_000).map(|_| log_line(&mut r)).collect(),
+        as_lines: false,
+    }
+}
+
+/// One rule that most of a long text keeps busy: words of letters between anything.
+fn words_by_classes() -> Workload {
+    let mut r = Random::new(5);
+    let text = (0..20 * 1024).map(|_| r.pick(b"abcxyz 0189.:")).collect();
+    Workload {
+        name: "letters by classes: ([a-z]*[^a-z].)*[0-9]* on 20 KB",
+        syntax: Syntax::Second,
+        expressions: vec![b"([a-z]*[^a-z].)*[0-9]*".to_vec()],
+        texts: vec![text],
+        as_lines: false,
+    }
+}
+
 pub fn all() -> Vec<Workload> {
-    vec![dates(), words(), stars(), log()]
+    vec![dates(), words(), stars(), log(), dates_by_classes(), log_by_classes(), words_by_classes()]
 }

@@ -1,16 +1,54 @@
 //! One call of the library, held against what is expected: its answer, and every byte and word that was lent to it.
 
-use crate::expected::{self, Automaton, Tree};
+use crate::expected::{self, Automaton, Tree, CLASS_SIZE};
 use crate::wrapper::foamlattice::MOST_OUTPUT;
+use crate::written::{self, LaidOut, Written};
 use std::fmt::Debug;
 
 // SAFETY of every call below: each pointer and length is that of one whole slice, and what is written to is lent alone.
 unsafe extern "C" {
     fn foam_read(expression: *const u8, expression_length: usize, records: *mut u8, records_length: usize) -> u64;
-    fn foam_match(records: *const u8, records_length: usize, text: *const u8, text_length: usize) -> u64;
-    fn foam_search(records: *const u8, records_length: usize, text: *const u8, text_length: usize) -> u64;
-    fn foam_start(records: *const u8, records_length: usize, words: *mut u64, words_length: usize) -> u64;
-    fn foam_step(records: *const u8, records_length: usize, words: *mut u64, words_length: usize, byte: u8) -> u64;
+    fn foam_read2(
+        expression: *const u8,
+        expression_length: usize,
+        records: *mut u8,
+        records_length: usize,
+        classes: *mut u8,
+        classes_length: usize,
+    ) -> u64;
+    fn foam_match(
+        records: *const u8,
+        records_length: usize,
+        classes: *const u8,
+        classes_length: usize,
+        text: *const u8,
+        text_length: usize,
+    ) -> u64;
+    fn foam_search(
+        records: *const u8,
+        records_length: usize,
+        classes: *const u8,
+        classes_length: usize,
+        text: *const u8,
+        text_length: usize,
+    ) -> u64;
+    fn foam_start(
+        records: *const u8,
+        records_length: usize,
+        classes: *const u8,
+        classes_length: usize,
+        words: *mut u64,
+        words_length: usize,
+    ) -> u64;
+    fn foam_step(
+        records: *const u8,
+        records_length: usize,
+        classes: *const u8,
+        classes_length: usize,
+        words: *mut u64,
+        words_length: usize,
+        byte: u8,
+    ) -> u64;
     fn foam_pick(input: *const u8, input_length: usize, output: *mut u8, output_length: usize) -> u64;
 }
 
@@ -18,7 +56,7 @@ const FILL: u8 = 0xa5;
 const FILL_WORD: u64 = 0xa5a5_a5a5_a5a5_a5a5;
 
 /// All 64 bits of an answer.
-#[derive(Debug, PartialEq)]
+#[derive(Clone, Copy, Debug, PartialEq)]
 struct Answer {
     refusal: u8,
     flag: u8,
@@ -33,8 +71,8 @@ impl Answer {
     fn refused(refusal: u8, place: usize) -> Answer {
         Answer { refusal, flag: 0, x: place, y: 0 }
     }
-    fn counts(records: usize, pieces: usize) -> Answer {
-        Answer { refusal: 0, flag: 0, x: records, y: pieces }
+    fn counts(records: usize, pieces: usize, classes: usize) -> Answer {
+        Answer { refusal: 0, flag: 0, x: records, y: pieces + 256 * classes }
     }
     fn yes_or_no(yes: bool) -> Answer {
         Answer { refusal: 0, flag: yes as u8, x: 0, y: 0 }
@@ -70,7 +108,7 @@ fn expected_read(e: &[u8], room: usize) -> (Answer, Vec<u8>) {
     if room < list.len() {
         return (Answer::refused(9, 0), vec![]);
     }
-    (Answer::counts(tree.len(), pieces), list)
+    (Answer::counts(tree.len(), pieces, 0), list)
 }
 
 /// Reads an expression into a buffer of `room` bytes; the list, if it is not refused.
@@ -84,7 +122,51 @@ pub fn read(e: &[u8], room: usize) -> Option<List> {
     let good = expected.refusal == 0;
     hold("reading", input, answer, expected);
     hold("the record buffer", input, buffer, after);
-    good.then(|| List::new(written))
+    good.then(|| List::new(written, vec![]))
+}
+
+/// What reading in the second syntax should answer, and write at the beginning of both buffers; and what was written.
+fn expected_second(e: &[u8], rooms: [usize; 2]) -> (Answer, [Vec<u8>; 2], Option<Written>) {
+    let refused = |number, place| (Answer::refused(number, place), [vec![], vec![]], None);
+    let written = match written::read(e) {
+        Err((number, place)) => return refused(number, place),
+        Ok(written) => written,
+    };
+    let laid_out: LaidOut = written.laid_out();
+    let pieces = expected::pieces(&laid_out.tree).1;
+    hold("the fewest pieces", || e.escape_ascii().to_string(), pieces, expected::fewest_pieces(&laid_out.tree));
+    if pieces > 128 {
+        return refused(8, 0);
+    }
+    let (list, classes) = (expected::records(&laid_out.tree), laid_out.class_records());
+    if rooms[0] < list.len() {
+        return refused(9, 0);
+    }
+    if rooms[1] < classes.len() {
+        return refused(15, 0);
+    }
+    (Answer::counts(laid_out.tree.len(), pieces, laid_out.sets.len()), [list, classes], Some(written))
+}
+
+/// Reads an expression of the second syntax into buffers of these lengths, for records and for classes; the list with its
+/// classes, if it is not refused.
+pub fn read_second(e: &[u8], rooms: [usize; 2]) -> Option<List> {
+    let input = || format!("\"{}\" in the second syntax with buffers of {rooms:?} bytes", e.escape_ascii());
+    let [mut records, mut classes] = rooms.map(|room| vec![FILL; room]);
+    // SAFETY: as above.
+    let answer = Answer::of(unsafe {
+        let (records_start, classes_start) = (records.as_mut_ptr(), classes.as_mut_ptr());
+        foam_read2(e.as_ptr(), e.len(), records_start, records.len(), classes_start, classes.len())
+    });
+    let (expected, written, meant) = expected_second(e, rooms);
+    hold("reading", input, answer, expected);
+    for (what, buffer, front) in [("the record buffer", records, &written[0]), ("the class buffer", classes, &written[1])] {
+        let mut after = vec![FILL; buffer.len()];
+        after[..front.len()].copy_from_slice(front);
+        hold(what, input, buffer, after);
+    }
+    let [list, classes] = written;
+    meant.map(|meant| List { written: Some(meant), ..List::new(list, classes) })
 }
 
 /// Picks in one call, into a buffer of `room` bytes, where `output` is to be printed.
@@ -102,19 +184,26 @@ pub fn pick(input: &[u8], room: usize, output: &[u8]) {
     hold("the first byte changed past the output", shown, past.iter().position(|&b| b != FILL), None);
 }
 
-/// A record list, with what it holds if it is good.
+/// A record list and the class records lent with it, with what the list holds if it is good.
 pub struct List {
     pub bytes: Vec<u8>,
+    pub classes: Vec<u8>,
     good: Option<(Tree, Automaton)>,
+    /// What it was read from, where that is known: its language is then taken from there.
+    written: Option<Written>,
 }
 
 impl List {
-    pub fn new(bytes: Vec<u8>) -> List {
+    pub fn new(bytes: Vec<u8>, classes: Vec<u8>) -> List {
         let good = expected::decode(&bytes).map(|tree| {
-            let automaton = expected::automaton(&tree);
+            let sets = expected::sets(&classes, expected::class_count(&tree));
+            let automaton = expected::automaton(&tree, sets);
             (tree, automaton)
         });
-        List { bytes, good }
+        List { bytes, classes, good, written: None }
+    }
+    pub fn written(&self) -> &Written {
+        self.written.as_ref().expect("only asked of a list that was read in the second syntax")
     }
     pub fn automaton(&self) -> &Automaton {
         &self.good.as_ref().expect("only asked of a good list").1
@@ -123,14 +212,38 @@ impl List {
     pub fn pieces(&self) -> usize {
         self.good.as_ref().map_or(0, |(_, automaton)| automaton.widths.len())
     }
+    /// The number of class leaves; of a list that is not good, 0.
+    pub fn class_count(&self) -> usize {
+        self.good.as_ref().map_or(0, |(tree, _)| expected::class_count(tree))
+    }
+    /// The same list with other bytes lent as class records.
+    pub fn lent(&self, classes: Vec<u8>) -> List {
+        List::new(self.bytes.clone(), classes)
+    }
+
+    /// The tree and the automaton, or the refusal that every call with this list and these classes gives first.
+    fn usable(&self) -> Result<&(Tree, Automaton), Answer> {
+        let good = self.good.as_ref().ok_or(Answer::refused(10, 0))?;
+        if self.classes.len() < CLASS_SIZE * self.class_count() {
+            Err(Answer::refused(15, 0))
+        } else {
+            Ok(good)
+        }
+    }
 
     fn expected_answers(&self, text: &[u8]) -> (Answer, Answer) {
-        let Some((tree, automaton)) = &self.good else { return (Answer::refused(10, 0), Answer::refused(10, 0)) };
+        let (tree, automaton) = match self.usable() {
+            Err(refused) => return (refused, refused),
+            Ok(good) => good,
+        };
         if text.len() > 65_536 {
             return (Answer::refused(11, 0), Answer::refused(11, 0));
         }
+        if let (0..=127, Some(written)) = (text.len(), &self.written) {
+            return (Answer::yes_or_no(written.is_match(text)), Answer::found(written.find(text)));
+        }
         if text.len() <= 127 {
-            let parts = expected::parts(tree, text);
+            let parts = expected::parts(tree, &automaton.sets, text);
             return (Answer::yes_or_no(expected::is_match(&parts)), Answer::found(expected::find(&parts)));
         }
         let furthest = |from: usize| automaton.ends(&text[from..]).last().map(|end| from..from + end);
@@ -142,10 +255,10 @@ impl List {
     pub fn compare_text(&self, text: &[u8]) {
         let input = || format!("the list {} and the text \"{}\"", self.show(), text.escape_ascii());
         let (matched, found) = self.expected_answers(text);
-        let (list, length) = (self.bytes.as_ptr(), self.bytes.len());
-        let answer = unsafe { foam_match(list, length, text.as_ptr(), text.len()) };
+        let (list, length, classes, classes_length) = self.slices();
+        let answer = unsafe { foam_match(list, length, classes, classes_length, text.as_ptr(), text.len()) };
         hold("matching", input, Answer::of(answer), matched);
-        let answer = unsafe { foam_search(list, length, text.as_ptr(), text.len()) };
+        let answer = unsafe { foam_search(list, length, classes, classes_length, text.as_ptr(), text.len()) };
         hold("searching", input, Answer::of(answer), found);
     }
 
@@ -154,11 +267,12 @@ impl List {
         let input = || format!("the list {} and {room} words", self.show());
         let mut words = vec![FILL_WORD; room];
         let mut after = words.clone();
-        let answer = unsafe { foam_start(self.bytes.as_ptr(), self.bytes.len(), words.as_mut_ptr(), words.len()) };
-        let expected = match &self.good {
-            None => Answer::refused(10, 0),
-            Some(_) if room < self.pieces() => Answer::refused(12, 0),
-            Some((_, automaton)) => {
+        let (list, length, classes, classes_length) = self.slices();
+        let answer = unsafe { foam_start(list, length, classes, classes_length, words.as_mut_ptr(), words.len()) };
+        let expected = match self.usable() {
+            Err(refused) => refused,
+            Ok(_) if room < self.pieces() => Answer::refused(12, 0),
+            Ok((_, automaton)) => {
                 let marks = automaton.start();
                 after[..self.pieces()].copy_from_slice(&automaton.words(&marks));
                 Answer::yes_or_no(*marks.last().unwrap())
@@ -174,11 +288,12 @@ impl List {
         let input = || format!("the list {}, the words {before:x?} and the byte {byte}", self.show());
         let mut words = before.to_vec();
         let mut after = before.to_vec();
-        let answer = unsafe { foam_step(self.bytes.as_ptr(), self.bytes.len(), words.as_mut_ptr(), words.len(), byte) };
-        let expected = match &self.good {
-            None => Answer::refused(10, 0),
-            Some(_) if before.len() < self.pieces() => Answer::refused(12, 0),
-            Some((_, automaton)) => match automaton.marks(before) {
+        let (list, length, classes, classes_length) = self.slices();
+        let answer = unsafe { foam_step(list, length, classes, classes_length, words.as_mut_ptr(), words.len(), byte) };
+        let expected = match self.usable() {
+            Err(refused) => refused,
+            Ok(_) if before.len() < self.pieces() => Answer::refused(12, 0),
+            Ok((_, automaton)) => match automaton.marks(before) {
                 None => Answer::refused(13, 0),
                 Some(marks) => {
                     let marks = automaton.step(&marks, byte);
@@ -192,8 +307,14 @@ impl List {
         words
     }
 
+    fn slices(&self) -> (*const u8, usize, *const u8, usize) {
+        (self.bytes.as_ptr(), self.bytes.len(), self.classes.as_ptr(), self.classes.len())
+    }
+
     fn show(&self) -> String {
         let record = |r: &[u8]| r.iter().map(|b| format!("{b:02x}")).collect::<String>();
-        self.bytes.chunks(8).map(record).collect::<Vec<_>>().join(" ")
+        let [list, classes] =
+            [self.bytes.chunks(8), self.classes.chunks(CLASS_SIZE)].map(|rs| rs.map(record).collect::<Vec<_>>());
+        format!("{} with {} bytes of classes {}", list.join(" "), self.classes.len(), classes.join(" "))
     }
 }

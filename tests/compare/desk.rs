@@ -22,7 +22,7 @@ fn is_match(automaton: &Automaton, text: &str) -> bool {
 /// Whether some piece with this top bit is such that 29 February does not match without the state of that bit; if `alone`,
 /// such that all other dates do.
 fn loses_leap_day(tree: &Tree, bit: usize, alone: bool) -> bool {
-    let whole = expected::automaton(tree);
+    let whole = expected::automaton(tree, vec![]);
     (0..whole.widths.len()).filter(|&piece| whole.widths[piece] == bit + 1).any(|piece| {
         let state = whole.bits.iter().position(|bits| bits.contains(&(piece, bit))).unwrap();
         let rest = whole.without(state);

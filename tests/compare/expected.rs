@@ -5,6 +5,8 @@
 #[derive(Clone, Debug, PartialEq, Eq)]
 pub enum Kind {
     Character(u8),
+    /// A class leaf with the number of its class.
+    Class(usize),
     Catenation,
     Union,
     Star,
@@ -20,7 +22,12 @@ pub struct Node {
 
 pub type Tree = Vec<Node>;
 
+/// Which of the 256 bytes are in a class.
+pub type Set = [bool; 256];
+
 pub const NONE: usize = 65_535;
+/// Bytes of a class record.
+pub const CLASS_SIZE: usize = 32;
 
 fn is_special(b: u8) -> bool {
     b"()|*\\".contains(&b)
@@ -62,7 +69,7 @@ impl Stacks {
     }
 }
 
-/// The tree of an expression, or its first fault among 1 to 7 by number and place.
+/// The tree of an expression of the first syntax, or its first fault among 1 to 7 by number and place.
 pub fn read(e: &[u8]) -> Result<Tree, (u8, usize)> {
     if e.is_empty() {
         return Err((1, 0));
@@ -134,7 +141,7 @@ pub fn read(e: &[u8]) -> Result<Tree, (u8, usize)> {
 
 fn children(n: &Node) -> Vec<usize> {
     match n.kind {
-        Kind::Character(_) => vec![],
+        Kind::Character(_) | Kind::Class(_) => vec![],
         Kind::Star => vec![n.left],
         _ => vec![n.left, n.right],
     }
@@ -203,14 +210,15 @@ pub fn records(t: &Tree) -> Vec<u8> {
     let (piece, _) = pieces(t);
     let mut out = vec![];
     for (i, n) in t.iter().enumerate() {
-        let (kind, character) = match n.kind {
-            Kind::Character(c) => (1, c),
-            Kind::Catenation => (2, 0),
-            Kind::Union => (3, 0),
-            Kind::Star => (4, 0),
+        let (kind, character, first) = match n.kind {
+            Kind::Character(c) => (1, c, n.left),
+            Kind::Catenation => (2, 0, n.left),
+            Kind::Union => (3, 0, n.left),
+            Kind::Star => (4, 0, n.left),
+            Kind::Class(number) => (5, 0, number),
         };
         out.extend([kind, character]);
-        for number in [n.left, n.right, piece[i]] {
+        for number in [first, n.right, piece[i]] {
             out.extend((number as u16).to_le_bytes());
         }
     }
@@ -224,9 +232,12 @@ pub fn decode(list: &[u8]) -> Option<Tree> {
     }
     let mut t: Tree = vec![];
     let mut roots: Vec<usize> = vec![];
+    let mut classes = 0;
     for r in list.chunks(8) {
+        classes += (r[0] == 5) as usize;
         let (kind, pops) = match r[0] {
             1 => (Kind::Character(r[1]), 0),
+            5 => (Kind::Class(classes - 1), 0),
             2 => (Kind::Catenation, 2),
             3 => (Kind::Union, 2),
             4 => (Kind::Star, 1),
@@ -243,6 +254,28 @@ pub fn decode(list: &[u8]) -> Option<Tree> {
     (roots.len() == 1 && pieces(&t).1 <= 128 && records(&t) == list).then_some(t)
 }
 
+/// How many class leaves a tree has.
+pub fn class_count(t: &Tree) -> usize {
+    t.iter().filter(|n| matches!(n.kind, Kind::Class(_))).count()
+}
+
+/// The sets of so many class records. A byte past the end of what is lent counts as 0.
+pub fn sets(classes: &[u8], count: usize) -> Vec<Set> {
+    let holds = |class: usize, value: usize| {
+        classes.get(CLASS_SIZE * class + value / 8).is_some_and(|byte| byte / (1 << (value % 8)) % 2 == 1)
+    };
+    (0..count).map(|class| std::array::from_fn(|value| holds(class, value))).collect()
+}
+
+/// Whether a leaf takes a byte. Other nodes take none.
+fn takes(kind: &Kind, sets: &[Set], byte: u8) -> bool {
+    match *kind {
+        Kind::Character(c) => c == byte,
+        Kind::Class(number) => sets[number][byte as usize],
+        _ => false,
+    }
+}
+
 /// For each place of a text where a part can start, the set of places where it can end: bit e of the word of s.
 pub type Parts = Vec<u128>;
 
@@ -252,12 +285,12 @@ fn ends(places: u128, parts: &Parts) -> u128 {
 }
 
 /// All parts of a text of at most 127 bytes that lie in the language: from the leaves up, after the definition.
-pub fn parts(t: &Tree, text: &[u8]) -> Parts {
+pub fn parts(t: &Tree, sets: &[Set], text: &[u8]) -> Parts {
     assert!(text.len() <= 127);
     let mut of: Vec<Parts> = vec![];
     for n in t {
         let from = |s: usize| match n.kind {
-            Kind::Character(c) => ((text.get(s) == Some(&c)) as u128) << s << 1,
+            Kind::Character(_) | Kind::Class(_) => (text.get(s).is_some_and(|&b| takes(&n.kind, sets, b)) as u128) << s << 1,
             Kind::Catenation => ends(of[n.left][s], &of[n.right]),
             Kind::Union => of[n.left][s] | of[n.right][s],
             Kind::Star => {
@@ -288,16 +321,18 @@ pub fn find(parts: &Parts) -> Option<std::ops::Range<usize>> {
 #[derive(Clone)]
 pub struct Automaton {
     empty: Vec<Vec<usize>>,
-    characters: Vec<Option<u8>>,
+    kinds: Vec<Kind>,
+    pub sets: Vec<Set>,
     /// The bits, by piece and number, of each state: one, or two where the state is shared.
     pub bits: Vec<Vec<(usize, usize)>>,
     pub widths: Vec<usize>,
 }
 
-pub fn automaton(t: &Tree) -> Automaton {
+pub fn automaton(t: &Tree, sets: Vec<Set>) -> Automaton {
     let mut a = Automaton {
         empty: vec![vec![]; 2 * t.len()],
-        characters: vec![None; t.len()],
+        kinds: t.iter().map(|n| n.kind.clone()).collect(),
+        sets,
         bits: vec![vec![]; 2 * t.len()],
         widths: vec![],
     };
@@ -305,7 +340,7 @@ pub fn automaton(t: &Tree) -> Automaton {
         let (start, accepting) = (2 * i, 2 * i + 1);
         let (l, r) = (2 * n.left, 2 * n.right);
         match n.kind {
-            Kind::Character(c) => a.characters[i] = Some(c),
+            Kind::Character(_) | Kind::Class(_) => {}
             Kind::Catenation => {
                 a.empty[start].push(l);
                 a.empty[l + 1].push(r);
@@ -375,15 +410,15 @@ impl Automaton {
     }
     pub fn start(&self) -> Vec<bool> {
         let mut marks = vec![false; self.empty.len()];
-        let root = self.characters.len() - 1;
+        let root = self.kinds.len() - 1;
         marks[2 * root] = true;
         self.close(&mut marks);
         marks
     }
     pub fn step(&self, marks: &[bool], byte: u8) -> Vec<bool> {
         let mut next = vec![false; marks.len()];
-        for (i, &c) in self.characters.iter().enumerate() {
-            next[2 * i + 1] = marks[2 * i] && c == Some(byte);
+        for (i, kind) in self.kinds.iter().enumerate() {
+            next[2 * i + 1] = marks[2 * i] && takes(kind, &self.sets, byte);
         }
         self.close(&mut next);
         next

@@ -1,6 +1,7 @@
 //! Inputs for the comparison, from a fixed seed: valid and damaged, long and short.
 
-use crate::expected::{Kind, Node, Tree, NONE};
+use crate::expected::{Kind, Node, Tree, CLASS_SIZE, NONE};
+use crate::written::Written;
 
 pub struct Random(u64);
 
@@ -43,15 +44,62 @@ pub fn write_character(b: u8, out: &mut Vec<u8>) {
     out.push(b);
 }
 
+/// One character as the second syntax writes it, outside a class.
+pub fn write_second_character(b: u8, out: &mut Vec<u8>) {
+    if b"()|*\\.[]".contains(&b) {
+        out.push(b'\\');
+    }
+    out.push(b);
+}
+
+/// One byte as it is written inside a class.
+pub fn write_member(b: u8, out: &mut Vec<u8>) {
+    if b"\\]^-".contains(&b) {
+        out.push(b'\\');
+    }
+    out.push(b);
+}
+
+/// A class over these letters, with now and then any byte; mostly of few items, sometimes of all that there can be.
+fn write_class(r: &mut Random, letters: &[u8], out: &mut Vec<u8>) {
+    out.push(b'[');
+    if r.one_in(3) {
+        out.push(b'^');
+    }
+    let items = if r.one_in(12) { 14 + r.below(3) } else { 1 + r.below(3) };
+    for _ in 0..items {
+        let mut member = || if r.one_in(5) { r.word() as u8 } else { r.pick(letters) };
+        let ends = [member(), member()];
+        write_member(ends[0].min(ends[1]), out);
+        if r.one_in(2) {
+            out.push(b'-');
+            write_member(ends[0].max(ends[1]), out);
+        }
+    }
+    out.push(b']');
+}
+
+/// A character, a class or a dot.
+fn write_leaf(r: &mut Random, letters: &[u8], out: &mut Vec<u8>) {
+    match r.below(6) {
+        0 | 1 => write_class(r, letters, out),
+        2 => out.push(b'.'),
+        _ => write_second_character(r.pick(letters), out),
+    }
+}
+
+/// Writes one operand with no sign after it.
+type WriteLeaf = fn(&mut Random, &[u8], &mut Vec<u8>);
+
 /// A written expression of about `size` nodes with at most `depth` groups open at once.
-pub fn expression(r: &mut Random, size: usize, depth: usize, letters: &[u8], out: &mut Vec<u8>) {
+fn expression_of(leaf: WriteLeaf, r: &mut Random, size: usize, depth: usize, letters: &[u8], out: &mut Vec<u8>) {
     if size <= 1 {
-        return write_character(r.pick(letters), out);
+        return leaf(r, letters, out);
     }
     match r.below(8) {
         0 | 1 if depth > 0 => {
             out.push(b'(');
-            expression(r, size - 1, depth - 1, letters, out);
+            expression_of(leaf, r, size - 1, depth - 1, letters, out);
             out.push(b')');
             if r.one_in(2) {
                 out.push(b'*');
@@ -59,20 +107,30 @@ pub fn expression(r: &mut Random, size: usize, depth: usize, letters: &[u8], out
         }
         2 => {
             let cut = r.below(size - 1) + 1;
-            expression(r, cut, depth, letters, out);
+            expression_of(leaf, r, cut, depth, letters, out);
             out.push(b'|');
-            expression(r, size - cut, depth, letters, out);
+            expression_of(leaf, r, size - cut, depth, letters, out);
         }
         3 => {
-            expression(r, size - 1, depth, letters, out);
+            expression_of(leaf, r, size - 1, depth, letters, out);
             out.push(b'*');
         }
         _ => {
             let cut = r.below(size - 1) + 1;
-            expression(r, cut, depth, letters, out);
-            expression(r, size - cut, depth, letters, out);
+            expression_of(leaf, r, cut, depth, letters, out);
+            expression_of(leaf, r, size - cut, depth, letters, out);
         }
     }
+}
+
+/// An expression of the first syntax.
+pub fn expression(r: &mut Random, size: usize, depth: usize, letters: &[u8], out: &mut Vec<u8>) {
+    expression_of(|r, letters, out| write_character(r.pick(letters), out), r, size, depth, letters, out);
+}
+
+/// An expression of the second syntax.
+pub fn expression_with_classes(r: &mut Random, size: usize, depth: usize, letters: &[u8], out: &mut Vec<u8>) {
+    expression_of(write_leaf, r, size, depth, letters, out);
 }
 
 /// One random change: a byte changed, taken out, put in, or the end cut off.
@@ -109,6 +167,29 @@ pub fn text(r: &mut Random, expression: &[u8], most: usize) -> Vec<u8> {
     out
 }
 
+/// A text of about `most` bytes at most in the language of what is written, with now and then a byte that is not.
+pub fn sample(r: &mut Random, written: &Written, most: usize, out: &mut Vec<u8>) {
+    if out.len() >= most {
+        return;
+    }
+    match written {
+        _ if r.one_in(60) => out.push(r.word() as u8),
+        Written::Byte(byte) => out.push(*byte),
+        Written::OneOf(set) => {
+            let members: Vec<u8> = all_bytes().into_iter().filter(|&byte| set[byte as usize]).collect();
+            if !members.is_empty() {
+                out.push(r.pick(&members));
+            }
+        }
+        Written::InARow(parts) => parts.iter().for_each(|part| sample(r, part, most, out)),
+        Written::AnyOf(parts) => {
+            let chosen = r.below(parts.len());
+            sample(r, &parts[chosen], most, out);
+        }
+        Written::Star(operand) => (0..r.below(4)).for_each(|_| sample(r, operand, most, out)),
+    }
+}
+
 /// One random change to a list: to some byte, to a byte by a little, or the last records cut off.
 pub fn damage_list(r: &mut Random, list: &mut Vec<u8>) {
     match r.below(3) {
@@ -121,15 +202,34 @@ pub fn damage_list(r: &mut Random, list: &mut Vec<u8>) {
     }
 }
 
-fn leaf(character: u8) -> Node {
-    Node { kind: Kind::Character(character), left: NONE, right: NONE }
+fn leaf(kind: Kind) -> Node {
+    Node { kind, left: NONE, right: NONE }
+}
+
+/// Turns some leaves of a tree into class leaves; answers how many.
+pub fn put_classes(r: &mut Random, tree: &mut Tree) -> usize {
+    let mut count = 0;
+    for node in tree {
+        if matches!(node.kind, Kind::Character(_)) && r.one_in(2) {
+            node.kind = Kind::Class(count);
+            count += 1;
+        }
+    }
+    count
+}
+
+/// So many class records of any bytes, one time in four with a few bytes more or less.
+pub fn class_records(r: &mut Random, count: usize) -> Vec<u8> {
+    let length = CLASS_SIZE * count;
+    let length = if r.one_in(4) { (length + r.below(34)).saturating_sub(r.below(34)) } else { length };
+    (0..length).map(|_| (r.word() & r.word()) as u8).collect()
 }
 
 /// A tree of exactly `nodes` nodes, added to `out`: with its operands as it comes (lean 0), most of it to the left (1) or
 /// most of it to the right (2).
 pub fn tree(r: &mut Random, nodes: usize, lean: usize, letters: &[u8], out: &mut Tree) {
     if nodes == 1 {
-        return out.push(leaf(r.pick(letters)));
+        return out.push(leaf(Kind::Character(r.pick(letters))));
     }
     if nodes == 2 || r.one_in(6) {
         tree(r, nodes - 1, lean, letters, out);
@@ -149,7 +249,7 @@ pub fn tree(r: &mut Random, nodes: usize, lean: usize, letters: &[u8], out: &mut
 /// A character below so many stars.
 pub fn chain(stars: usize) -> Tree {
     let star = |left| Node { kind: Kind::Star, left, right: NONE };
-    std::iter::once(leaf(b'a')).chain((0..stars).map(star)).collect()
+    std::iter::once(leaf(Kind::Character(b'a'))).chain((0..stars).map(star)).collect()
 }
 
 /// A text of the characters of a tree in their order, some left out.

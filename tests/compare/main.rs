@@ -1,14 +1,16 @@
 //! Compares the proved library, through its C interface, with an independent implementation: on all short expressions, all
 //! bytes, all lists with one byte changed, and on inputs from a fixed seed, the small ones first. Prints how many inputs of
-//! each kind agreed; the first difference ends the run with status 1, and so do fewer inputs than 400,000.
+//! each kind agreed; the first difference ends the run with status 1, and so do fewer inputs than 1,000,000.
 
 mod calls;
+mod classes;
 mod desk;
 mod expected;
 mod generate;
 mod pick;
 mod program;
 mod wrapper;
+mod written;
 
 use calls::List;
 use generate::Random;
@@ -17,7 +19,7 @@ use wrapper::foamlattice::{MOST_RECORD_BYTES, MOST_WORDS};
 const SIGNS: &[u8] = b"ab()|*\\";
 
 /// A run that compares fewer inputs fails: something was left out.
-const FEWEST_INPUTS: usize = 400_000;
+const FEWEST_INPUTS: usize = 1_000_000;
 
 /// The bytes that an expression's records need; some number for one that is refused.
 fn need(e: &[u8]) -> usize {
@@ -29,25 +31,26 @@ fn growing(r: &mut Random, most: usize, round: usize, rounds: usize) -> usize {
     1 + r.below(1 + most * round / rounds)
 }
 
+/// All rows of at most so many of these bytes, the short ones first.
+fn all_rows(from: &[u8], most: u32) -> Vec<Vec<u8>> {
+    let row = |length: u32, number: usize| (0..length).map(|i| from[number / from.len().pow(i) % from.len()]).collect();
+    (0..=most).flat_map(|length| (0..from.len().pow(length)).map(move |number| row(length, number))).collect()
+}
+
 /// All expressions of at most 6 of the signs, each with a buffer that is just long enough and one that is a byte too short;
 /// the good ones are tried on a few texts.
 fn short_expressions(_: &mut Random) -> usize {
-    let mut count = 0;
-    for length in 0..=6 {
-        for number in 0..SIGNS.len().pow(length) {
-            let sign = |i| SIGNS[number / SIGNS.len().pow(i) % SIGNS.len()];
-            let e: Vec<u8> = (0..length).map(sign).collect();
-            let need = need(&e);
-            calls::read(&e, need - 1);
-            if let Some(list) = calls::read(&e, need) {
-                for text in [&b""[..], b"a", b"b", b"ab", b"bab", b"aabb", b"(*"] {
-                    list.compare_text(text);
-                }
+    let all = all_rows(SIGNS, 6);
+    for e in &all {
+        let need = need(e);
+        calls::read(e, need - 1);
+        if let Some(list) = calls::read(e, need) {
+            for text in [&b""[..], b"a", b"b", b"ab", b"bab", b"aabb", b"(*"] {
+                list.compare_text(text);
             }
-            count += 1;
         }
     }
-    count
+    all.len()
 }
 
 /// Expressions over the signs or over all bytes, well-formed or damaged, in buffers of several lengths.
@@ -189,7 +192,7 @@ fn trees(r: &mut Random) -> usize {
         let mut tree = vec![];
         let lean = r.below(3);
         generate::tree(r, nodes, lean, b"abc", &mut tree);
-        let list = List::new(expected::records(&tree));
+        let list = List::new(expected::records(&tree), vec![]);
         let text = generate::leaves(r, &tree, 60);
         list.compare_text(&text);
         if list.pieces() > 0 {
@@ -215,7 +218,7 @@ fn changed_lists(_: &mut Random) -> usize {
             for value in generate::all_bytes() {
                 let mut bytes = list.bytes.clone();
                 bytes[at] = value;
-                compare_list(&List::new(bytes), b"ab");
+                compare_list(&List::new(bytes, vec![]), b"ab");
                 count += 1;
             }
         }
@@ -236,7 +239,7 @@ fn damaged_lists(r: &mut Random) -> usize {
         for _ in 0..=r.below(2) {
             generate::damage_list(r, &mut bytes);
         }
-        let list = List::new(bytes);
+        let list = List::new(bytes, vec![]);
         compare_list(&list, &generate::text(r, &e, 10));
         if r.one_in(20) {
             list.compare_text(&too_long);
@@ -251,7 +254,7 @@ fn damaged_lists(r: &mut Random) -> usize {
 fn chains_of_stars(r: &mut Random) -> usize {
     let lengths = [0, 13, 14, 15, 29, 30, 1_000, 1_918, 1_919, 1_920, 1_921, 2_500];
     for stars in lengths {
-        let list = List::new(expected::records(&generate::chain(stars)));
+        let list = List::new(expected::records(&generate::chain(stars)), vec![]);
         for text in [&b""[..], b"a", b"aaab", b"baa"] {
             compare_list(&list, text);
         }
@@ -282,7 +285,7 @@ fn long_texts(_: &mut Random) -> usize {
 type Compare = fn(&mut Random) -> usize;
 
 fn main() {
-    let kinds: [(&str, Compare); 16] = [
+    let kinds: [(&str, Compare); 28] = [
         ("edges through the Rust wrapper", |_| wrapper::compare()),
         ("short expressions", short_expressions),
         ("pairs of bytes", all_bytes),
@@ -296,6 +299,18 @@ fn main() {
         ("chains of stars", chains_of_stars),
         ("long expressions", long_expressions),
         ("long texts", long_texts),
+        ("class bodies", classes::class_bodies),
+        ("short expressions with classes", classes::short_expressions),
+        ("pairs of an item and a byte", classes::all_items),
+        ("ranges", classes::all_ranges),
+        ("random expressions with classes", classes::random_expressions),
+        ("matches and searches with classes", classes::matches),
+        ("runs of starts and steps with classes", classes::runs_of_steps),
+        ("lists with classes and one byte changed", classes::changed_lists),
+        ("damaged lists with classes", classes::damaged_lists),
+        ("trees with classes", classes::trees),
+        ("lengths of class buffers", classes::lengths_of_classes),
+        ("long expressions with classes", classes::long_expressions),
         ("runs of pick", pick::compare_runs),
         ("runs of pick in parts", pick::compare_runs_in_parts),
         ("calls of pick", pick::compare_calls),

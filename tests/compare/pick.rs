@@ -27,9 +27,9 @@ fn expected_output(input: &[u8]) -> String {
         Ok(tree) if expected::pieces(&tree).1 > 128 => return "refused 8 at 0\n".into(),
         Ok(tree) => tree,
     };
-    let automaton = expected::automaton(&tree);
+    let automaton = expected::automaton(&tree, vec![]);
     let is_match = |text: &[u8]| match text.len() {
-        0..=127 => expected::is_match(&expected::parts(&tree, text)),
+        0..=127 => expected::is_match(&expected::parts(&tree, &[], text)),
         length => automaton.ends(text).last() == Some(&length),
     };
     let mut out = String::new();

@@ -3,20 +3,24 @@
 #[path = "../../rust/foamlattice.rs"]
 pub mod foamlattice;
 
-use foamlattice::{find, is_match, pick, read, start, step, Counts, Refusal, MOST_OUTPUT, MOST_RECORD_BYTES, MOST_WORDS};
+use foamlattice::{
+    is_match, pick, read, read_second, start, step, Counts, Expression, Refusal, MOST_CLASS_BYTES, MOST_OUTPUT,
+    MOST_RECORD_BYTES, MOST_WORDS,
+};
 
-fn list(e: &[u8]) -> Vec<u8> {
-    let mut buffer = vec![0; MOST_RECORD_BYTES];
-    let counts = read(e, &mut buffer).expect("a good expression");
-    buffer.truncate(8 * counts.records);
-    buffer
+fn first(e: &[u8]) -> Expression {
+    Expression::first(e).expect("a good expression")
+}
+
+fn second(e: &[u8]) -> Expression {
+    Expression::second(e).expect("a good expression")
 }
 
 fn refused<T>(number: u8, place: usize) -> Result<T, Refusal> {
     Err(Refusal { number, place })
 }
 
-pub fn compare() -> usize {
+fn compare_first() -> usize {
     let mut buffer = vec![0; MOST_RECORD_BYTES];
     let faults: [(&[u8], u8, usize); 8] = [
         (b"", 1, 0),
@@ -35,30 +39,30 @@ pub fn compare() -> usize {
     assert_eq!(read(&[b'('; 33], &mut buffer), refused(6, 32));
     assert_eq!(read(&[b'a'; 898], &mut buffer), refused(8, 0));
     assert_eq!(read(&[b'a'; 897], &mut buffer[..14_343]), refused(9, 0));
-    assert_eq!(read(&[b'a'; 897], &mut buffer[..14_344]), Ok(Counts { records: 1_793, pieces: 128 }));
+    assert_eq!(read(&[b'a'; 897], &mut buffer[..14_344]), Ok(Counts { records: 1_793, pieces: 128, classes: 0 }));
 
     let mut words = [0; MOST_WORDS];
-    let steps = list(b"a*b");
-    assert_eq!((start(&steps, &mut words), words[0]), (Ok(false), 55));
+    let steps = first(b"a*b");
+    assert_eq!((steps.start(&mut words), words[0]), (Ok(false), 55));
     for (byte, yes, word) in [(b'a', false, 60), (b'b', true, 192), (b'a', false, 0)] {
-        assert_eq!((step(&steps, &mut words, byte), words[0]), (Ok(yes), word));
+        assert_eq!((steps.step(&mut words, byte), words[0]), (Ok(yes), word));
     }
-    assert_eq!(start(&steps, &mut []), refused(12, 0));
-    assert_eq!(step(&steps, &mut [256], b'a'), refused(13, 0));
+    assert_eq!(steps.start(&mut []), refused(12, 0));
+    assert_eq!(steps.step(&mut [256], b'a'), refused(13, 0));
 
-    let union = list(b"ac|a*b");
+    let union = first(b"ac|a*b");
     let texts: [(&[u8], bool); 3] = [(b"ac", true), (b"b", true), (b"a", false)];
     for (text, yes) in texts {
-        assert_eq!(is_match(&union, text), Ok(yes));
+        assert_eq!(union.is_match(text), Ok(yes));
     }
-    assert_eq!(is_match(&union[1..], b""), refused(10, 0));
-    assert_eq!(is_match(&union, &[b'a'; 65_537]), refused(11, 0));
-    assert_eq!(find(&list(b"ab*"), b"xabbab"), Ok(Some(1..4)));
-    assert_eq!(find(&list(b"a*"), b"b"), Ok(Some(0..0)));
-    assert_eq!(find(&list(b"b"), b""), Ok(None));
+    assert_eq!(is_match(&union.records()[1..], b"", b""), refused(10, 0));
+    assert_eq!(union.is_match(&[b'a'; 65_537]), refused(11, 0));
+    assert_eq!(first(b"ab*").find(b"xabbab"), Ok(Some(1..4)));
+    assert_eq!(first(b"a*").find(b"b"), Ok(Some(0..0)));
+    assert_eq!(first(b"b").find(b""), Ok(None));
 
     let letters = b"abcdefghijklmnop";
-    assert_eq!(is_match(&list(b"(abcdefgh(ijklmnop))*"), &letters.repeat(2)), Ok(true));
+    assert_eq!(first(b"(abcdefgh(ijklmnop))*").is_match(&letters.repeat(2)), Ok(true));
 
     let mut output = vec![0; MOST_OUTPUT];
     let lines = pick(b"02-2(8|9)\n02-28\n02-29\n03-01\n", &mut output);
@@ -66,4 +70,96 @@ pub fn compare() -> usize {
     assert_eq!(pick(b"a|\na", &mut output), Some(&b"refused 3 at 2\n"[..]));
     assert_eq!(pick(b"a\na\n", &mut output[1..]), None);
     31
+}
+
+/// Expressions of the second syntax with a fault, its number and its place.
+const FAULTS: [(&[u8], u8, usize); 36] = [
+    (b"", 1, 0),
+    (b"[]", 14, 0),
+    (b"[^]", 14, 0),
+    (b"[]a]", 14, 0),
+    (b"[^]]", 14, 0),
+    (b"[a", 14, 0),
+    (b"b[", 14, 1),
+    (b"[a\\", 14, 0),
+    (b"[a\\]", 14, 0),
+    (b"[b-a]", 14, 0),
+    (b"[a^]", 14, 0),
+    (b"[^^]", 14, 0),
+    (b"[-a]", 14, 0),
+    (b"[a-]", 14, 0),
+    (b"[a-c-e]", 14, 0),
+    (b"[^-a]", 14, 0),
+    (b"[a-^]", 14, 0),
+    (b"[--a]", 14, 0),
+    (b"[a--]", 14, 0),
+    (b"[\\a]", 14, 0),
+    (b"[\\[]", 14, 0),
+    (b"[\\.]", 14, 0),
+    (b"]", 14, 0),
+    (b"a]", 14, 1),
+    (b"a|]", 14, 2),
+    (b"(]", 14, 1),
+    (b"[a)(", 14, 0),
+    (b"[abcdefghijklmnopq]", 14, 0),
+    (b".*)", 5, 2),
+    (b"(.", 4, 0),
+    (b".|", 3, 2),
+    (b"a\\-", 7, 1),
+    (b"a\\^", 7, 1),
+    (b"a\\+", 7, 1),
+    (b"(a\\b[", 7, 2),
+    (b"a|*[", 3, 2),
+];
+
+/// Expressions of the second syntax with their records and classes, all of one piece, a text of each and one that is none.
+const GOOD: [(&[u8], usize, usize, &[u8], &[u8]); 17] = [
+    (b".", 1, 1, b"\r", b"\n"),
+    (b"\\.", 1, 0, b".", b"a"),
+    (b"\\[\\]", 3, 0, b"[]", b"["),
+    (b"[a]", 1, 1, b"a", b"b"),
+    (b"[^a]", 1, 1, b"\n", b"a"),
+    (b"[[]", 1, 1, b"[", b"]"),
+    (b"[[-a]", 1, 1, b"]", b"b"),
+    (b"[\\]]", 1, 1, b"]", b"\\"),
+    (b"[\\^a]", 1, 1, b"^", b"b"),
+    (b"[\\--a]", 1, 1, b"a", b","),
+    (b"[+-\\-]", 1, 1, b",", b"."),
+    (b"[a-a]", 1, 1, b"a", b"`"),
+    (b"[.*()|\n]", 1, 1, b"\n", b"a"),
+    (b"[aaaaaaaaaaaaaaaa]", 1, 1, b"a", b"b"),
+    (b"[^\x00-\xff]*", 2, 1, b"", b"a"),
+    (b"-^+{}", 9, 0, b"-^+{}", b"-^+{"),
+    (b"[01][0-9]-[0-3][0-9]", 9, 4, b"02-29", b"02-49"),
+];
+
+fn compare_second() -> usize {
+    let mut buffers = (vec![0; MOST_RECORD_BYTES], vec![0; MOST_CLASS_BYTES]);
+    for (e, number, place) in FAULTS {
+        assert_eq!(read_second(e, &mut buffers.0, &mut buffers.1), refused(number, place), "{}", e.escape_ascii());
+    }
+    for (e, records, classes, text, other) in GOOD {
+        let counts = Counts { records, pieces: 1, classes };
+        assert_eq!(read_second(e, &mut buffers.0, &mut buffers.1), Ok(counts), "{}", e.escape_ascii());
+        assert_eq!((second(e).is_match(text), second(e).is_match(other)), (Ok(true), Ok(false)), "{}", e.escape_ascii());
+    }
+    assert_eq!(read_second(&[b'.'; 1_025], &mut buffers.0, &mut buffers.1), refused(2, 1_024));
+    assert_eq!(read_second(&[b'.'; 898], &mut buffers.0, &mut buffers.1), refused(8, 0));
+    assert_eq!(read_second(b".", &mut buffers.0[..7], &mut buffers.1[..31]), refused(9, 0));
+    assert_eq!(read_second(b".", &mut buffers.0[..8], &mut buffers.1[..31]), refused(15, 0));
+    let dots = Counts { records: 1_793, pieces: 128, classes: 897 };
+    assert_eq!(read_second(&[b'.'; 897], &mut buffers.0[..14_344], &mut buffers.1[..28_704]), Ok(dots));
+
+    let dot = second(b".");
+    assert_eq!(dot.records(), [5, 0, 0, 0, 255, 255, 0, 0]);
+    assert_eq!((dot.classes()[0], dot.classes()[1], dot.pieces()), (255, 251, 1));
+    assert_eq!(is_match(dot.records(), &dot.classes()[1..], b"a"), refused(15, 0));
+    assert_eq!(start(dot.records(), b"", &mut []), refused(15, 0));
+    assert_eq!(step(dot.records(), b"", &mut [256], b'a'), refused(15, 0));
+    assert_eq!(second(b"[b-d][b-d]*").find(b"abcda"), Ok(Some(1..4)));
+    FAULTS.len() + GOOD.len() + 11
+}
+
+pub fn compare() -> usize {
+    compare_first() + compare_second()
 }

@@ -1,11 +1,11 @@
 //! Tries the examples of docs/REFERENCE.md on the library: each row of a table whose head is known here. Prints how many
-//! examples were tried; one that the library answers otherwise, or fewer than 70 of them, ends the run with status 1.
+//! examples were tried; one that the library answers otherwise, or fewer than 140 of them, ends the run with status 1.
 
 #[allow(dead_code)]
 #[path = "../../rust/foamlattice.rs"]
 mod foamlattice;
 
-use foamlattice::{Counts, Refusal, MOST_OUTPUT, MOST_RECORD_BYTES};
+use foamlattice::{Counts, Expression, Refusal, MOST_CLASS_BYTES, MOST_OUTPUT, MOST_RECORD_BYTES};
 use std::fs;
 use std::process::exit;
 
@@ -59,19 +59,31 @@ fn read(example: &str) -> Result<Counts, Refusal> {
     foamlattice::read(&expression(example), &mut records)
 }
 
+/// What reading an example in the second syntax answers, into a class buffer of the length that it names.
+fn read_second(example: &str) -> Result<Counts, Refusal> {
+    let mut records = vec![0; MOST_RECORD_BYTES];
+    let mut classes = vec![0; after(example, " into ").unwrap_or(MOST_CLASS_BYTES)];
+    foamlattice::read_second(&expression(example), &mut records, &mut classes)
+}
+
+/// What a match with an example's list answers, with as many bytes of its classes, or more, as it names.
+fn match_with_classes(example: &str, length: usize) -> Result<bool, Refusal> {
+    let read = Expression::second(&expression(example)).expect("an expression that is read");
+    let mut classes = read.classes().to_vec();
+    classes.resize(length, 0);
+    foamlattice::is_match(read.records(), &classes, b"a")
+}
+
 /// Whether the bytes that an example writes in hexadecimal are a good list.
 fn good(example: &str) -> bool {
     let digits = quoted(example).first().copied().unwrap_or("");
     let bytes: Vec<u8> = digits.split(' ').filter_map(|b| u8::from_str_radix(b, 16).ok()).collect();
-    foamlattice::is_match(&bytes, b"") != Err(Refusal { number: 10, place: 0 })
+    foamlattice::is_match(&bytes, b"", b"") != Err(Refusal { number: 10, place: 0 })
 }
 
-/// The list of an example's expression.
-fn list(example: &str) -> Vec<u8> {
-    let mut records = vec![0; MOST_RECORD_BYTES];
-    let counts = foamlattice::read(&expression(example), &mut records).expect("an expression that is read");
-    records.truncate(8 * counts.records);
-    records
+/// What an example's expression is read as.
+fn list(example: &str) -> Expression {
+    Expression::first(&expression(example)).expect("an expression that is read")
 }
 
 /// The words that an example names: `with 2 words` to start in, `from words 2, 0` to step from.
@@ -85,18 +97,18 @@ fn words(example: &str) -> Vec<u64> {
 fn refusal(example: &str) -> u8 {
     let list = list(example);
     let answer = match after(example, " on ") {
-        Some(length) => foamlattice::is_match(&list, &vec![b'a'; length]),
-        None if example.contains(" from ") => foamlattice::step(&list, &mut words(example), b'a'),
-        None => foamlattice::start(&list, &mut words(example)),
+        Some(length) => list.is_match(&vec![b'a'; length]),
+        None if example.contains(" from ") => list.step(&mut words(example), b'a'),
+        None => list.start(&mut words(example)),
     };
     answer.map_or_else(|refused| refused.number, |_| 0)
 }
 
 /// The words and the flag after a start and a step for each byte of a text.
-fn marks(list: &[u8], text: &str, pieces: usize) -> (Vec<usize>, bool) {
+fn marks(list: &Expression, text: &str, pieces: usize) -> (Vec<usize>, bool) {
     let mut words = vec![0; pieces];
-    let start = foamlattice::start(list, &mut words);
-    let flag = text.bytes().fold(start, |_, byte| foamlattice::step(list, &mut words, byte));
+    let start = list.start(&mut words);
+    let flag = text.bytes().fold(start, |_, byte| list.step(&mut words, byte));
     (words.iter().map(|w| *w as usize).collect(), flag == Ok(true))
 }
 
@@ -115,10 +127,12 @@ fn counts_fit(example: &str, answer: Result<Counts, Refusal>) -> bool {
     answer.is_ok_and(|c| named("record").is_none_or(|n| n == c.records) && named("piece").is_none_or(|n| n == c.pieces))
 }
 
-/// Whether an example of the refusal `no` is answered so.
+/// Whether an example of the refusal `no` is answered so; one of writing in both syntaxes.
 fn refused(no: u8, example: &str) -> bool {
+    let refusal_there = Refusal { number: no, place: after(example, " at ").unwrap_or(0) };
     match no {
-        1..=9 => read(example) == Err(Refusal { number: no, place: after(example, " at ").unwrap_or(0) }),
+        1..=8 => read(example) == Err(refusal_there) && read_second(example) == Err(refusal_there),
+        9 => read(example) == Err(refusal_there),
         10 => !good(example),
         _ => refusal(example) == no,
     }
@@ -127,9 +141,19 @@ fn refused(no: u8, example: &str) -> bool {
 /// Whether the nearest example that is not refused by `no` is not.
 fn taken(no: u8, example: &str) -> bool {
     match no {
-        1..=9 => counts_fit(example, read(example)),
+        1..=8 => counts_fit(example, read(example)) && read_second(example) == read(example),
+        9 => counts_fit(example, read(example)),
         10 => good(example),
         _ => refusal(example) == 0,
+    }
+}
+
+/// The refusal, if any, that an example of the second syntax is answered with: by reading or, where bytes of classes are
+/// lent with its list, by a match.
+fn answered_second(example: &str) -> Option<Refusal> {
+    match after(example, " with ") {
+        Some(length) => match_with_classes(example, length).err(),
+        None => read_second(example).err(),
     }
 }
 
@@ -138,7 +162,16 @@ fn try_row(above: &str, head: &[String], row: &[String]) -> Vec<(String, bool)> 
     let column = |name: &str| head.iter().position(|h| h.starts_with(name)).map(|i| row[i].as_str());
     let mut tried = vec![];
     let mut note = |example: &str, fits: bool| tried.push((example.to_string(), fits));
-    if let (Some(no), Some(gives), Some(nearest)) = (column("No."), column("Gives it"), column("Nearest")) {
+    if let (Some(no), Some(gives), Some(nearest)) = (column("No."), column("Gives it in the second"), column("Nearest")) {
+        let number = number(no).expect("a refusal's number") as u8;
+        let refusal = |example| Refusal { number, place: after(example, " at ").unwrap_or(0) };
+        examples(gives).for_each(|example| note(example, answered_second(example) == Some(refusal(example))));
+        examples(nearest).for_each(|example| note(example, answered_second(example).is_none()));
+    } else if let (Some(example), Some(nodes), Some(classes)) = (column("Expression of the"), column("Nodes"), column("Classes"))
+    {
+        let counts = read_second(example).map(|c| (Some(c.records), Some(c.classes)));
+        note(example, counts == Ok((number(nodes), number(classes))));
+    } else if let (Some(no), Some(gives), Some(nearest)) = (column("No."), column("Gives it"), column("Nearest")) {
         let no = number(no).expect("a refusal's number") as u8;
         examples(gives).for_each(|example| note(example, refused(no, example)));
         examples(nearest).for_each(|example| note(example, taken(no, example)));
@@ -182,5 +215,5 @@ fn main() {
         }
     }
     println!("{count} examples of docs/REFERENCE.md tried");
-    exit(i32::from(count < 70));
+    exit(i32::from(count < 140));
 }

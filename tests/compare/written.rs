@@ -1,0 +1,253 @@
+//! The second syntax as it is written, after docs/REFERENCE.md: read by functions that call each other, each answering the
+//! part that it took; and its language on what is written, by the places where a text of it can end. With `expected.rs` it
+//! shares the tree that it is laid out as, and no method.
+
+use crate::expected::{Kind, Node, Set, Tree, NONE};
+use std::ops::Range;
+
+/// A fault by its number and place.
+pub type Fault = (u8, usize);
+
+pub enum Written {
+    Byte(u8),
+    OneOf(Box<Set>),
+    Star(Box<Written>),
+    InARow(Vec<Written>),
+    AnyOf(Vec<Written>),
+}
+
+const SIGNS: &[u8] = b"()|*\\.[]";
+const SIGNS_IN_CLASSES: &[u8] = b"\\]^-";
+const MOST_ITEMS: usize = 16;
+const MOST_OPEN: usize = 32;
+
+/// Several parts, or the only one as it is.
+fn together(mut parts: Vec<Written>, join: fn(Vec<Written>) -> Written) -> Written {
+    if parts.len() == 1 {
+        parts.remove(0)
+    } else {
+        join(parts)
+    }
+}
+
+/// The byte that stands in a class at a place, and the place after it; `None` where none can.
+fn member(e: &[u8], at: usize) -> Option<(u8, usize)> {
+    let escaped = *e.get(at)? == b'\\';
+    let place = at + escaped as usize;
+    let byte = *e.get(place)?;
+    (SIGNS_IN_CLASSES.contains(&byte) == escaped).then_some((byte, place + 1))
+}
+
+/// An item of a class at a place: its first and last byte, and the place after it.
+fn item(e: &[u8], at: usize) -> Option<(u8, u8, usize)> {
+    let (first, after) = member(e, at)?;
+    if e.get(after) != Some(&b'-') {
+        return Some((first, first, after));
+    }
+    let (last, after) = member(e, after + 1)?;
+    (first <= last).then_some((first, last, after))
+}
+
+/// The set of the class whose `[` stands at a place, and the place after its `]`; `None` where it is not of the form.
+fn class(e: &[u8], at: usize) -> Option<(Set, usize)> {
+    let all_but = e.get(at + 1) == Some(&b'^');
+    let mut set = [all_but; 256];
+    let mut after = at + 1 + all_but as usize;
+    let mut items = 0;
+    while *e.get(after)? != b']' {
+        let (first, last, next) = item(e, after)?;
+        set[first as usize..=last as usize].fill(!all_but);
+        items += 1;
+        after = next;
+    }
+    (1..=MOST_ITEMS).contains(&items).then_some((set, after + 1))
+}
+
+struct Reading<'a> {
+    e: &'a [u8],
+    at: usize,
+    open: usize,
+}
+
+impl Reading<'_> {
+    fn next(&self) -> Option<u8> {
+        self.e.get(self.at).copied()
+    }
+
+    fn any_of(&mut self) -> Result<Written, Fault> {
+        let mut parts = vec![self.in_a_row()?];
+        while self.next() == Some(b'|') {
+            self.at += 1;
+            parts.push(self.in_a_row()?);
+        }
+        Ok(together(parts, Written::AnyOf))
+    }
+
+    fn in_a_row(&mut self) -> Result<Written, Fault> {
+        let mut parts = vec![self.operand()?];
+        while !matches!(self.next(), None | Some(b'|' | b')')) {
+            parts.push(self.operand()?);
+        }
+        Ok(together(parts, Written::InARow))
+    }
+
+    fn operand(&mut self) -> Result<Written, Fault> {
+        let mut operand = self.single()?;
+        while self.next() == Some(b'*') {
+            self.at += 1;
+            operand = Written::Star(Box::new(operand));
+        }
+        Ok(operand)
+    }
+
+    fn single(&mut self) -> Result<Written, Fault> {
+        let place = self.at;
+        let (written, after) = match self.next() {
+            None | Some(b'|' | b'*' | b')') => return Err((3, place)),
+            Some(b'(') => return self.group(),
+            Some(b']') => return Err((14, place)),
+            Some(b'[') => {
+                let (set, after) = class(self.e, place).ok_or((14, place))?;
+                (Written::OneOf(Box::new(set)), after)
+            }
+            Some(b'.') => (Written::OneOf(Box::new(std::array::from_fn(|byte| byte != 10))), place + 1),
+            Some(b'\\') => {
+                let sign = self.e.get(place + 1).filter(|byte| SIGNS.contains(byte)).ok_or((7, place))?;
+                (Written::Byte(*sign), place + 2)
+            }
+            Some(byte) => (Written::Byte(byte), place + 1),
+        };
+        self.at = after;
+        Ok(written)
+    }
+
+    fn group(&mut self) -> Result<Written, Fault> {
+        let place = self.at;
+        if self.open == MOST_OPEN {
+            return Err((6, place));
+        }
+        self.open += 1;
+        self.at += 1;
+        let inside = self.any_of()?;
+        if self.next() != Some(b')') {
+            return Err((4, place));
+        }
+        self.open -= 1;
+        self.at += 1;
+        Ok(inside)
+    }
+}
+
+/// What an expression of the second syntax says, or its first fault among 1 to 7 and 14.
+pub fn read(e: &[u8]) -> Result<Written, Fault> {
+    match e.len() {
+        0 => return Err((1, 0)),
+        1..=1024 => {}
+        _ => return Err((2, 1024)),
+    }
+    let mut reading = Reading { e, at: 0, open: 0 };
+    let written = reading.any_of()?;
+    if reading.at < e.len() {
+        Err((5, reading.at))
+    } else {
+        Ok(written)
+    }
+}
+
+/// The tree and the sets of its class leaves, in the order of leaves.
+#[derive(Default)]
+pub struct LaidOut {
+    pub tree: Tree,
+    pub sets: Vec<Set>,
+}
+
+impl LaidOut {
+    fn push(&mut self, kind: Kind, left: usize, right: usize) -> usize {
+        self.tree.push(Node { kind, left, right });
+        self.tree.len() - 1
+    }
+
+    /// The class records, 32 bytes for each set.
+    pub fn class_records(&self) -> Vec<u8> {
+        let byte = |eight: &[bool]| (0..8).map(|bit| (eight[bit] as u8) << bit).sum();
+        self.sets.iter().flat_map(|set| set.chunks(8).map(byte)).collect()
+    }
+}
+
+impl Written {
+    pub fn laid_out(&self) -> LaidOut {
+        let mut out = LaidOut::default();
+        self.lay_out(&mut out);
+        out
+    }
+
+    /// Adds its nodes, children first; answers the number of its root.
+    fn lay_out(&self, out: &mut LaidOut) -> usize {
+        match self {
+            Written::Byte(byte) => out.push(Kind::Character(*byte), NONE, NONE),
+            Written::OneOf(set) => {
+                out.sets.push(**set);
+                out.push(Kind::Class(out.sets.len() - 1), NONE, NONE)
+            }
+            Written::Star(operand) => {
+                let below = operand.lay_out(out);
+                out.push(Kind::Star, below, NONE)
+            }
+            Written::InARow(parts) => Written::join(parts, Kind::Catenation, out),
+            Written::AnyOf(parts) => Written::join(parts, Kind::Union, out),
+        }
+    }
+
+    /// Several parts, two at a time from the left.
+    fn join(parts: &[Written], kind: Kind, out: &mut LaidOut) -> usize {
+        let mut left = parts[0].lay_out(out);
+        for part in &parts[1..] {
+            let right = part.lay_out(out);
+            left = out.push(kind.clone(), left, right);
+        }
+        left
+    }
+
+    /// The places where a part of the text can end that starts at one of `starts` and lies in the language: sets of places
+    /// as the bits of a word.
+    fn ends(&self, text: &[u8], starts: u128) -> u128 {
+        let after = |takes: &dyn Fn(u8) -> bool| {
+            let mut rest = starts;
+            let mut ends = 0;
+            while rest != 0 {
+                let place = rest.trailing_zeros() as usize;
+                rest &= rest - 1;
+                ends |= (text.get(place).is_some_and(|&byte| takes(byte)) as u128) << place << 1;
+            }
+            ends
+        };
+        match self {
+            Written::Byte(one) => after(&|byte| byte == *one),
+            Written::OneOf(set) => after(&|byte| set[byte as usize]),
+            Written::InARow(parts) => parts.iter().fold(starts, |starts, part| part.ends(text, starts)),
+            Written::AnyOf(parts) => parts.iter().fold(0, |ends, part| ends | part.ends(text, starts)),
+            Written::Star(operand) => {
+                let (mut all, mut new) = (starts, starts);
+                while new != 0 {
+                    new = operand.ends(text, new) & !all;
+                    all |= new;
+                }
+                all
+            }
+        }
+    }
+
+    /// Whether a text of at most 127 bytes lies in the language.
+    pub fn is_match(&self, text: &[u8]) -> bool {
+        assert!(text.len() <= 127);
+        self.ends(text, 1) >> text.len() & 1 == 1
+    }
+
+    /// The part that starts earliest and then ends furthest.
+    pub fn find(&self, text: &[u8]) -> Option<Range<usize>> {
+        assert!(text.len() <= 127);
+        let ends = |start| (start, self.ends(text, 1_u128 << start));
+        let (start, ends) = (0..=text.len()).map(ends).find(|&(_, ends)| ends != 0)?;
+        Some(start..127 - ends.leading_zeros() as usize)
+    }
+}
