@@ -105,6 +105,92 @@ module _ {bytes : List ℕ} {at : ℕ} {all-but : Bool} where
     pub items-cut : place ≡ length bytes → Class-lost (run-from bytes at (gathered all-but []) item-due)
     items-cut e = record { fails = s .on ∙ runs-out bytes place (gathered all-but (s .items)) item-due e }
 
+-- the same without the values: items that are passed over, whether all but those are taken or not
+pub record Class-ended (bytes : List ℕ) (at next : ℕ) (ran : Ran) : Type 0 where
+  pub class : Class
+  pub finds : ran ≡ found class (drop next bytes) next
+  pub further : at < next
+  pub within : next ≤ length bytes
+
+-- what passing over a class answers, for the reading that it does
+abbrev pub End-answer : (bytes : List ℕ) (at : ℕ) → Ran → ClassPart → Type 0
+End-answer bytes at ran (Read next) = Class-ended bytes at next ran
+End-answer bytes at ran Faulty = Class-lost ran
+
+-- for both senses of the items
+pub record Items-ended (bytes : List ℕ) (at next : ℕ) : Type 0 where
+  pub both : (all-but : Bool) → Class-ended bytes at next (run-from bytes at (gathered all-but []) item-due)
+
+pub record Items-lost (bytes : List ℕ) (at : ℕ) : Type 0 where
+  pub both : (all-but : Bool) → Class-lost (run-from bytes at (gathered all-but []) item-due)
+
+abbrev pub Items-end-answer : (bytes : List ℕ) (at : ℕ) → ClassPart → Type 0
+Items-end-answer bytes at (Read next) = Items-ended bytes at next
+Items-end-answer bytes at Faulty = Items-lost bytes at
+
+-- what passing over the class at a `[` answers
+abbrev pub Class-end-answer : (bytes : List ℕ) (at : ℕ) → ClassPart → Type 0
+Class-end-answer bytes at r = End-answer bytes at (run-at bytes at) r
+
+-- so many items were passed from `at` up to `place`
+pub record Items-passed (bytes : List ℕ) (at place count : ℕ) : Type 0 where
+  pub items : List Item
+  pub counted : length items ≡ count
+  pub on : (all-but : Bool) → run-from bytes at (gathered all-but []) item-due
+      ≡ run-from bytes place (gathered all-but items) item-due
+  pub onward : at + count ≤ place
+  pub within : place ≤ length bytes
+
+pub none-passed : {bytes : List ℕ} {at : ℕ} → at ≤ length bytes → Items-passed bytes at at 0
+none-passed h =
+    record { items = []; counted = refl; on = λ all-but. refl; onward = omega arith; within = h }
+
+pub one-more-passed : {bytes : List ℕ} {at place count first last next : ℕ} → Items-passed bytes at place count
+    → Item-here bytes place first last next → Items-passed bytes at next (count + 1)
+one-more-passed {first = begin} {last = end} s item =
+    record {
+      items = from-to begin end ∷ s .items;
+      counted = omega (arith, s .counted);
+      on = λ all-but. s .on all-but ∙ item .on (gathered all-but (s .items));
+      onward = omega (arith, s .onward, item .further);
+      within = item .within;
+    }
+
+module _ {bytes : List ℕ} {at place count : ℕ} (s : Items-passed bytes at place count) where
+  pub passed-ended : place < length bytes → getD bytes place 0 ≡ 93 → count-fits count ≡ true
+      → Items-ended bytes at (place + 1)
+  passed-ended h e fits =
+      record {
+        both = λ all-but. record {
+          class = gathered all-but (s .items);
+          finds = s .on all-but ∙ ends-whole bytes place h (gathered all-but (s .items)) e
+              (items-fit-count (s .items) ∙ ap count-fits (s .counted) ∙ fits);
+          further = omega (arith, s .onward);
+          within = omega arith;
+        };
+      }
+
+  pub passed-unfit : place < length bytes → getD bytes place 0 ≡ 93 → count-fits count ≡ false → Items-lost bytes at
+  passed-unfit h e fits =
+      record {
+        both = λ all-but. record {
+          fails = s .on all-but ∙ ends-faulty bytes place h (gathered all-but (s .items)) e
+              (items-fit-count (s .items) ∙ ap count-fits (s .counted) ∙ fits);
+        };
+      }
+
+  pub passed-broken : Bad-item bytes place → Items-lost bytes at
+  passed-broken bad =
+      record { both = λ all-but. record { fails = s .on all-but ∙ bad .fails (gathered all-but (s .items)) } }
+
+  pub passed-cut : place ≡ length bytes → Items-lost bytes at
+  passed-cut e =
+      record {
+        both = λ all-but. record {
+          fails = s .on all-but ∙ runs-out bytes place (gathered all-but (s .items)) item-due e;
+        };
+      }
+
 -- the reading from after a `[` is that of the items
 from-bracket : (bytes : List ℕ) (at : ℕ) → run-at bytes at ≡ run-from bytes (at + 1) unread opened
 unfolding run-at run-from
@@ -140,6 +226,30 @@ module _ (bytes : List ℕ) (at : ℕ) (members : List ℕ) (r : ClassPart) wher
       → Class-answer bytes at (run-at bytes at) members r
   class-only h no-caret a =
       class-answer-of bytes (at + 1) at _ (run-at bytes at) members r
+      (from-bracket bytes at ∙ opened-plainly bytes (at + 1) unread h no-caret) (omega arith) a
+
+-- passing over the items passes over the class
+end-answer-of : (bytes : List ℕ) (at at′ : ℕ) (all-but : Bool) (ran′ : Ran) (r : ClassPart)
+    → ran′ ≡ run-from bytes at (gathered all-but []) item-due → at′ ≤ at → Items-end-answer bytes at r
+    → End-answer bytes at′ ran′ r
+end-answer-of bytes at at′ all-but ran′ (Read next) e h a =
+    let b = a .both all-but in
+    record { class = b .class; finds = e ∙ b .finds; further = omega (arith, b .further); within = b .within }
+end-answer-of bytes at at′ all-but ran′ Faulty e h a = record { fails = e ∙ a .both all-but .fails }
+
+module _ (bytes : List ℕ) (at : ℕ) (r : ClassPart) where
+  pub end-but : at + 1 < length bytes → getD bytes (at + 1) 0 ≡ 94 → Items-end-answer bytes (at + 2) r
+      → Class-end-answer bytes at r
+  end-but h e a =
+      let further : at + 1 + 1 ≡ at + 2 = omega arith in
+      end-answer-of bytes (at + 2) at true (run-at bytes at) r
+      (from-bracket bytes at ∙ opened-caret bytes (at + 1) h unread e
+      ∙ ap (λ (n : ℕ). run-from bytes n (gathered true []) item-due) further) (omega arith) a
+
+  pub end-only : at + 1 ≤ length bytes → ((at + 1 < length bytes) × (getD bytes (at + 1) 0 ≡ 94) → ⊥)
+      → Items-end-answer bytes (at + 1) r → Class-end-answer bytes at r
+  end-only h no-caret a =
+      end-answer-of bytes (at + 1) at false (run-at bytes at) r
       (from-bracket bytes at ∙ opened-plainly bytes (at + 1) unread h no-caret) (omega arith) a
 
 -- the class at a place is a dot, or the one found

@@ -15,7 +15,7 @@ ghost use Rattle.classes.specs.ClassComplete.{gathered};
 ghost use Rattle.classes.specs.ClassReading.{run-from, Byte-answer, Item-answer, Range-answer, count-fits};
 ghost use Rattle.classes.specs.ClassAt.{run-at};
 ghost use Rattle.classes.specs.Members.{Members, value-count, item-value};
-ghost use Rattle.classes.specs.ClassItems.{Class-answer};
+ghost use Rattle.classes.specs.ClassItems.{Class-answer, Items-end-answer, Class-end-answer};
 
 // How many items a class has at most.
 const MOST_ITEMS: usize = 16;
@@ -126,6 +126,46 @@ fn item(expr: &[u8], at: usize) -> ItemPart
         last: byte,
         next,
     }
+}
+
+// Passes over the items of a class up to its `]`. Whether all but those are taken makes no difference here.
+fn items_end(expr: &[u8], at: usize) -> ClassPart
+    requires { ⌜ at ≤ length (now expr) ⌝ }
+    ensures { λ r. ⌜ Items-end-answer (now (expr .entry)) at r ⌝ }
+{
+    let mut place = at;
+    let mut count = 0;
+    while place < expr.len() {
+        if expr[place] == b']' {
+            if may_have(count) {
+                return ClassPart::Read { next: place + 1 };
+            }
+            return ClassPart::Faulty;
+        }
+        let part = item(expr, place);
+        let ItemPart::Read {
+            first: _,
+            last: _,
+            next,
+        } = part
+        else {
+            return ClassPart::Faulty;
+        };
+        count += 1;
+        place = next;
+    }
+    ClassPart::Faulty
+}
+
+// Passes over the class whose `[` stands at a place.
+pub fn class_end(expr: &[u8], at: usize) -> ClassPart
+    requires { ⌜ at < length (now expr) ⌝ }
+    ensures { λ r. ⌜ Class-end-answer (now (expr .entry)) at r ⌝ }
+{
+    if stands_at(expr, at + 1, b'^') {
+        return items_end(expr, at + 2);
+    }
+    items_end(expr, at + 1)
 }
 
 // The number of a value in an item: 0 where all but the items are taken, else 1.

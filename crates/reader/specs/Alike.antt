@@ -1,6 +1,6 @@
 -- Trees of the same shape: they have the same nodes and the same cut, whatever their leaves hold.
-use Prim.Native.Nat.{ℕ}
-use mathlib.Core.Path.{_≡_, refl, sym, _∙_}
+use Prim.Native.Nat.{ℕ, _+_}
+use mathlib.Core.Path.{_≡_, refl, ap, sym, _∙_}
 use mathlib.Core.List.{List}
 use Rattle.language.specs.Tree.{Tree, leaf, catenation, union, star, nodes}
 use Rattle.tree.specs.Leaf.{Leaf, character}
@@ -56,7 +56,7 @@ written-alike bytes (star s) = stars (written-alike bytes s)
 
 -- as many records as nodes
 pub nodes-recorded : (t : Tree Atom) → nodes (recorded t) ≡ nodes t
-nodes-recorded t = sym (alike-nodes (recorded-alike t 0))
+nodes-recorded t = sym (alike-nodes (recorded-alike t _))
 
 -- the tree with places has the nodes and the pieces of the records' tree
 pub nodes-placed : (bytes : List ℕ) (p : Tree Leaf) → nodes p ≡ nodes (recorded (written-at bytes p))
@@ -64,4 +64,5 @@ nodes-placed bytes p = alike-nodes (written-alike bytes p) ∙ sym (nodes-record
 
 pub pieces-placed : (bytes : List ℕ) (p : Tree Leaf) → piece-count p ≡ piece-count (recorded (written-at bytes p))
 unfolding piece-count
-pieces-placed bytes p = rw (alike-cuts (written-alike bytes p), alike-cuts (recorded-alike (written-at bytes p) 0))
+pieces-placed bytes p =
+    ap (λ (n : ℕ). 1 + n) (alike-cuts (written-alike bytes p) ∙ alike-cuts (recorded-alike (written-at bytes p) _))

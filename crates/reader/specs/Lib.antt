@@ -11,5 +11,6 @@ pub mod SecondKept
 pub mod ClassStore
 pub mod Count
 pub mod Store
+pub mod Check
 pub mod TooLarge
 pub mod Exactly

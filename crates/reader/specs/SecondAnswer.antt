@@ -9,7 +9,7 @@ use Rattle.tree.specs.RefusalNumbers.{too-many-pieces, buffer-too-short, class-
 use Rattle.tree.specs.Limits.{most-pieces}
 use Rattle.tree.specs.Layout.{record-size, class-record-size}
 use Rattle.tree.specs.Records.{encode, piece-count}
-use Rattle.scanner.specs.Bytes.{second}
+use Rattle.scanner.specs.Bytes.{Syntax, second}
 use Rattle.scanner.specs.Scanner.{Atom, Outcome, tree, refused, scanned}
 use Rattle.reader.specs.Drawn.{classes-of, classes-in, recorded}
 use Rattle.classes.specs.Packed.{encode-classes}
@@ -60,6 +60,10 @@ too-few-classes t class-room = ltb class-room (class-record-size * classes-in t)
 abbrev pub checked-for : Outcome Atom → Counted-numbers
 checked-for (refused number place) = refusing-counts number place
 checked-for (tree t) = cond (too-many t) (refusing-counts too-many-pieces 0) (counting t)
+
+-- what a check answers for these bytes, with no buffer lent
+abbrev pub checked : Syntax → List ℕ → Counted-numbers
+checked syntax bytes = checked-for (scanned syntax bytes)
 
 -- of these two the first where nothing of 8, 9 and 15 stands against writing, in this order; else by the number
 abbrev pub pick-stored : {A : Type 0} → (many short few : Bool) → (refuses : ℕ → A) → A → A

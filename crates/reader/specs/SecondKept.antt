@@ -41,7 +41,7 @@ use Rattle.reader.specs.declared.answer.CountedAnswer.{CountedAnswer}
 use Rattle.reader.specs.declared.answer.CountedAnswer.the-variants.{Counted, Refused}
 
 -- an answer is known from its numbers, where these are neither a refusal nor a record
-counts-injective : (r s : CountedAnswer) → counted-numbers r ≡ counted-numbers s
+pub counts-injective : (r s : CountedAnswer) → counted-numbers r ≡ counted-numbers s
     → (counted-numbers r .refusal ≡ 0 → counted-numbers r .records ≡ 0 → ⊥) → r ≡ s
 counts-injective (Counted records pieces classes) (Counted records′ pieces′ classes′) e sure =
     cc (

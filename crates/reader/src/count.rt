@@ -8,6 +8,7 @@ use tree::limits::SLOT_COUNT;
 use tree::number::piece_count;
 use tree::refusal_numbers::TOO_MANY_PIECES;
 ghost use mathlib.Core.Path.{_≡_};
+ghost use mathlib.Core.Bool.{true, false};
 ghost use mathlib.Core.List.{[], _∷_};
 ghost use Prim.Native.Nat.{_≤_};
 ghost use lib.ListN.{length};
@@ -63,12 +64,25 @@ fn count_labels(labels: &[u16]) -> CountedAnswer
     }
 }
 
-// Reads an expression into the labels of its tree and counts: every refusal that needs no buffer.
-pub fn count(expr: &[u8], labels: &mut [u16], second: bool) -> CountedAnswer
+// Reads an expression of the first syntax into the labels of its tree and counts: every refusal that needs no buffer.
+// Counting has its own frame, so that its arrays are not there while the readers go deep.
+pub fn count_first(expr: &[u8], labels: &mut [u16]) -> CountedAnswer
     requires { ⌜ most-labels ≡ length (now labels) ⌝ }
-    ensures { λ r. ⌜ Count-answer (syntax-of second) (now (expr .entry)) (now (labels .exit)) r ⌝ }
+    ensures { λ r. ⌜ Count-answer (syntax-of false) (now (expr .entry)) (now (labels .exit)) r ⌝ }
 {
-    let whole = expression(expr, labels, second);
+    let whole = expression(expr, labels, false);
+    match whole {
+        Part::Refused { number, place } => CountedAnswer::Refused { number, place },
+        Part::Read { next: _, count } => count_labels(&labels[..count]),
+    }
+}
+
+// The same of the second syntax.
+pub fn count_second(expr: &[u8], labels: &mut [u16]) -> CountedAnswer
+    requires { ⌜ most-labels ≡ length (now labels) ⌝ }
+    ensures { λ r. ⌜ Count-answer (syntax-of true) (now (expr .entry)) (now (labels .exit)) r ⌝ }
+{
+    let whole = expression(expr, labels, true);
     match whole {
         Part::Refused { number, place } => CountedAnswer::Refused { number, place },
         Part::Read { next: _, count } => count_labels(&labels[..count]),

@@ -6,19 +6,39 @@ mod store;
 
 pub use answer::CountedAnswer;
 pub use answer::ReadAnswer;
-use count::count;
+use count::count_first;
+use count::count_second;
 use store::store;
 use store::store_second;
 use tree::limits::MOST_LABELS;
 ghost use mathlib.Core.Path.{_≡_};
+ghost use mathlib.Core.Bool.{true, false};
 ghost use lib.ListN.{length};
+ghost use Rattle.scanner.specs.Bytes.{syntax-of};
 ghost use Rattle.reader.specs.Answer.{numbers, answered, records-after};
 ghost use Rattle.reader.specs.SecondAnswer.{
+  checked,
   counted-numbers,
   second-answered,
   second-records-after,
   second-classes-after,
 };
+
+// Checks an expression: what `read` refuses without a buffer, or the counts.
+pub fn check(expr: &[u8]) -> CountedAnswer
+    ensures { λ r. ⌜ counted-numbers r ≡ checked (syntax-of false) (now (expr .entry)) ⌝ }
+{
+    let mut labels = [0u16; MOST_LABELS];
+    count_first(expr, &mut labels)
+}
+
+// Checks an expression that may have the dot and classes: what `read_second` refuses without a buffer, or the counts.
+pub fn check_second(expr: &[u8]) -> CountedAnswer
+    ensures { λ r. ⌜ counted-numbers r ≡ checked (syntax-of true) (now (expr .entry)) ⌝ }
+{
+    let mut labels = [0u16; MOST_LABELS];
+    count_second(expr, &mut labels)
+}
 
 // Reads an expression and writes its tree's records. The labels are collected apart, so that nothing is written before
 // the answer is sure.
@@ -27,7 +47,7 @@ pub fn read(expr: &[u8], records: &mut [u8]) -> ReadAnswer
     ensures buffer { λ r. ⌜ now (records .exit) ≡ records-after (now (expr .entry)) (now (records .entry)) ⌝ }
 {
     let mut labels = [0u16; MOST_LABELS];
-    let counted = count(expr, &mut labels, false);
+    let counted = count_first(expr, &mut labels);
     match counted {
         CountedAnswer::Refused { number, place } => ReadAnswer::Refused { number, place },
         CountedAnswer::Counted {
@@ -48,7 +68,7 @@ pub fn read_second(expr: &[u8], records: &mut [u8], classes: &mut [u8]) -> Count
         (now (classes .entry)) ⌝ }
 {
     let mut labels = [0u16; MOST_LABELS];
-    let counted = count(expr, &mut labels, true);
+    let counted = count_second(expr, &mut labels);
     match counted {
         CountedAnswer::Refused { number, place } => CountedAnswer::Refused { number, place },
         CountedAnswer::Counted {

@@ -2,7 +2,7 @@
 -- most.
 use Prim.Native.Nat.{ℕ, suc, _+_, _*_, _≤_, _<_}
 use mathlib.Core.Path.{_≡_, refl}
-use mathlib.Core.Logic.{_↔_}
+use mathlib.Core.Logic.{_↔_, _⊎_, inl}
 use mathlib.Core.Bool.{Bool, true, false, cond}
 use mathlib.Core.List.{List, [], _∷_}
 use native.Mathlib.Omega.{arith}
@@ -10,7 +10,12 @@ use lib.ListN.{length}
 use lib.Dec.{ltb}
 use borrow.Author.Tests.{ltb-true, ltb-false}
 use Rattle.language.specs.Tree.{Tree, nodes}
-use Rattle.tree.specs.RefusalNumbers.{expression-empty, expression-too-long}
+use Rattle.tree.specs.RefusalNumbers.{
+  expression-empty,
+  expression-too-long,
+  backslash-before-no-sign,
+  class-faulty,
+}
 use Rattle.tree.specs.Limits.{longest-expression}
 use Rattle.scanner.specs.Bytes.{Syntax}
 use Rattle.classes.specs.ClassGrammar.{
@@ -173,25 +178,39 @@ pub two-exactly : (syntax : Syntax) (bytes : List ℕ) (place : ℕ)
     ↔ ((longest-expression < length bytes) × (place ≡ longest-expression))
 two-exactly syntax bytes place = (long-case (cases syntax bytes), λ (h, q). long-given (cases syntax bytes) h q)
 
--- a refusal of an expression by its bytes alone: its number is at least 1 and not above the syntax's highest, its place
--- is at most 1,024
+-- a refusal of an expression by its bytes alone: its number is one of 1 to 7, or 14, and not above the syntax's
+-- highest; its place is at most 1,024
 pub record Refusal (syntax : Syntax) (number place : ℕ) : Type 0 where
   pub least : 1 ≤ number
   pub most : number ≤ highest syntax
+  pub named : (number ≤ backslash-before-no-sign) ⊎ (number ≡ class-faulty)
   pub inside : place ≤ longest-expression
+
+-- 1 and 2 are such
+early : {syntax : Syntax} {number place : ℕ} → 1 ≤ number → number ≤ expression-too-long → place ≤ longest-expression
+    → Refusal syntax number place
+early {syntax} l m i =
+    record { least = l; most = omega (arith, seven-given syntax); named = inl (omega arith); inside = i }
 
 -- in each of the three cases
 refusal-case : {syntax : Syntax} {bytes : List ℕ} {outcome : Outcome Atom} {number place : ℕ}
-    → Case syntax bytes outcome
-    → outcome ≡ refused number place → Refusal syntax number place
-refusal-case {syntax} {number = number} {place = place} (empty p) e = let n : expression-empty
-    ≡ number = cc in let at : 0 ≡ place =
-    cc in omega (arith, seven-given syntax)
-refusal-case {syntax} {number = number} {place = place} (long h) e = let n : expression-too-long
-    ≡ number = cc in let at : longest-expression
-    ≡ place =
-    cc in omega (arith, seven-given syntax)
-refusal-case {syntax} {bytes} (usual h k) e = omega (arith, refused-cases syntax bytes _ _ e)
+    → Case syntax bytes outcome → outcome ≡ refused number place → Refusal syntax number place
+refusal-case {number = number} {place = place} (empty p) e =
+    let n : expression-empty ≡ number = cc in
+    let at : 0 ≡ place = cc in
+    early (omega arith) (omega arith) (omega arith)
+refusal-case {number = number} {place = place} (long h) e =
+    let n : expression-too-long ≡ number = cc in
+    let at : longest-expression ≡ place = cc in
+    early (omega arith) (omega arith) (omega arith)
+refusal-case {syntax} {bytes} (usual h k) e =
+    let f = refused-cases syntax bytes _ _ e in
+    record {
+      least = omega (arith, f .least);
+      most = f .most;
+      named = f .named;
+      inside = omega (arith, f .inside, k);
+    }
 
 -- so is every refusal of an expression
 pub scanned-refusal : (syntax : Syntax) (bytes : List ℕ) (number place : ℕ)

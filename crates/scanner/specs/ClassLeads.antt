@@ -24,13 +24,13 @@ use Rattle.scanner.specs.Grammar.{starred}
 use Rattle.scanner.specs.Surroundings.{Leads, leads-dot, leads-class, class-begins}
 use Rattle.classes.specs.ClassAt.{run-at, class-at}
 use Rattle.scanner.specs.Placed.{written-at}
-use Rattle.classes.specs.ClassItems.{Class-found, found-at, dot-at}
+use Rattle.classes.specs.ClassItems.{Class-ended, found-at, dot-at}
 
 -- a class that was found is a leaf of the second syntax, in all surroundings
-pub class-leads : {bytes members : List ℕ} {at next : ℕ} (depth : ℕ) → at < length bytes → getD bytes at 0 ≡ 91
-    → Class-found bytes at next (run-at bytes at) members
+pub class-leads : {bytes : List ℕ} {at next : ℕ} (depth : ℕ) → at < length bytes → getD bytes at 0 ≡ 91
+    → Class-ended bytes at next (run-at bytes at)
     → Leads second starred bytes depth at (written-at bytes (leaf (Leaf.class at))) next
-class-leads {bytes} {members} {at} {next} depth h e r =
+class-leads {bytes} {at} {next} depth h e r =
     let same : class-at bytes at ≡ r .class = found-at bytes at (r .class) (drop next bytes) next e (r .finds) in
     rw same (leads-class bytes depth at h e (r .finds))
 

@@ -1,7 +1,8 @@
 -- What the scanner can refuse with: the numbers 3 to 7, and 14 in the second syntax, at a place up to the end of the
 -- bytes.
 use Prim.Native.Nat.{ℕ, _+_, _≤_}
-use mathlib.Core.Path.{_≡_, subst}
+use mathlib.Core.Path.{_≡_, refl, subst}
+use mathlib.Core.Logic.{_⊎_, inl, inr}
 use mathlib.Core.Bool.{Bool, true, false, cond}
 use mathlib.Core.List.{List, [], _∷_}
 use native.Mathlib.Omega.{arith}
@@ -62,10 +63,12 @@ abbrev pub highest : Syntax → ℕ
 highest first = backslash-before-no-sign
 highest second = class-faulty
 
--- a refusal of the scanner: its number is at least 3 and not above the syntax's highest, its place is at most the end
+-- a refusal of the scanner: its number is one of 3 to 7, or 14 and that not above the syntax's highest; its place is at
+-- most the end
 pub record Fault (syntax : Syntax) (end number place : ℕ) : Type 0 where
   pub least : operand-missing ≤ number
   pub most : number ≤ highest syntax
+  pub named : (number ≤ backslash-before-no-sign) ⊎ (number ≡ class-faulty)
   pub inside : place ≤ end
 
 -- 3 to 7 are given in both syntaxes
@@ -99,11 +102,11 @@ module _ (syntax : Syntax) (end : ℕ) where
   -- 3 to 7 at this place, or before it
   usual : {number at : ℕ} → operand-missing ≤ number → number ≤ backslash-before-no-sign → at ≤ end
       → Fault syntax end number at
-  usual l m i = record { least = l; most = omega (arith, seven-given syntax); inside = i }
+  usual l m i = record { least = l; most = omega (arith, seven-given syntax); named = inl m; inside = i }
 
   -- 14
   class-fault : {at : ℕ} → at ≤ end → class-faulty ≤ highest syntax → Fault syntax end class-faulty at
-  class-fault i m = record { least = omega arith; most = m; inside = i }
+  class-fault i m = record { least = omega arith; most = m; named = inr refl; inside = i }
 
   -- at the end in each phase
   end-fits : (place : ℕ) → place ≤ end → (phase : Phase) (before : Before) (groups : List Group)

@@ -2,8 +2,7 @@
 use crate::character::character;
 use crate::character::leaf;
 use crate::part::Part;
-use classes::class::class_members;
-use classes::members::VALUE_COUNT;
+use classes::class::class_end;
 use classes::part::ClassPart;
 use tree::layout::class_label;
 use tree::refusal_numbers::CLASS_FAULTY;
@@ -22,8 +21,7 @@ fn class(expr: &[u8], begin: usize, labels: &mut [u16], count: usize) -> Part
     ensures { λ r. ⌜ Character-answer (syntax-of true) (now (expr .entry)) begin count (now (labels .entry)) (now
         (labels .exit)) r ⌝ }
 {
-    let mut members = [0u8; VALUE_COUNT];
-    let part = class_members(expr, begin, &mut members);
+    let part = class_end(expr, begin);
     let ClassPart::Read { next } = part else {
         return Part::Refused {
             number: CLASS_FAULTY,

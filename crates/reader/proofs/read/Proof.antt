@@ -16,14 +16,14 @@ counted : (c : tie.After-known-told2)
     → let called = c .before .before .before .before in
     let n = c .before .counted2 .given .0 in
     Reading-counted first (c .before .before .before .before .before .before .before .before .args .expr .now)
-    (called .count .last .1 .0) (n .0) (n .1 .0) (n .1 .1 .0)
-counted c = rw (c .before .counted2 .given .1) at (c .before .before .before .before .count .ensures)
+    (called .count-first .last .1 .0) (n .0) (n .1 .0) (n .1 .1 .0)
+counted c = rw (c .before .counted2 .given .1) at (c .before .before .before .before .count-first .ensures)
 
-slice-aggregate-count : tie.Need-slice-aggregate-count
-slice-aggregate-count c = search needs
+slice-aggregate-count-first : tie.Need-slice-aggregate-count-first
+slice-aggregate-count-first c = search needs
 
-count-requires : tie.Need-count-requires
-count-requires c κs = search needs
+count-first-requires : tie.Need-count-first-requires
+count-first-requires c κs = search needs
 
 enum-known-counted : tie.Need-enum-known-counted
 enum-known-counted c = search needs
@@ -34,9 +34,9 @@ enum-known-counted-2 c = search needs
 array-share-prefix-labels : tie.Need-array-share-prefix-labels
 array-share-prefix-labels c =
     let r = counted c in
-    let long : length (c .before .before .before .before .count .last .1 .0)
-    ≡ 2047 = c .before .before .before .before .count .kept .1 .0 in
-    let few : c .before .counted2 .given .0 .0 ≤ length (c .before .before .before .before .count .last .1 .0) =
+    let long : length (c .before .before .before .before .count-first .last .1 .0)
+    ≡ 2047 = c .before .before .before .before .count-first .kept .1 .0 in
+    let few : c .before .counted2 .given .0 .0 ≤ length (c .before .before .before .before .count-first .last .1 .0) =
     omega (arith, r .bounded, long) in
     few
 
@@ -50,7 +50,8 @@ store-requires c κs =
 
 returns : tie.Need-returns
 returns c =
-    let r = refused-read (rw (c .before .counted .given .1) at (c .before .before .before .before .count .ensures)) in
+    let r = refused-read (rw (c .before .counted .given .1) at
+    (c .before .before .before .before .count-first .ensures)) in
     (r .answer, r .buffer)
 
 same-length : tie.Need-same-length
@@ -65,5 +66,5 @@ returns-2 c =
 
 pub read-spec : {M : Type 1} → statement M
 read-spec =
-    tie.close (tie.spec slice-aggregate-count count-requires enum-known-counted enum-known-counted-2
+    tie.close (tie.spec slice-aggregate-count-first count-first-requires enum-known-counted enum-known-counted-2
     array-share-prefix-labels slice-aggregate-store store-requires returns same-length returns-2)

@@ -13,14 +13,14 @@ counted : (c : tie.After-known-told2)
     → let called = c .before .before .before .before in
     let n = c .before .counted2 .given .0 in
     Reading-counted second (c .before .before .before .before .before .before .before .before .before .args .expr .now)
-    (called .count .last .1 .0) (n .0) (n .1 .0) (n .1 .1 .0)
-counted c = rw (c .before .counted2 .given .1) at (c .before .before .before .before .count .ensures)
+    (called .count-second .last .1 .0) (n .0) (n .1 .0) (n .1 .1 .0)
+counted c = rw (c .before .counted2 .given .1) at (c .before .before .before .before .count-second .ensures)
 
-slice-aggregate-count : tie.Need-slice-aggregate-count
-slice-aggregate-count c = search needs
+slice-aggregate-count-second : tie.Need-slice-aggregate-count-second
+slice-aggregate-count-second c = search needs
 
-count-requires : tie.Need-count-requires
-count-requires c κs = search needs
+count-second-requires : tie.Need-count-second-requires
+count-second-requires c κs = search needs
 
 enum-known-counted : tie.Need-enum-known-counted
 enum-known-counted c = search needs
@@ -33,13 +33,14 @@ slice-aggregate-store-second c = search needs
 
 store-second-requires : tie.Need-store-second-requires
 store-second-requires c κs = (
-  sym (c .before .before .before .before .before .before .before .count .kept .1 .0),
+  sym (c .before .before .before .before .before .before .before .count-second .kept .1 .0),
   counted (c .before .before .before),
 )
 
 returns : tie.Need-returns
 returns c =
-    let r = refused-second (rw (c .before .counted .given .1) at (c .before .before .before .before .count .ensures)) in
+    let r = refused-second (rw (c .before .counted .given .1) at
+    (c .before .before .before .before .count-second .ensures)) in
     (r .answer, (r .record-buffer, r .class-buffer))
 
 same-length : tie.Need-same-length
@@ -55,5 +56,5 @@ returns-2 c =
 
 pub read-second-spec : {M : Type 1} → statement M
 read-second-spec =
-    tie.close (tie.spec slice-aggregate-count count-requires enum-known-counted enum-known-counted-2
+    tie.close (tie.spec slice-aggregate-count-second count-second-requires enum-known-counted enum-known-counted-2
     slice-aggregate-store-second store-second-requires returns same-length same-length-2 returns-2)

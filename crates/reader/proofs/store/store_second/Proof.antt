@@ -106,7 +106,8 @@ store-records-requires c κs =
       },
       (
         rw (sym e) (s .pre .1 .bounded),
-        rw (sym e) (c .before .before .before .before .before .before .before .before .before .before .before .before .if1
+        rw (sym e) (c .before .before .before .before .before .before .before .before .before .before .before .before
+            .if1
             .left),
       ),
     )

@@ -55,7 +55,8 @@ group-read : (t : ℕ) (c : lts.Else4 (operand-claims t) (operand-at t) operand.
     → let s = start-of t (group-of t (c .before)) in
     Read-up-to (syntax-of (s .args .second)) starred (s .args .expr .now) (s .args .depth) (s .args .at)
     (s .args .count) (s .args .labels .now) (c .before .before .inner .given .0 .0 + 1)
-    (c .before .before .inner .given .0 .1 .0) (c .before .before .before .before .before .before .union .last .1 .1 .1 .0)
+    (c .before .before .inner .given .0 .1 .0)
+    (c .before .before .before .before .before .before .union .last .1 .1 .1 .0)
 group-read t c =
     let r = inner-read t (c .before) in
     went-group r (omega arith) (omega arith) (omega arith) (group-of t (c .before) .if2 .taken)

@@ -1,15 +1,12 @@
--- `reader::single::class` meets its contract: the class that the reading finds is a leaf with the place of its `[`.
+-- `scanner::single::class` meets its contract: the class that the reading finds is a leaf with the place of its `[`.
 use Prim.Native.Nat.{ℕ}
-use mathlib.Core.Path.{_≡_, ap, _∙_}
-use mathlib.Core.Bool.{true}
+use mathlib.Core.Path.{ap, _∙_}
 use native.Mathlib.Omega.{arith}
 use lib.ListN.{set}
-use lib.Seq.{length-take-le}
 use Rattle.tree.specs.Leaf.{Leaf}
-use Rattle.scanner.specs.Bytes.{second}
 use Rattle.classes.specs.ClassAt.{run-at, bracket-here}
-use Rattle.scanner.specs.Surroundings.{leads-class, fails-class}
-use Rattle.classes.specs.ClassItems.{Class-found}
+use Rattle.scanner.specs.Surroundings.{fails-class}
+use Rattle.classes.specs.ClassItems.{Class-ended}
 use Rattle.scanner.specs.ClassLeads.{class-leads}
 use Rattle.scanner.specs.Reading.{leaf-read}
 use borrow.Author.Needs.{needs}
@@ -18,17 +15,13 @@ use Rattle.scanner.proofs.single.class.Tie as tie
 
 -- the class was found
 class-read : (c : tie.After-known-told)
-    → let s = c .before .before .before .before .before .before .before .before in
-    let m = c .before .before .before .before in
-    Class-found (s .args .expr .now) (s .args .begin) (c .before .part .given .0 .0)
-    (run-at (s .args .expr .now) (s .args .begin)) (m .class-members .last .1 .1 .0)
-class-read c = rw (c .before .part .given .1) at (c .before .before .before .before .class-members .ensures)
+    → let s = c .before .before .before .before .before .before in
+    Class-ended (s .args .expr .now) (s .args .begin) (c .before .part .given .0 .0)
+    (run-at (s .args .expr .now) (s .args .begin))
+class-read c = rw (c .before .part .given .1) at (c .before .before .before .class-end .ensures)
 
-slice-aggregate-class-members : tie.Need-slice-aggregate-class-members
-slice-aggregate-class-members c = search needs
-
-class-members-requires : tie.Need-class-members-requires
-class-members-requires c κs = search needs
+class-end-requires : tie.Need-class-end-requires
+class-end-requires c κs = search needs
 
 enum-known-part : tie.Need-enum-known-part
 enum-known-part c = search needs
@@ -38,36 +31,34 @@ enum-told c = search needs
 
 returns : tie.Need-returns
 returns c =
-    let s = c .before .before .before .before .before .before .before in
-    let m = c .before .before .before in
-    let lost = rw (c .enum-told .given .1) at (m .class-members .ensures) in
+    let s = c .before .before .before .before .before in
+    let lost = rw (c .enum-told .given .1) at (c .before .before .class-end .ensures) in
     record {
-      fails = λ depth. fails-class (s .args .expr .now) depth (s .args .begin) (s .pre .0) (s .pre .1 .0)
-          (lost .fails);
+      fails = λ depth. fails-class (s .args .expr .now) depth (s .args .begin) (s .pre .0) (s .pre .1 .0) (lost .fails);
     }
 
 class-label-requires : tie.Need-class-label-requires
 class-label-requires c κs = search needs
 
 leaf-requires : tie.Need-leaf-requires
-leaf-requires c κs =
-    let s = c .before .before .before .before .before .before .before .before .before .before in omega arith
+leaf-requires c κs = let s = c .before .before .before .before .before .before .before .before in omega arith
 
 same-length : tie.Need-same-length
 same-length c = search needs
 
 returns-2 : tie.Need-returns-2
 returns-2 c =
-    let s = c .before .before .before .before .before .before .before .before .before .before .before .before .before in
+    let s = c .before .before .before .before .before .before .before .before .before .before .before in
     let r = class-read (c .before .before .before .before .before) in
     let l = c .before .before in
     let label = c .before .before .before .before .class-label .ensures in
-    leaf-read (s .args .labels .now) _ (Leaf.class (s .args .begin)) (bracket-here (s .pre .0) (s .pre .1 .0) (r .finds))
+    leaf-read (s .args .labels .now) _ (Leaf.class (s .args .begin)) (bracket-here (s .pre .0) (s .pre .1 .0)
+    (r .finds))
     (λ depth. class-leads depth (s .pre .0) (s .pre .1 .0) r) (r .further) (r .within) (omega arith)
     (l .leaf .ensures .0)
     (l .leaf .ensures .1 ∙ ap (λ (n : ℕ). set (s .args .labels .now) (s .args .count) n) label)
 
 pub class-spec : {M : Type 1} → statement M
 class-spec =
-    tie.close (tie.spec slice-aggregate-class-members class-members-requires enum-known-part enum-told returns
-    class-label-requires leaf-requires same-length returns-2)
+    tie.close (tie.spec class-end-requires enum-known-part enum-told returns class-label-requires leaf-requires
+    same-length returns-2)

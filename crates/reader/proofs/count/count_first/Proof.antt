@@ -1,22 +1,22 @@
--- `reader::count::count` meets its contract: the labels of the expression's tree stand in the scratch, and are counted;
--- or the refusal is handed on.
+-- `reader::count::count_first` meets its contract: the labels of the expression's tree stand in the scratch, and are
+-- counted; or the refusal is handed on.
 use Prim.Native.Nat.{_≤_}
 use mathlib.Core.Path.{_≡_, refl, sym, _∙_}
 use native.Mathlib.Omega.{arith}
 use lib.ListN.{length}
 use lib.Seq.{length-take-le}
-use Rattle.scanner.specs.Bytes.{syntax-of}
+use Rattle.scanner.specs.Bytes.{first}
 use Rattle.scanner.specs.Expression.{Expression-read}
 use Rattle.reader.specs.Count.{refused-before, read-counted}
 use borrow.Author.Needs.{needs}
-use Rattle.reader.proofs.count.count.Statement.{statement}
-use Rattle.reader.proofs.count.count.Tie as tie
+use Rattle.reader.proofs.count.count_first.Statement.{statement}
+use Rattle.reader.proofs.count.count_first.Tie as tie
 
 -- the expression has a tree, whose labels stand in the scratch
 tree-read : (c : tie.After-known-told2)
     → let called = c .before .before .before .before .before in
     let s = c .before .before .before .before .before .before .before .before .before in
-    Expression-read (syntax-of (s .args .second)) (s .args .expr .now) (called .expression .last .1 .0)
+    Expression-read first (s .args .expr .now) (called .expression .last .1 .0)
     (c .before .whole2 .given .0 .1 .0)
 tree-read c = rw (c .before .whole2 .given .1) at (c .before .before .before .before .before .expression .ensures)
 
@@ -64,7 +64,7 @@ returns-2 c =
     let r = tree-read k in
     read-counted (c .count-labels .result) r _ refl (length-take-le _ _ (within k)) (c .count-labels .ensures)
 
-pub count-spec : {M : Type 1} → statement M
-count-spec =
+pub count-first-spec : {M : Type 1} → statement M
+count-first-spec =
     tie.close (tie.spec expression-requires enum-known-whole enum-known-whole-2 slice-reshare-prefix-count-labels
     slice-aggregate-count-labels count-labels-requires same-length returns same-length-2 returns-2)
