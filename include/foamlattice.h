@@ -1,8 +1,9 @@
 /* Foamlattice: a proved matcher for regular expressions.
  *
  * Every function takes slices as a pointer and a length, ends and answers on all bytes and words that it can be
- * handed, and keeps nothing between calls. It allocates nothing; what it needs it takes from the stack: 42 KB in
- * foam_read and foam_read2, 120 KB in foam_match, foam_search, foam_start and foam_step, 142 KB in foam_pick, as measured.
+ * handed, and keeps nothing between calls. It allocates nothing; what it needs it takes from the stack: 21 KB in
+ * foam_check and foam_check2, 25 KB in foam_read and foam_read2, 120 KB in foam_match, foam_search, foam_start and
+ * foam_step, 136 KB in foam_pick, as measured.
  *
  * What a caller must see to, since it cannot be checked: no pointer is null, also where its length is 0; each points to
  * as many bytes or words as its length says, words aligned as uint64_t; what is written through overlaps nothing else
@@ -18,6 +19,8 @@
  *   foam_read     0                                         records; of a refusal        pieces; 0 of a refusal
  *                                                           its place
  *   foam_read2    0                                         as foam_read                 pieces + 256 * classes
+ *   foam_check    0                                         as foam_read                 pieces + 256 * classes
+ *   foam_check2   0                                         as foam_read                 pieces + 256 * classes
  *   foam_match    1 yes, 0 no                               0                            0
  *   foam_search   1 found, 0 nothing                        start                        end, the first byte after
  *   foam_start    1 where the accepting state is marked     0                            0
@@ -49,6 +52,13 @@
 #ifdef __cplusplus
 extern "C" {
 #endif
+
+/* Checks an expression of the first syntax: every refusal of foam_read but 9, and the counts, which say how much room the
+ * records need. Nothing is lent but the expression. Where it refuses nothing foam_read refuses nothing but 9. */
+uint64_t foam_check(const uint8_t *expression, size_t expression_length);
+
+/* Checks an expression of the second syntax: every refusal of foam_read2 but 9 and 15, and the counts. */
+uint64_t foam_check2(const uint8_t *expression, size_t expression_length);
 
 /* Reads an expression of the first syntax into tree records of 8 bytes. Refusals, in this order: 1 no bytes; 2 more than
  * 1,024 bytes; the first from left to right of 3 operand due, 4 group left open, 5 `)` with no group open, 6 a 33rd open

@@ -6,6 +6,8 @@ use std::ops::Range;
 // SAFETY: these are the functions of `libfoamlattice.a`, declared as `include/foamlattice.h` has them.
 unsafe extern "C" {
     fn foam_read(expression: *const u8, expression_length: usize, records: *mut u8, records_length: usize) -> u64;
+    fn foam_check(expression: *const u8, expression_length: usize) -> u64;
+    fn foam_check2(expression: *const u8, expression_length: usize) -> u64;
     fn foam_read2(
         expression: *const u8,
         expression_length: usize,
@@ -121,23 +123,19 @@ pub struct Expression {
 impl Expression {
     /// Reads an expression of the first syntax: `(` `)` `|` `*` `\`.
     pub fn first(expression: &[u8]) -> Result<Expression, Refusal> {
-        let mut records = vec![0; MOST_RECORD_BYTES];
-        let counts = read(expression, &mut records)?;
-        Ok(Expression::of(records, vec![], counts))
+        let counts = check(expression)?;
+        let mut records = vec![0; RECORD_SIZE * counts.records];
+        read(expression, &mut records)?;
+        Ok(Expression { records, classes: vec![], pieces: counts.pieces })
     }
 
     /// Reads an expression of the second syntax, which has classes and the dot too.
     pub fn second(expression: &[u8]) -> Result<Expression, Refusal> {
-        let mut records = vec![0; MOST_RECORD_BYTES];
-        let mut classes = vec![0; MOST_CLASS_BYTES];
-        let counts = read_second(expression, &mut records, &mut classes)?;
-        Ok(Expression::of(records, classes, counts))
-    }
-
-    fn of(records: Vec<u8>, classes: Vec<u8>, counts: Counts) -> Expression {
-        let records = records[..RECORD_SIZE * counts.records].to_vec();
-        let classes = classes[..CLASS_SIZE * counts.classes].to_vec();
-        Expression { records, classes, pieces: counts.pieces }
+        let counts = check_second(expression)?;
+        let mut records = vec![0; RECORD_SIZE * counts.records];
+        let mut classes = vec![0; CLASS_SIZE * counts.classes];
+        read_second(expression, &mut records, &mut classes)?;
+        Ok(Expression { records, classes, pieces: counts.pieces })
     }
 
     /// The list of its tree records.
@@ -174,6 +172,20 @@ impl Expression {
     pub fn step(&self, words: &mut [u64], byte: u8) -> Result<bool, Refusal> {
         step(&self.records, &self.classes, words, byte)
     }
+}
+
+/// Checks an expression of the first syntax: its counts, or every refusal that [`read`] has but 9. Nothing is lent.
+pub fn check(expression: &[u8]) -> Result<Counts, Refusal> {
+    // SAFETY: the slice is valid for its length for the call.
+    let packed = Packed(unsafe { foam_check(expression.as_ptr(), expression.len()) });
+    packed.checked().map(|p| p.counts())
+}
+
+/// Checks an expression of the second syntax: its counts, or every refusal that [`read_second`] has but 9 and 15.
+pub fn check_second(expression: &[u8]) -> Result<Counts, Refusal> {
+    // SAFETY: the slice is valid for its length for the call.
+    let packed = Packed(unsafe { foam_check2(expression.as_ptr(), expression.len()) });
+    packed.checked().map(|p| p.counts())
 }
 
 /// Reads an expression of the first syntax into `records`; on a refusal no byte of it is changed.

@@ -1,5 +1,5 @@
-/* Reads expressions of both syntaxes, matches some dates, searches a text, steps through another, picks lines, and shows
- * refusals. */
+/* Reads expressions of both syntaxes, matches some dates, searches a text, steps through another, picks lines, and checks
+ * rules as an editor would. */
 #include <stdio.h>
 #include <string.h>
 
@@ -75,11 +75,15 @@ int main(void) {
     answer = foam_pick(bytes(input), strlen(input), output, sizeof output);
     printf("%.*s", (int)x(answer), (const char *)output);
 
-    /* A refusal has a number and a place, and changes nothing that was lent. */
-    const char *faulty[] = {"02-2(8|9", "02-[9-0]"};
-    for (size_t i = 0; i < sizeof faulty / sizeof *faulty; i++) {
-        answer = read_second(faulty[i], &february);
-        printf("%s is refused: %u at %zu\n", faulty[i], number(answer), x(answer));
+    /* A rule editor: a check lends nothing; it counts, or has the number and the place of the fault, to be shown under it. */
+    const char *rules[] = {"02-2[89]", "02-2(8|9", "02-[9-0]"};
+    for (size_t i = 0; i < sizeof rules / sizeof *rules; i++) {
+        answer = foam_check2(bytes(rules[i]), strlen(rules[i]));
+        printf("%s\n", rules[i]);
+        if (number(answer) == 0)
+            printf("good, classes: %zu\n", y(answer) / 256);
+        else
+            printf("%*s fault %u\n", (int)x(answer) + 1, "^", number(answer));
     }
     return 0;
 }

@@ -1,6 +1,8 @@
-//! Reads expressions of both syntaxes, matches some dates, searches a text, steps through another, picks lines, and shows
-//! refusals.
+//! Reads expressions of both syntaxes, matches some dates, searches a text, steps through another, picks lines, and checks
+//! rules as an editor would.
 
+// An example need not use all of it.
+#[allow(dead_code)]
 #[path = "../../rust/foamlattice.rs"]
 mod foamlattice;
 
@@ -49,10 +51,12 @@ fn main() -> Result<(), Refusal> {
         print!("{}", String::from_utf8_lossy(lines));
     }
 
-    // A refusal has a number and a place, and changes nothing that was lent.
-    for faulty in ["02-2(8|9", "02-[9-0]"] {
-        if let Err(refusal) = Expression::second(faulty.as_bytes()) {
-            println!("{faulty} is refused: {} at {}", refusal.number, refusal.place);
+    // A rule editor: a check lends nothing; it counts, or has the number and the place of the fault, to be shown under it.
+    for rule in ["02-2[89]", "02-2(8|9", "02-[9-0]"] {
+        println!("{rule}");
+        match foamlattice::check_second(rule.as_bytes()) {
+            Ok(counts) => println!("good, classes: {}", counts.classes),
+            Err(refusal) => println!("{:>1$} fault {2}", '^', refusal.place + 1, refusal.number),
         }
     }
     Ok(())

@@ -15,7 +15,7 @@ use Rattle.tree.specs.Layout.{record-size}
 use Rattle.tree.specs.Limits.{longest-expression, most-records, most-pieces, longest-text}
 use Rattle.tree.specs.Records.{piece-count}
 use Rattle.tree.specs.Pieces.{nodes-per-piece}
-use Rattle.scanner.specs.Bytes.{first, second}
+use Rattle.scanner.specs.Bytes.{Syntax, first, second}
 use Rattle.scanner.specs.Scanner.{Atom, literal, one-of, Outcome, tree, refused, scanned}
 use Rattle.reader.specs.Drawn.{drawn, recorded-from, recorded, classes-in}
 use Rattle.scanner.specs.Agree.{scanned-refusal}
@@ -29,6 +29,8 @@ use Rattle.reader.specs.SecondAnswer.{
   too-short,
   too-few-classes as lent-too-few,
   pick-stored,
+  checked-for,
+  checked,
   second-answer-for,
   second-answered,
 }
@@ -193,13 +195,36 @@ stored-ranges t false false false e =
       classes-small = omega (arith, records, classes-most t 0);
     }
 
-second-outcome : (bytes : List ℕ) (room class-room : ℕ) (outcome : Outcome Atom) → scanned second bytes ≡ outcome
-    → Second-ranges (second-answer-for outcome room class-room)
-second-outcome bytes room class-room (refused number place) e =
+-- a refusal of writing, by the highest number of each syntax
+refused-writing : (syntax : Syntax) (bytes : List ℕ) (number place : ℕ) → scanned syntax bytes ≡ refused number place
+    → Second-ranges (refusing-counts number place)
+refused-writing first bytes number place e =
+    let known = scanned-refusal first bytes number place e in
+    refused-counts number place (omega (arith, known .most)) (known .inside)
+refused-writing second bytes number place e =
     let known = scanned-refusal second bytes number place e in
     refused-counts number place (omega (arith, known .most)) (known .inside)
+
+second-outcome : (bytes : List ℕ) (room class-room : ℕ) (outcome : Outcome Atom) → scanned second bytes ≡ outcome
+    → Second-ranges (second-answer-for outcome room class-room)
+second-outcome bytes room class-room (refused number place) e = refused-writing second bytes number place e
 second-outcome bytes room class-room (tree t) e =
     stored-ranges t (too-many t) (too-short t room) (lent-too-few t class-room) refl
+
+-- by the one test of an expression that is checked
+counted-ranges : (t : Tree Atom) (many : Bool) → too-many t ≡ many
+    → Second-ranges (cond many (refusing-counts too-many-pieces 0) (counting t))
+counted-ranges t true e = refused-counts too-many-pieces 0 (omega arith) (omega arith)
+counted-ranges t false e = stored-ranges t false false false e
+
+checked-outcome : (syntax : Syntax) (bytes : List ℕ) (outcome : Outcome Atom) → scanned syntax bytes ≡ outcome
+    → Second-ranges (checked-for outcome)
+checked-outcome syntax bytes (refused number place) e = refused-writing syntax bytes number place e
+checked-outcome syntax bytes (tree t) e = counted-ranges t (too-many t) refl
+
+-- what a check answers for any bytes
+pub checked-ranges : (syntax : Syntax) (bytes : List ℕ) → Second-ranges (checked syntax bytes)
+checked-ranges syntax bytes = checked-outcome syntax bytes (scanned syntax bytes) refl
 
 -- what is answered for any bytes and any two buffers
 pub second-answered-ranges : (bytes : List ℕ) (room class-room : ℕ)
@@ -329,6 +354,16 @@ pub second-unpacks : (bytes : List ℕ) (room class-room r : ℕ) → r ≡ seco
     (second-answered bytes room class-room .pieces + 256 * second-answered bytes room class-room .classes)
 second-unpacks bytes room class-room r e =
     let known = second-answered-ranges bytes room class-room in
+    case-unpacks r _ 0 _ _ (small _ 0 (known .refusal-small) (omega arith))
+    (omega (arith, known .place-small, known .records-small))
+    (omega (arith, known .pieces-small, known .classes-small)) e
+
+-- so does that of a check
+pub checked-unpacks : (syntax : Syntax) (bytes : List ℕ) (r : ℕ) → r ≡ second-packed (checked syntax bytes)
+    → Unpacks r (checked syntax bytes .refusal) 0 (checked syntax bytes .place + checked syntax bytes .records)
+    (checked syntax bytes .pieces + 256 * checked syntax bytes .classes)
+checked-unpacks syntax bytes r e =
+    let known = checked-ranges syntax bytes in
     case-unpacks r _ 0 _ _ (small _ 0 (known .refusal-small) (omega arith))
     (omega (arith, known .place-small, known .records-small))
     (omega (arith, known .pieces-small, known .classes-small)) e

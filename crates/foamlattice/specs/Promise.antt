@@ -19,7 +19,7 @@ use Rattle.foamlattice.specs.Packed.{packed}
 abbrev pub read-packed : Numbers → ℕ
 read-packed n = packed (n .refusal) 0 (n .place + n .records) (n .pieces)
 
--- read2: x as for read; y is the count of pieces, which is below 256, and 256 times that of classes
+-- read2 and the checks: x as for read; y is the count of pieces, which is below 256, and 256 times that of classes
 abbrev pub second-packed : Counted-numbers → ℕ
 second-packed n = packed (n .refusal) 0 (n .place + n .records) (n .pieces + 256 * n .classes)
 

@@ -15,13 +15,22 @@ use picker::Picked;
 use picker::pick;
 use reader::CountedAnswer;
 use reader::ReadAnswer;
+use reader::check;
+use reader::check_second;
 use reader::read;
 use reader::read_second;
 ghost use mathlib.Core.Path.{_≡_};
 ghost use lib.ListN.{length};
 ghost use Rattle.reader.specs.Answer.{answered, records-after};
-ghost use Rattle.reader.specs.SecondAnswer.{second-answered, second-records-after, second-classes-after};
-ghost use Rattle.foamlattice.specs.Bounds.{Found-ranges, Marks-ranges};
+ghost use Rattle.reader.specs.SecondAnswer.{
+  counted-numbers,
+  checked,
+  second-answered,
+  second-records-after,
+  second-classes-after,
+};
+ghost use Rattle.scanner.specs.Bytes.{first, second};
+ghost use Rattle.foamlattice.specs.Bounds.{Second-ranges, Found-ranges, Marks-ranges};
 ghost use Rattle.foamlattice.specs.Promise.{
   read-packed,
   second-packed,
@@ -50,6 +59,39 @@ pub extern "C" fn foam_read(expression: &[u8], records: &mut [u8]) -> u64
 // In y the count of classes stands above that of pieces, by this factor.
 const CLASSES_PART: usize = 256;
 
+// What a check, or a reading in the second syntax, gives back, packed.
+fn pack_counted(answer: CountedAnswer) -> u64
+    requires { ⌜ Second-ranges (counted-numbers answer) ⌝ }
+    ensures { λ r. ⌜ r ≡ second-packed (counted-numbers answer) ⌝ }
+{
+    match answer {
+        CountedAnswer::Counted {
+            records,
+            pieces,
+            classes,
+        } => pack(0, false, records, pieces + CLASSES_PART * classes),
+        CountedAnswer::Refused { number, place } => pack(number, false, place, 0),
+    }
+}
+
+// Checks an expression of the first syntax, with no buffer lent.
+#[no_mangle]
+pub extern "C" fn foam_check(expression: &[u8]) -> u64
+    ensures { λ r. ⌜ r ≡ second-packed (checked first (now (expression .entry))) ⌝ }
+{
+    let answer = check(expression);
+    pack_counted(answer)
+}
+
+// Checks an expression of the second syntax, with no buffer lent.
+#[no_mangle]
+pub extern "C" fn foam_check2(expression: &[u8]) -> u64
+    ensures { λ r. ⌜ r ≡ second-packed (checked second (now (expression .entry))) ⌝ }
+{
+    let answer = check_second(expression);
+    pack_counted(answer)
+}
+
 // Reads an expression of the second syntax into tree records and class records.
 #[no_mangle]
 pub extern "C" fn foam_read2(expression: &[u8], records: &mut [u8], classes: &mut [u8]) -> u64
@@ -61,14 +103,7 @@ pub extern "C" fn foam_read2(expression: &[u8], records: &mut [u8], classes: &mu
         (now (classes .entry)) ⌝ }
 {
     let answer = read_second(expression, records, classes);
-    match answer {
-        CountedAnswer::Counted {
-            records,
-            pieces,
-            classes,
-        } => pack(0, false, records, pieces + CLASSES_PART * classes),
-        CountedAnswer::Refused { number, place } => pack(number, false, place, 0),
-    }
+    pack_counted(answer)
 }
 
 // What a match or a search gives back, packed.
