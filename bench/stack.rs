@@ -58,6 +58,8 @@ pub fn print() {
     let reads = expressions().iter().map(|e| used(|| ignore(foamlattice::read(e, &mut buffer)))).max();
     let mut second = |e: &[u8]| used(|| ignore(foamlattice::read_second(e, &mut buffer, &mut class_buffer)));
     let second_reads = expressions_with_classes().iter().map(|e| second(e)).max();
+    let checks = expressions().iter().map(|e| used(|| ignore(foamlattice::check(e)))).max();
+    let second_checks = expressions_with_classes().iter().map(|e| used(|| ignore(foamlattice::check_second(e)))).max();
     let mut output = vec![0; MOST_OUTPUT];
     let mut pick = |e: &[u8]| {
         let input = [e, b"\n", text].concat();
@@ -69,6 +71,8 @@ pub fn print() {
     let rows = [
         ("read", reads),
         ("read2", second_reads),
+        ("check", checks),
+        ("check2", second_checks),
         ("match", of_lists(&mut |list, classes| ignore(foamlattice::is_match(list, classes, text)))),
         ("search", of_lists(&mut |list, classes| ignore(foamlattice::find(list, classes, text)))),
         ("start", of_lists(&mut |list, classes| ignore(foamlattice::start(list, classes, &mut words)))),

@@ -8,6 +8,8 @@ use std::fmt::Debug;
 // SAFETY of every call below: each pointer and length is that of one whole slice, and what is written to is lent alone.
 unsafe extern "C" {
     fn foam_read(expression: *const u8, expression_length: usize, records: *mut u8, records_length: usize) -> u64;
+    fn foam_check(expression: *const u8, expression_length: usize) -> u64;
+    fn foam_check2(expression: *const u8, expression_length: usize) -> u64;
     fn foam_read2(
         expression: *const u8,
         expression_length: usize,
@@ -93,8 +95,8 @@ fn hold<T: PartialEq + Debug>(what: &str, input: impl Fn() -> String, ours: T, t
     }
 }
 
-/// What reading should answer, and write at the beginning of a buffer of `room` bytes.
-fn expected_read(e: &[u8], room: usize) -> (Answer, Vec<u8>) {
+/// What a check should answer, and the records to write where it does not refuse.
+fn expected_check(e: &[u8]) -> (Answer, Vec<u8>) {
     let tree = match expected::read(e) {
         Err((number, place)) => return (Answer::refused(number, place), vec![]),
         Ok(tree) => tree,
@@ -104,29 +106,41 @@ fn expected_read(e: &[u8], room: usize) -> (Answer, Vec<u8>) {
     if pieces > 128 {
         return (Answer::refused(8, 0), vec![]);
     }
-    let list = expected::records(&tree);
-    if room < list.len() {
-        return (Answer::refused(9, 0), vec![]);
-    }
-    (Answer::counts(tree.len(), pieces, 0), list)
+    (Answer::counts(tree.len(), pieces, 0), expected::records(&tree))
 }
 
-/// Reads an expression into a buffer of `room` bytes; the list, if it is not refused.
-pub fn read(e: &[u8], room: usize) -> Option<List> {
+/// One write, held against its answer and every byte of its buffer; `written` stands at the front of that.
+fn compare_write(e: &[u8], room: usize, expected: Answer, written: &[u8]) {
     let input = || format!("\"{}\" with a buffer of {room} bytes", e.escape_ascii());
     let mut buffer = vec![FILL; room];
     let answer = Answer::of(unsafe { foam_read(e.as_ptr(), e.len(), buffer.as_mut_ptr(), buffer.len()) });
-    let (expected, written) = expected_read(e, room);
     let mut after = vec![FILL; room];
-    after[..written.len()].copy_from_slice(&written);
-    let good = expected.refusal == 0;
+    after[..written.len()].copy_from_slice(written);
     hold("reading", input, answer, expected);
     hold("the record buffer", input, buffer, after);
-    good.then(|| List::new(written, vec![]))
 }
 
-/// What reading in the second syntax should answer, and write at the beginning of both buffers; and what was written.
-fn expected_second(e: &[u8], rooms: [usize; 2]) -> (Answer, [Vec<u8>; 2], Option<Written>) {
+/// Checks an expression, and reads it into a buffer of `room` bytes; where the check does not refuse, also into one that just
+/// fits and one that is a byte too short. The list, if this reading is not refused.
+pub fn read(e: &[u8], room: usize) -> Option<List> {
+    let (checked, list) = expected_check(e);
+    let answer = Answer::of(unsafe { foam_check(e.as_ptr(), e.len()) });
+    hold("checking", || e.escape_ascii().to_string(), answer, checked);
+    let good = checked.refusal == 0;
+    if good {
+        compare_write(e, list.len(), checked, &list);
+        compare_write(e, list.len() - 1, Answer::refused(9, 0), &[]);
+    }
+    match room < list.len() {
+        true => compare_write(e, room, Answer::refused(9, 0), &[]),
+        false => compare_write(e, room, checked, &list),
+    }
+    (good && room >= list.len()).then(|| List::new(list, vec![]))
+}
+
+/// What a check in the second syntax should answer; the records and class records to write, and what was written, where it
+/// does not refuse.
+fn expected_second(e: &[u8]) -> (Answer, [Vec<u8>; 2], Option<Written>) {
     let refused = |number, place| (Answer::refused(number, place), [vec![], vec![]], None);
     let written = match written::read(e) {
         Err((number, place)) => return refused(number, place),
@@ -138,19 +152,12 @@ fn expected_second(e: &[u8], rooms: [usize; 2]) -> (Answer, [Vec<u8>; 2], Option
     if pieces > 128 {
         return refused(8, 0);
     }
-    let (list, classes) = (expected::records(&laid_out.tree), laid_out.class_records());
-    if rooms[0] < list.len() {
-        return refused(9, 0);
-    }
-    if rooms[1] < classes.len() {
-        return refused(15, 0);
-    }
-    (Answer::counts(laid_out.tree.len(), pieces, laid_out.sets.len()), [list, classes], Some(written))
+    let counts = Answer::counts(laid_out.tree.len(), pieces, laid_out.sets.len());
+    (counts, [expected::records(&laid_out.tree), laid_out.class_records()], Some(written))
 }
 
-/// Reads an expression of the second syntax into buffers of these lengths, for records and for classes; the list with its
-/// classes, if it is not refused.
-pub fn read_second(e: &[u8], rooms: [usize; 2]) -> Option<List> {
+/// One write in the second syntax into buffers of these lengths, held against its answer and every byte of both buffers.
+fn compare_second_write(e: &[u8], rooms: [usize; 2], checked: Answer, stored: &[Vec<u8>; 2]) -> bool {
     let input = || format!("\"{}\" in the second syntax with buffers of {rooms:?} bytes", e.escape_ascii());
     let [mut records, mut classes] = rooms.map(|room| vec![FILL; room]);
     // SAFETY: as above.
@@ -158,15 +165,41 @@ pub fn read_second(e: &[u8], rooms: [usize; 2]) -> Option<List> {
         let (records_start, classes_start) = (records.as_mut_ptr(), classes.as_mut_ptr());
         foam_read2(e.as_ptr(), e.len(), records_start, records.len(), classes_start, classes.len())
     });
-    let (expected, written, meant) = expected_second(e, rooms);
+    let expected = match (rooms[0] < stored[0].len(), rooms[1] < stored[1].len()) {
+        (true, _) => Answer::refused(9, 0),
+        (false, true) => Answer::refused(15, 0),
+        (false, false) => checked,
+    };
     hold("reading", input, answer, expected);
-    for (what, buffer, front) in [("the record buffer", records, &written[0]), ("the class buffer", classes, &written[1])] {
+    for (what, buffer, front) in [("the record buffer", records, &stored[0]), ("the class buffer", classes, &stored[1])] {
         let mut after = vec![FILL; buffer.len()];
-        after[..front.len()].copy_from_slice(front);
+        if expected.refusal == 0 {
+            after[..front.len()].copy_from_slice(front);
+        }
         hold(what, input, buffer, after);
     }
-    let [list, classes] = written;
-    meant.map(|meant| List { written: Some(meant), ..List::new(list, classes) })
+    expected.refusal == 0
+}
+
+/// Checks an expression of the second syntax, and reads it into buffers of these lengths, for records and for classes; where
+/// the check does not refuse, also into buffers that just fit and with each of them a byte too short. The list with its
+/// classes, if this reading is not refused.
+pub fn read_second(e: &[u8], rooms: [usize; 2]) -> Option<List> {
+    let (checked, stored, meant) = expected_second(e);
+    // SAFETY: as above.
+    let answer = Answer::of(unsafe { foam_check2(e.as_ptr(), e.len()) });
+    hold("checking in the second syntax", || e.escape_ascii().to_string(), answer, checked);
+    if checked.refusal == 0 {
+        let [enough, enough_classes] = [stored[0].len(), stored[1].len()];
+        compare_second_write(e, [enough, enough_classes], checked, &stored);
+        compare_second_write(e, [enough - 1, enough_classes], checked, &stored);
+        if enough_classes > 0 {
+            compare_second_write(e, [enough, enough_classes - 1], checked, &stored);
+        }
+    }
+    let good = compare_second_write(e, rooms, checked, &stored);
+    let [list, classes] = stored;
+    meant.filter(|_| good).map(|meant| List { written: Some(meant), ..List::new(list, classes) })
 }
 
 /// Picks in one call, into a buffer of `room` bytes, where `output` is to be printed.

@@ -18,14 +18,10 @@ fn need(e: &[u8]) -> [usize; 2] {
     })
 }
 
-/// Reads into buffers that just fit, and into each of both when it is a byte too short and when both are.
+/// Reads into buffers that just fit, after both a byte too short.
 fn compare_rooms(e: &[u8]) -> Option<List> {
     let [records, classes] = need(e);
-    calls::read_second(e, [records - 1, classes]);
-    if classes > 0 {
-        calls::read_second(e, [records, classes - 1]);
-        calls::read_second(e, [records - 1, classes - 1]);
-    }
+    calls::read_second(e, [records - 1, classes.saturating_sub(1)]);
     calls::read_second(e, [records, classes])
 }
 

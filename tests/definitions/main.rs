@@ -18,11 +18,24 @@ const END: &str = "<!-- end -->\n";
 /// The functions that make up the product, by their source files.
 const ENTRY_POINTS: [(&str, &[&str]); 6] = [
     ("tree/src/good.rt", &["decide"]),
-    ("reader/src/lib.rt", &["read", "read_second"]),
+    ("reader/src/lib.rt", &["check", "check_second", "read", "read_second"]),
     ("marks/src/lib.rt", &["start", "step"]),
     ("finder/src/lib.rt", &["is_match", "search"]),
     ("picker/src/lib.rt", &["pick"]),
-    ("foamlattice/src/lib.rt", &["foam_read", "foam_read2", "foam_match", "foam_search", "foam_start", "foam_step", "foam_pick"]),
+    (
+        "foamlattice/src/lib.rt",
+        &[
+            "foam_check",
+            "foam_check2",
+            "foam_read",
+            "foam_read2",
+            "foam_match",
+            "foam_search",
+            "foam_start",
+            "foam_step",
+            "foam_pick",
+        ],
+    ),
 ];
 
 /// The crates, lowest first.
