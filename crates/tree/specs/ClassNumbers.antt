@@ -1,5 +1,5 @@
--- The numbers of class leaves, taken off labels: those of a tree's labels are the tree's, and where each is its rank, the
--- class labels before it are as many.
+-- The numbers of class leaves, taken off labels: those of a tree's labels are the tree's, and where each is its rank,
+-- the class labels before it are as many.
 use Prim.Native.Nat.{ℕ, zero, suc, _+_, _*_, _/_, _%_, _≤_, _<_}
 use mathlib.Core.Path.{_≡_, refl, ap, sym, _∙_}
 use mathlib.Core.Bool.{Bool, true, false, cond}

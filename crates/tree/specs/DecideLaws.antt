@@ -227,7 +227,8 @@ module _ (bytes ls : List ℕ) (shown : Labels-of bytes ls) where
 
   -- the records of class leaves are where the labels of the list's tree say so
   kinds-by-tree : (t : Tree Leaf) → bytes ≡ encode t → ls ≡ labels t → Same-kinds bytes ls (length ls)
-  kinds-by-tree t of-tree same = rw (of-tree, same) (kinds-of-tree t (length (labels t)) (omega (arith, length-labels t)))
+  kinds-by-tree t of-tree same =
+      rw (of-tree, same) (kinds-of-tree t (length (labels t)) (omega (arith, length-labels t)))
 
   -- good: every record is the tree's; then the number of each class leaf is its rank, which its label was made of
   pub good-by-records : (pieces classes : ℕ) → Postorder ls → Counts-pieces ls pieces → pieces ≤ most-pieces

@@ -1,10 +1,12 @@
 -- What deciding on a list promises: its tree's counts where it is good, and that no tree makes it good where it is not.
-use Prim.Native.Nat.{ℕ, _+_, _<_}
+use Prim.Native.Nat.{ℕ, _+_, _/_, _≤_, _<_}
 use mathlib.Core.Path.{_≡_}
 use mathlib.Core.List.{List}
-use lib.ListN.{getD}
+use lib.ListN.{length, getD}
 use Rattle.language.specs.Tree.{Tree, nodes}
 use Rattle.tree.specs.Leaf.{Leaf}
+use Rattle.tree.specs.Limits.{most-records}
+use Rattle.tree.specs.Layout.{record-size}
 use Rattle.tree.specs.Records.{piece-count, class-count, Good}
 use Rattle.tree.specs.Parts.{below-each}
 use Rattle.tree.specs.Pieces.{cut-up}
@@ -32,3 +34,7 @@ pub record Judged (bytes : List ℕ) (answer : Decided) : Type 0 where
 pub record Counts-below (bytes slots : List ℕ) : Type 0 where
   pub told : (t : Tree Leaf) → Good bytes t → (r : ℕ) → r < nodes t
       → getD slots (r + 1) 0 ≡ getD (below-each (cut-up t)) r 0
+
+-- a slot for each record of the list, and slot 0, where it has not more records than a good list can have
+pub record Room-to-decide (list slots : List ℕ) : Type 0 where
+  pub for-slots : length list / record-size ≤ most-records → length list / record-size < length slots

@@ -37,6 +37,13 @@ most-labels = 2047
 abbrev pub slot-count : ℕ
 slot-count = 2048
 
+-- the slots of a short list's records, which are fewer, and of a longer one's
+abbrev pub few-slots : ℕ
+few-slots = 128
+
+abbrev pub some-slots : ℕ
+some-slots = 512
+
 -- how many bytes a text has at most
 abbrev pub longest-text : ℕ
 longest-text = 65536

@@ -1,13 +1,12 @@
 -- What the slots hold when the records up to some number are measured: of each subtree its nodes, its open size and its
 -- cut edges.
-use Prim.Native.Nat.{ℕ, _≤_}
+use Prim.Native.Nat.{ℕ, _≤_, _<_}
 use mathlib.Core.Path.{_≡_}
 use mathlib.Core.List.{List}
 use lib.ListN.{length, getD}
 use Rattle.language.specs.Tree.{Tree, nodes}
 use Rattle.tree.specs.Leaf.{Leaf}
 use Rattle.tree.specs.Cut.{open-size}
-use Rattle.tree.specs.Limits.{slot-count}
 use Rattle.tree.specs.Records.{labels, piece-count}
 use Rattle.tree.specs.Seats.{Seat, seats, seat-at, cut-edges, held}
 
@@ -20,11 +19,11 @@ pub record Postorder (ls : List ℕ) : Type 0 where
 abbrev pub node : Tree Leaf → ℕ → Tree Leaf
 node t i = seat-at (seats t 0 1) i .tree
 
--- three lists with a slot for each record there can be, and slot 0
-pub record Room-to-measure (sizes opens cuts : List ℕ) : Type 0 where
-  pub for-sizes : length sizes ≡ slot-count
-  pub for-opens : length opens ≡ slot-count
-  pub for-cuts : length cuts ≡ slot-count
+-- three lists with a slot for each of n records, and slot 0
+pub record Room-to-measure (n : ℕ) (sizes opens cuts : List ℕ) : Type 0 where
+  pub for-sizes : n < length sizes
+  pub for-opens : n < length opens
+  pub for-cuts : n < length cuts
 
 -- slots 0 to i hold that number of the subtrees
 pub record Slots-hold (f : Tree Leaf → ℕ) (t : Tree Leaf) (i : ℕ) (slots : List ℕ) : Type 0 where

@@ -207,11 +207,11 @@ gathered t i left right sizes opens cuts c =
 
 -- one record more is measured
 pub measured-more : (ls : List ℕ) (i size open-here cuts-here : ℕ) (sizes opens cuts : List ℕ) → i < length ls
-    → length ls ≤ most-labels → Room-to-measure sizes opens cuts → Measured ls sizes opens cuts i
+    → Room-to-measure (length ls) sizes opens cuts → Measured ls sizes opens cuts i
     → ((t : Tree Leaf) → ls ≡ labels t → (size ≡ nodes (node t i)) × (open-here ≡ open-size (node t i))
     × (cuts-here ≡ cut-edges (node t i)))
     → Measured ls (set sizes (i + 1) size) (set opens (i + 1) open-here) (set cuts (i + 1) cuts-here) (i + 1)
-measured-more ls i size open-here cuts-here sizes opens cuts h k room m found =
+measured-more ls i size open-here cuts-here sizes opens cuts h room m found =
     record {
       sized = λ t e. holds-more nodes t i sizes size (m .sized t e) (in-tree ls t i e h)
           (omega (arith, room .for-sizes)) (found t e .0);
@@ -222,7 +222,7 @@ measured-more ls i size open-here cuts-here sizes opens cuts h k room m found =
     }
 
 -- before the first record nothing is measured
-pub measured-none : (ls sizes opens cuts : List ℕ) → Room-to-measure sizes opens cuts
+pub measured-none : (ls sizes opens cuts : List ℕ) → Room-to-measure (length ls) sizes opens cuts
     → Measured ls (set sizes 0 0) (set opens 0 0) (set cuts 0 0) 0
 measured-none ls sizes opens cuts room =
     record {
@@ -233,13 +233,13 @@ measured-none ls sizes opens cuts room =
     }
 
 -- stores leave the room
-pub room-stays : (sizes opens cuts : List ℕ) (i a b c : ℕ) → Room-to-measure sizes opens cuts
-    → Room-to-measure (set sizes i a) (set opens i b) (set cuts i c)
-room-stays sizes opens cuts i a b c room =
+pub room-stays : (n : ℕ) (sizes opens cuts : List ℕ) (i a b c : ℕ) → Room-to-measure n sizes opens cuts
+    → Room-to-measure n (set sizes i a) (set opens i b) (set cuts i c)
+room-stays n sizes opens cuts i a b c room =
     record {
-      for-sizes = length-set sizes i a ∙ room .for-sizes;
-      for-opens = length-set opens i b ∙ room .for-opens;
-      for-cuts = length-set cuts i c ∙ room .for-cuts;
+      for-sizes = rw (length-set sizes i a) (room .for-sizes);
+      for-opens = rw (length-set opens i b) (room .for-opens);
+      for-cuts = rw (length-set cuts i c) (room .for-cuts);
     }
 
 -- the root's slot holds the whole tree's number

@@ -1,6 +1,7 @@
 -- The seat of a record: the subtree whose root it holds, its piece, and the number of the first new piece below it. A
 -- tree's seats stand in the order of its records. A slot is a record's number plus 1, and slot 0 stands for a child
--- that is not there: so a star is a pair without a right child, a leaf a pair without any, and one rule serves all kinds.
+-- that is not there: so a star is a pair without a right child, a leaf a pair without any, and one rule serves all
+-- kinds.
 use Prim.Native.Nat.{ℕ, _+_, _-_, _%_, _≤_, _<_}
 use mathlib.Core.Path.{_≡_}
 use mathlib.Core.Bool.{Bool, cond, _||_}

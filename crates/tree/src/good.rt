@@ -6,23 +6,25 @@ use crate::layout::is_record;
 use crate::layout::kind_at;
 use crate::layout::label_with;
 use crate::layout::one_if_class;
+use crate::limits::FEW_SLOTS;
 use crate::limits::MOST_PIECES;
 use crate::limits::MOST_RECORDS;
 use crate::limits::SLOT_COUNT;
+use crate::limits::SOME_SLOTS;
 use crate::number::piece_count;
 use crate::order::one_tree;
 use crate::slots::child_number;
 use crate::slots::left_slot;
 use crate::slots::right_slot;
 ghost use mathlib.Core.Path.{_≡_};
-ghost use Prim.Native.Nat.{_*_, _/_, _%_, _≤_};
+ghost use Prim.Native.Nat.{_*_, _/_, _%_, _≤_, _<_};
 ghost use lib.ListN.{length};
-ghost use Rattle.tree.specs.Limits.{most-labels, most-records, slot-count};
+ghost use Rattle.tree.specs.Limits.{few-slots, some-slots, most-labels, most-records};
 ghost use Rattle.tree.specs.Layout.{record-size, class-records};
 ghost use Rattle.tree.specs.Measured.{Postorder, Sized, Room-to-measure, Measured};
 ghost use Rattle.tree.specs.Handed.{Pieced};
 ghost use Rattle.tree.specs.Readback.{Labels-of};
-ghost use Rattle.tree.specs.Judged.{Judged, Counts-below};
+ghost use Rattle.tree.specs.Judged.{Judged, Counts-below, Room-to-decide};
 ghost use Rattle.tree.specs.Decide.{Taken, Compared};
 
 // What deciding on a list answers.
@@ -58,7 +60,7 @@ fn take_labels(list: &[u8], labels: &mut [u16]) -> usize
 fn compare(list: &[u8], labels: &[u16], sizes: &[u16], pieces: &[u16]) -> bool
     requires { ⌜ Postorder (now labels) ⌝ }
     requires { ⌜ (length (now labels) ≤ most-labels) × (length (now list) ≡ record-size * length (now labels)) ⌝ }
-    requires { ⌜ (length (now sizes) ≡ slot-count) × (length (now pieces) ≡ slot-count) ⌝ }
+    requires { ⌜ (length (now labels) < length (now sizes)) × (length (now labels) < length (now pieces)) ⌝ }
     requires { ⌜ Sized (now labels) (now sizes) × Pieced (now labels) (now pieces) ⌝ }
     ensures { λ b. ⌜ Compared (now (labels .entry)) (now (list .entry)) b ⌝ }
 {
@@ -77,63 +79,187 @@ fn compare(list: &[u8], labels: &[u16], sizes: &[u16], pieces: &[u16]) -> bool
     true
 }
 
-// Whether the list is that of the tree with these labels, which is measured.
-fn is_list(list: &[u8], labels: &[u16], sizes: &[u16], opens: &[u16], cuts: &[u16]) -> bool
+// Whether the list is that of the tree with these labels, which is measured. The pieces are worked out in lent slots.
+fn is_list(
+    list: &[u8],
+    labels: &[u16],
+    sizes: &[u16],
+    opens: &[u16],
+    cuts: &[u16],
+    pieces: &mut [u16],
+    news: &mut [u16],
+) -> bool
     requires { ⌜ Postorder (now labels) ⌝ }
     requires { ⌜ (length (now labels) ≤ most-labels) × (length (now list) ≡ record-size * length (now labels)) ⌝ }
-    requires { ⌜ Room-to-measure (now sizes) (now opens) (now cuts) ⌝ }
+    requires { ⌜ Room-to-measure (length (now labels)) (now sizes) (now opens) (now cuts) ⌝ }
     requires { ⌜ Measured (now labels) (now sizes) (now opens) (now cuts) (length (now labels)) ⌝ }
+    requires { ⌜ (length (now labels) < length (now pieces)) × (length (now labels) < length (now news)) ⌝ }
     ensures { λ b. ⌜ Compared (now (labels .entry)) (now (list .entry)) b ⌝ }
 {
-    let mut pieces = [0u16; SLOT_COUNT];
-    let mut news = [0u16; SLOT_COUNT];
-    hand_down(labels, sizes, opens, cuts, &mut pieces, &mut news);
-    compare(list, labels, sizes, &pieces)
+    hand_down(labels, sizes, opens, cuts, pieces, news);
+    compare(list, labels, sizes, pieces)
 }
 
 // Decides on a list with these labels and as many class leaves, and measures its tree.
-fn decide_by(list: &[u8], labels: &[u16], classes: usize, cuts: &mut [u16]) -> Decided
+fn decide_by(
+    list: &[u8],
+    labels: &[u16],
+    classes: usize,
+    sizes: &mut [u16],
+    opens: &mut [u16],
+    cuts: &mut [u16],
+    pieces: &mut [u16],
+    news: &mut [u16],
+) -> Decided
     requires { ⌜ Labels-of (now list) (now labels) ⌝ }
-    requires { ⌜ classes ≡ class-records (now list) (length (now labels)) ⌝ }
-    requires { ⌜ (length (now labels) ≤ most-records) × (length (now cuts) ≡ slot-count) ⌝ }
+    requires { ⌜ (length (now labels) ≤ most-records) × (classes ≡ class-records (now list) (length (now labels))) ⌝ }
+    requires { ⌜ Room-to-measure (length (now labels)) (now sizes) (now opens) (now cuts) ⌝ }
+    requires { ⌜ (length (now labels) < length (now pieces)) × (length (now labels) < length (now news)) ⌝ }
     ensures { λ r. ⌜ Judged (now (list .entry)) r ⌝ }
     ensures { λ _. ⌜ Counts-below (now (list .entry)) (now (cuts .exit)) ⌝ }
 {
     if !one_tree(labels) {
         return Decided::NotGood;
     }
-    let mut sizes = [0u16; SLOT_COUNT];
-    let mut opens = [0u16; SLOT_COUNT];
-    let pieces = piece_count(labels, &mut sizes, &mut opens, cuts);
-    if MOST_PIECES < pieces {
+    let count = piece_count(labels, sizes, opens, cuts);
+    if MOST_PIECES < count {
         return Decided::NotGood;
     }
-    if is_list(list, labels, &sizes, &opens, cuts) {
+    if is_list(list, labels, sizes, opens, cuts, pieces, news) {
         return Decided::Good {
             records: labels.len(),
-            pieces,
+            pieces: count,
             classes,
         };
     }
     Decided::NotGood
 }
 
-// Decides on a list of whole records, with room for the labels of a good list.
-fn decide_in(list: &[u8], labels: &mut [u16], cuts: &mut [u16]) -> Decided
+// Decides on a list of whole records, with room for the labels and the slots of that many.
+fn decide_in(
+    list: &[u8],
+    labels: &mut [u16],
+    sizes: &mut [u16],
+    opens: &mut [u16],
+    cuts: &mut [u16],
+    pieces: &mut [u16],
+    news: &mut [u16],
+) -> Decided
     requires { ⌜ (length (now list) % record-size ≡ 0) × (length (now list) / record-size ≤ most-records) ⌝ }
-    requires { ⌜ (length (now labels) ≡ most-records) × (length (now cuts) ≡ slot-count) ⌝ }
+    requires { ⌜ length (now list) / record-size ≤ length (now labels) ⌝ }
+    requires { ⌜ Room-to-measure (length (now list) / record-size) (now sizes) (now opens) (now cuts) ⌝ }
+    requires { ⌜ (length (now list) / record-size < length (now pieces))
+        × (length (now list) / record-size < length (now news)) ⌝ }
     ensures { λ r. ⌜ Judged (now (list .entry)) r ⌝ }
     ensures { λ _. ⌜ Counts-below (now (list .entry)) (now (cuts .exit)) ⌝ }
 {
     let n = list.len() / RECORD_SIZE;
     let classes = take_labels(list, &mut labels[..n]);
-    decide_by(list, &labels[..n], classes, cuts)
+    decide_by(
+        list,
+        &labels[..n],
+        classes,
+        sizes,
+        opens,
+        cuts,
+        pieces,
+        news,
+    )
 }
 
-// Decides whether a list is good, and counts its records, pieces and class leaves. Of a good list, `cuts` tells the pieces below each
-// record's node. No good list has more than 1,920 records.
+// Decides on a short list of whole records, in small arrays.
+fn decide_few(list: &[u8], cuts: &mut [u16]) -> Decided
+    requires { ⌜ (length (now list) % record-size ≡ 0) × (length (now list) / record-size < few-slots) ⌝ }
+    requires { ⌜ length (now list) / record-size < length (now cuts) ⌝ }
+    ensures { λ r. ⌜ Judged (now (list .entry)) r ⌝ }
+    ensures { λ _. ⌜ Counts-below (now (list .entry)) (now (cuts .exit)) ⌝ }
+{
+    let mut labels = [0u16; FEW_SLOTS];
+    let mut sizes = [0u16; FEW_SLOTS];
+    let mut opens = [0u16; FEW_SLOTS];
+    let mut pieces = [0u16; FEW_SLOTS];
+    let mut news = [0u16; FEW_SLOTS];
+    decide_in(
+        list,
+        &mut labels,
+        &mut sizes,
+        &mut opens,
+        cuts,
+        &mut pieces,
+        &mut news,
+    )
+}
+
+// Decides on a longer one.
+fn decide_some(list: &[u8], cuts: &mut [u16]) -> Decided
+    requires { ⌜ (length (now list) % record-size ≡ 0) × (length (now list) / record-size < some-slots) ⌝ }
+    requires { ⌜ length (now list) / record-size < length (now cuts) ⌝ }
+    ensures { λ r. ⌜ Judged (now (list .entry)) r ⌝ }
+    ensures { λ _. ⌜ Counts-below (now (list .entry)) (now (cuts .exit)) ⌝ }
+{
+    let mut labels = [0u16; SOME_SLOTS];
+    let mut sizes = [0u16; SOME_SLOTS];
+    let mut opens = [0u16; SOME_SLOTS];
+    let mut pieces = [0u16; SOME_SLOTS];
+    let mut news = [0u16; SOME_SLOTS];
+    decide_in(
+        list,
+        &mut labels,
+        &mut sizes,
+        &mut opens,
+        cuts,
+        &mut pieces,
+        &mut news,
+    )
+}
+
+// Decides on the longest that there can be.
+fn decide_many(list: &[u8], cuts: &mut [u16]) -> Decided
+    requires { ⌜ (length (now list) % record-size ≡ 0) × (length (now list) / record-size ≤ most-records) ⌝ }
+    requires { ⌜ length (now list) / record-size < length (now cuts) ⌝ }
+    ensures { λ r. ⌜ Judged (now (list .entry)) r ⌝ }
+    ensures { λ _. ⌜ Counts-below (now (list .entry)) (now (cuts .exit)) ⌝ }
+{
+    let mut labels = [0u16; SLOT_COUNT];
+    let mut sizes = [0u16; SLOT_COUNT];
+    let mut opens = [0u16; SLOT_COUNT];
+    let mut pieces = [0u16; SLOT_COUNT];
+    let mut news = [0u16; SLOT_COUNT];
+    decide_in(
+        list,
+        &mut labels,
+        &mut sizes,
+        &mut opens,
+        cuts,
+        &mut pieces,
+        &mut news,
+    )
+}
+
+// Decides in the smallest arrays that have room: most of what a short list costs is setting them to 0. It calls itself
+// with more slots, so that each size has a stack frame of its own.
+fn decide_within(list: &[u8], slots: usize, cuts: &mut [u16]) -> Decided
+    requires { ⌜ (length (now list) % record-size ≡ 0) × (length (now list) / record-size ≤ most-records) ⌝ }
+    requires { ⌜ (length (now list) / record-size < length (now cuts)) × (1 ≤ slots) ⌝ }
+    ensures { λ r. ⌜ Judged (now (list .entry)) r ⌝ }
+    ensures { λ _. ⌜ Counts-below (now (list .entry)) (now (cuts .exit)) ⌝ }
+{
+    if slots <= list.len() / RECORD_SIZE {
+        return decide_within(list, 4 * slots, cuts);
+    }
+    if slots <= FEW_SLOTS {
+        return decide_few(list, cuts);
+    }
+    if slots <= SOME_SLOTS {
+        return decide_some(list, cuts);
+    }
+    decide_many(list, cuts)
+}
+
+// Decides whether a list is good, and counts its records, pieces and class leaves. Of a good list, `cuts` tells the
+// pieces below each record's node. No good list has more than 1,920 records.
 pub fn decide_with(list: &[u8], cuts: &mut [u16]) -> Decided
-    requires { ⌜ length (now cuts) ≡ slot-count ⌝ }
+    requires { ⌜ Room-to-decide (now list) (now cuts) ⌝ }
     ensures { λ r. ⌜ Judged (now (list .entry)) r ⌝ }
     ensures { λ _. ⌜ Counts-below (now (list .entry)) (now (cuts .exit)) ⌝ }
 {
@@ -143,8 +269,7 @@ pub fn decide_with(list: &[u8], cuts: &mut [u16]) -> Decided
     if MOST_RECORDS < list.len() / RECORD_SIZE {
         return Decided::NotGood;
     }
-    let mut labels = [0u16; MOST_RECORDS];
-    decide_in(list, &mut labels, cuts)
+    decide_within(list, FEW_SLOTS, cuts)
 }
 
 // Decides whether a list is good, and counts its records, pieces and class leaves.

@@ -6,10 +6,9 @@ use crate::cut::one_if;
 use crate::cut::piece_below;
 use crate::slots::left_slot;
 use crate::slots::right_slot;
-ghost use mathlib.Core.Path.{_≡_};
-ghost use Prim.Native.Nat.{_≤_};
+ghost use Prim.Native.Nat.{_≤_, _<_};
 ghost use lib.ListN.{length};
-ghost use Rattle.tree.specs.Limits.{most-labels, slot-count};
+ghost use Rattle.tree.specs.Limits.{most-labels};
 ghost use Rattle.tree.specs.Measured.{Postorder, Room-to-measure, Measured};
 ghost use Rattle.tree.specs.Handed.{Pieced};
 
@@ -24,9 +23,9 @@ pub fn hand_down(
 )
     requires { ⌜ Postorder (now labels) ⌝ }
     requires { ⌜ length (now labels) ≤ most-labels ⌝ }
-    requires { ⌜ Room-to-measure (now sizes) (now opens) (now cuts) ⌝ }
+    requires { ⌜ Room-to-measure (length (now labels)) (now sizes) (now opens) (now cuts) ⌝ }
     requires { ⌜ Measured (now labels) (now sizes) (now opens) (now cuts) (length (now labels)) ⌝ }
-    requires { ⌜ (length (now pieces) ≡ slot-count) × (length (now news) ≡ slot-count) ⌝ }
+    requires { ⌜ (length (now labels) < length (now pieces)) × (length (now labels) < length (now news)) ⌝ }
     ensures { λ _. ⌜ Pieced (now (labels .entry)) (now (pieces .exit)) ⌝ }
 {
     let mut i = labels.len();

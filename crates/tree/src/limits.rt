@@ -16,5 +16,9 @@ pub const MOST_GROUPS: usize = 32;
 pub const MOST_LABELS: usize = 2047;
 // The slots of the nodes of such a tree, and slot 0.
 pub const SLOT_COUNT: usize = 2048;
+// The slots of a short list's records, and of a longer one's: lists with fewer records take arrays of these sizes.
+pub const FEW_SLOTS: usize = 128;
+
+pub const SOME_SLOTS: usize = 512;
 // How many bytes a text has at most.
 pub const LONGEST_TEXT: usize = 65536;

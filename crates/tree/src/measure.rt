@@ -12,7 +12,7 @@ ghost use Rattle.tree.specs.Measured.{Postorder, Room-to-measure, Measur
 pub fn measure(labels: &[u16], sizes: &mut [u16], opens: &mut [u16], cuts: &mut [u16])
     requires { ⌜ Postorder (now labels) ⌝ }
     requires { ⌜ length (now labels) ≤ most-labels ⌝ }
-    requires { ⌜ Room-to-measure (now sizes) (now opens) (now cuts) ⌝ }
+    requires { ⌜ Room-to-measure (length (now labels)) (now sizes) (now opens) (now cuts) ⌝ }
     ensures { λ _. ⌜ Measured (now (labels .entry)) (now (sizes .exit)) (now (opens .exit)) (now (cuts .exit))
         (length (now (labels .entry))) ⌝ }
 {

@@ -14,7 +14,7 @@ ghost use Rattle.tree.specs.Recording.{Recorded};
 pub fn piece_count(labels: &[u16], sizes: &mut [u16], opens: &mut [u16], cuts: &mut [u16]) -> usize
     requires { ⌜ Postorder (now labels) ⌝ }
     requires { ⌜ length (now labels) ≤ most-labels ⌝ }
-    requires { ⌜ Room-to-measure (now sizes) (now opens) (now cuts) ⌝ }
+    requires { ⌜ Room-to-measure (length (now labels)) (now sizes) (now opens) (now cuts) ⌝ }
     ensures { λ _. ⌜ Measured (now (labels .entry)) (now (sizes .exit)) (now (opens .exit)) (now (cuts .exit))
         (length (now (labels .entry))) ⌝ }
     ensures { λ r. ⌜ Counts-pieces (now (labels .entry)) r ⌝ }
@@ -27,7 +27,7 @@ pub fn piece_count(labels: &[u16], sizes: &mut [u16], opens: &mut [u16], cuts: &
 pub fn write_records(labels: &[u16], sizes: &[u16], opens: &[u16], cuts: &[u16], out: &mut [u8])
     requires { ⌜ Postorder (now labels) ⌝ }
     requires { ⌜ length (now labels) ≤ most-labels ⌝ }
-    requires { ⌜ Room-to-measure (now sizes) (now opens) (now cuts) ⌝ }
+    requires { ⌜ Room-to-measure (length (now labels)) (now sizes) (now opens) (now cuts) ⌝ }
     requires { ⌜ Measured (now labels) (now sizes) (now opens) (now cuts) (length (now labels)) ⌝ }
     requires { ⌜ record-size * length (now labels) ≤ length (now out) ⌝ }
     ensures { λ _. ⌜ Recorded (now (labels .entry)) (now (out .entry)) (now (out .exit)) ⌝ }

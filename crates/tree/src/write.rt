@@ -3,10 +3,9 @@ use crate::layout::write_record;
 use crate::slots::child_number;
 use crate::slots::left_slot;
 use crate::slots::right_slot;
-ghost use mathlib.Core.Path.{_≡_};
-ghost use Prim.Native.Nat.{_*_, _≤_};
+ghost use Prim.Native.Nat.{_*_, _≤_, _<_};
 ghost use lib.ListN.{length};
-ghost use Rattle.tree.specs.Limits.{most-labels, slot-count};
+ghost use Rattle.tree.specs.Limits.{most-labels};
 ghost use Rattle.tree.specs.Layout.{record-size};
 ghost use Rattle.tree.specs.Measured.{Postorder, Sized};
 ghost use Rattle.tree.specs.Handed.{Pieced};
@@ -16,7 +15,7 @@ ghost use Rattle.tree.specs.Recording.{Recorded};
 pub fn write_all(labels: &[u16], sizes: &[u16], pieces: &[u16], out: &mut [u8])
     requires { ⌜ Postorder (now labels) ⌝ }
     requires { ⌜ length (now labels) ≤ most-labels ⌝ }
-    requires { ⌜ (length (now sizes) ≡ slot-count) × (length (now pieces) ≡ slot-count) ⌝ }
+    requires { ⌜ (length (now labels) < length (now sizes)) × (length (now labels) < length (now pieces)) ⌝ }
     requires { ⌜ Sized (now labels) (now sizes) × Pieced (now labels) (now pieces) ⌝ }
     requires { ⌜ record-size * length (now labels) ≤ length (now out) ⌝ }
     ensures { λ _. ⌜ Recorded (now (labels .entry)) (now (out .entry)) (now (out .exit)) ⌝ }

@@ -15,7 +15,17 @@ slice-aggregate-piece-count-3 : tie.Need-slice-aggregate-piece-count-3
 slice-aggregate-piece-count-3 c = search needs
 
 piece-count-requires : tie.Need-piece-count-requires
-piece-count-requires c κs = search needs
+piece-count-requires c κs = let s = c .before .before .before .before in (
+  s .pre .0,
+  (
+    s .pre .1,
+    record {
+      for-sizes = omega (arith, s .pre .1);
+      for-opens = omega (arith, s .pre .1);
+      for-cuts = omega (arith, s .pre .1);
+    },
+  ),
+)
 
 returns : tie.Need-returns
 returns c =

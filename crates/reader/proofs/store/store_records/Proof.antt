@@ -1,5 +1,5 @@
 -- `reader::store::store_records` meets its contract: the tree is measured, and its records are written.
-
+use native.Mathlib.Omega.{arith}
 use borrow.Author.Needs.{needs}
 use Rattle.reader.proofs.store.store_records.Statement.{statement}
 use Rattle.reader.proofs.store.store_records.Tie as tie
@@ -14,7 +14,17 @@ slice-aggregate-piece-count-3 : tie.Need-slice-aggregate-piece-count-3
 slice-aggregate-piece-count-3 c = search needs
 
 piece-count-requires : tie.Need-piece-count-requires
-piece-count-requires c κs = search needs
+piece-count-requires c κs = let s = c .before .before .before .before .before in (
+  s .pre .0,
+  (
+    s .pre .1 .0,
+    record {
+      for-sizes = omega (arith, s .pre .1 .0);
+      for-opens = omega (arith, s .pre .1 .0);
+      for-cuts = omega (arith, s .pre .1 .0);
+    },
+  ),
+)
 
 slice-aggregate-write-records : tie.Need-slice-aggregate-write-records
 slice-aggregate-write-records c = search needs
@@ -34,9 +44,9 @@ write-records-requires c κs =
         s .pre .1 .0,
         (
           record {
-            for-sizes = m .piece-count .kept .1 .0;
-            for-opens = m .piece-count .kept .1 .1 .0;
-            for-cuts = m .piece-count .kept .1 .1 .1 .0;
+            for-sizes = omega (arith, m .piece-count .kept .1 .0, s .pre .1 .0);
+            for-opens = omega (arith, m .piece-count .kept .1 .1 .0, s .pre .1 .0);
+            for-cuts = omega (arith, m .piece-count .kept .1 .1 .1 .0, s .pre .1 .0);
           },
           (m .piece-count .ensures .0, s .pre .1 .1),
         ),

@@ -15,7 +15,7 @@ use Rattle.tree.proofs.good.decide_in.Tie as tie
 
 -- where the function starts, from where the labels are lent and from where they were taken off
 abbrev lent : tie.After-take-labels-arg → tie.Start
-lent c = c .before .before .before .before
+lent c = c .before .before .before .before .before .before .before .before
 
 abbrev start : tie.After-take-labels → tie.Start
 start c = lent (c .before)
@@ -52,15 +52,27 @@ slice-aggregate-decide-by c = omega (arith, front (c .before .before .before) .l
 
 decide-by-requires : tie.Need-decide-by-requires
 decide-by-requires c κs =
-    let t = c .before .before .before .before in
+    let t = c .before .before .before .before .before .before .before .before in
     let s = start t in
     let n = length (s .args .list .now) / record-size in
-    let labels = take n (t .take-labels .last .1 .0 ++ drop n (s .args .labels .now)) in (
+    let labels = take n (t .take-labels .last .1 .0 ++ drop n (s .args .labels .now)) in
+    let all = front t .long in
+    let room = s .pre .1 .1 .0 in (
       front t,
       (
-        front-classes (s .args .list .now) (s .args .labels .now) labels (t .take-labels .result) (s .pre .0 .0)
-            (omega arith) (front t) (t .take-labels .ensures .1),
-        (omega (arith, front t .long), s .pre .1 .1),
+        (
+          omega (arith, all, s .pre .0 .1),
+          front-classes (s .args .list .now) (s .args .labels .now) labels (t .take-labels .result) (s .pre .0 .0)
+              (s .pre .1 .0) (front t) (t .take-labels .ensures .1),
+        ),
+        (
+          record {
+            for-sizes = omega (arith, all, room .for-sizes);
+            for-opens = omega (arith, all, room .for-opens);
+            for-cuts = omega (arith, all, room .for-cuts);
+          },
+          (omega (arith, all, s .pre .1 .1 .1 .0), omega (arith, all, s .pre .1 .1 .1 .1)),
+        ),
       ),
     )
 
@@ -69,6 +81,18 @@ same-length c = search needs
 
 same-length-2 : tie.Need-same-length-2
 same-length-2 c = search needs
+
+same-length-3 : tie.Need-same-length-3
+same-length-3 c = search needs
+
+same-length-4 : tie.Need-same-length-4
+same-length-4 c = search needs
+
+same-length-5 : tie.Need-same-length-5
+same-length-5 c = search needs
+
+same-length-6 : tie.Need-same-length-6
+same-length-6 c = search needs
 
 returns : tie.Need-returns
 returns c = search needs
@@ -85,4 +109,8 @@ decide-in-spec =
     decide-by-requires
     same-length
     same-length-2
+    same-length-3
+    same-length-4
+    same-length-5
+    same-length-6
     returns)

@@ -17,11 +17,10 @@ returns-2 c =
     let judged = not-by-size (s .args .list .now) (c .if2 .taken) in
     (judged, counts-nothing (s .args .list .now) (s .args .cuts .now) judged)
 
-slice-aggregate-decide-in : tie.Need-slice-aggregate-decide-in
-slice-aggregate-decide-in c = search needs
-
-decide-in-requires : tie.Need-decide-in-requires
-decide-in-requires c κs = ((omega arith, omega arith), (search needs, search needs))
+decide-within-requires : tie.Need-decide-within-requires
+decide-within-requires c κs =
+    let s = c .before .before .before .before .before in
+    ((omega arith, omega arith), (s .pre .for-slots (omega arith), omega arith))
 
 same-length : tie.Need-same-length
 same-length c = search needs
@@ -30,6 +29,4 @@ returns-3 : tie.Need-returns-3
 returns-3 c = search needs
 
 pub decide-with-spec : {M : Type 1} → statement M
-decide-with-spec =
-    tie.close
-    (tie.spec returns returns-2 slice-aggregate-decide-in decide-in-requires same-length returns-3)
+decide-with-spec = tie.close (tie.spec returns returns-2 decide-within-requires same-length returns-3)

@@ -2,8 +2,8 @@
 -- to their children.
 -- A turn hands on those of record `i - 1`, which its own slot holds; that a tree has these labels bounds them all. The
 -- measure is `i`.
-use Prim.Native.Nat.{_≤_, _-_}
-use mathlib.Core.Path.{_≡_, ap}
+use Prim.Native.Nat.{_≤_, _<_, _-_}
+use mathlib.Core.Path.{_≡_, refl, ap}
 use native.Mathlib.Omega.{arith}
 use lib.ListN.{length, length-set}
 use Rattle.tree.specs.Cut.{one}
@@ -22,8 +22,9 @@ use Rattle.tree.proofs.slots.left_slot.Reads as left-slot-reads
 use Rattle.tree.proofs.slots.right_slot.Reads as right-slot-reads
 
 abbrev Inv-loop : tie.InvT-loop
-Inv-loop labels sizes opens cuts pieces₀ news₀ i₀ pieces news i = (i ≤ length labels) × (length pieces ≡ 2048)
-    × (length news ≡ 2048) × Handed labels pieces news i
+Inv-loop labels sizes opens cuts pieces₀ news₀ i₀ pieces news i =
+    (i ≤ length labels) × (length labels < length pieces) × (length labels < length news) × Handed labels pieces news i
+    × (length pieces ≡ length pieces₀) × (length news ≡ length news₀)
 
 abbrev μ-loop : tie.MeasureT-loop
 μ-loop labels sizes opens cuts pieces₀ news₀ i₀ pieces news i = i
@@ -52,6 +53,8 @@ loop-holds c =
       simp length-set (s .pre .1 .1 .1 .1 .0),
       simp length-set (s .pre .1 .1 .1 .1 .1),
       handed-none ls (s .args .pieces .now) (s .args .news .now) (omega arith) (omega arith),
+      refl,
+      refl,
     )
 
 mul-own : tie.Need-mul-own Inv-loop μ-loop
@@ -228,13 +231,19 @@ loop-again c =
           (c .before .before .before .before .before .one-if .ensures) (c .before .one-if2 .ensures)
           (c .one-if3 .ensures)
           (c .before .before .before .piece-below .ensures) (c .before .before .piece-below2 .ensures),
+      simp length-set (omega (arith, length-set (s .args .pieces .now) (length (s .args .labels .now)) 0)),
+      simp length-set (omega (arith, length-set (s .args .news .now) (length (s .args .labels .now)) 1)),
     )
 
 same-length : tie.Need-same-length Inv-loop μ-loop
-same-length c = omega arith
+same-length c =
+    let s = start (c .before) in
+    omega (arith, length-set (s .args .pieces .now) (length (s .args .labels .now)) 0)
 
 same-length-2 : tie.Need-same-length-2 Inv-loop μ-loop
-same-length-2 c = omega arith
+same-length-2 c =
+    let s = start (c .before) in
+    omega (arith, length-set (s .args .news .now) (length (s .args .labels .now)) 1)
 
 returns : tie.Need-returns Inv-loop μ-loop
 returns c =

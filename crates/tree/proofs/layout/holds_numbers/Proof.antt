@@ -1,4 +1,5 @@
--- `tree::layout::holds_numbers` meets its contract: a number that is not there is the reason for no, and all four for yes.
+-- `tree::layout::holds_numbers` meets its contract: a number that is not there is the reason for no, and all four for
+-- yes.
 use mathlib.Core.Path.{_≡_}
 use borrow.Author.Tests.{not-true, not-false}
 use borrow.Author.Needs.{needs}

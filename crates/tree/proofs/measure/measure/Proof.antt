@@ -2,9 +2,9 @@
 -- the children's slots, which the invariant speaks of, and the laws of the specs gather the record's own numbers from
 -- theirs; that a tree has these labels bounds them all. The measure is what is left of the labels.
 use Prim.Native.Nat.{_+_, _≤_, _-_}
-use mathlib.Core.Path.{_≡_, _∙_}
+use mathlib.Core.Path.{_≡_, refl, _∙_}
 use native.Mathlib.Omega.{arith}
-use lib.ListN.{length, getD}
+use lib.ListN.{length, getD, length-set}
 use Rattle.language.specs.Tree.{Tree}
 use Rattle.tree.specs.Leaf.{Leaf}
 use Rattle.tree.specs.Records.{labels}
@@ -20,8 +20,9 @@ use Rattle.tree.proofs.slots.left_slot.Reads as left-slot-reads
 use Rattle.tree.proofs.slots.right_slot.Reads as right-slot-reads
 
 abbrev Inv-loop : tie.InvT-loop
-Inv-loop labels sizes₀ opens₀ cuts₀ i₀ sizes opens cuts i = (i ≤ length labels) × Room-to-measure sizes opens cuts
-    × Measured labels sizes opens cuts i
+Inv-loop labels sizes₀ opens₀ cuts₀ i₀ sizes opens cuts i =
+    (i ≤ length labels) × Room-to-measure (length labels) sizes opens cuts × Measured labels sizes opens cuts i
+    × (length sizes ≡ length sizes₀) × (length opens ≡ length opens₀) × (length cuts ≡ length cuts₀)
 
 abbrev μ-loop : tie.MeasureT-loop
 μ-loop labels sizes₀ opens₀ cuts₀ i₀ sizes opens cuts i = length labels - i
@@ -44,8 +45,12 @@ loop-holds c =
     let s = c .before .before .before .before in
     let room = s .pre .1 .1 in (
       omega arith,
-      room-stays (s .args .sizes .now) (s .args .opens .now) (s .args .cuts .now) 0 0 0 0 room,
+      room-stays (length (s .args .labels .now)) (s .args .sizes .now) (s .args .opens .now) (s .args .cuts .now) 0 0 0 0
+          room,
       measured-none (s .args .labels .now) (s .args .sizes .now) (s .args .opens .now) (s .args .cuts .now) room,
+      refl,
+      refl,
+      refl,
     )
 
 mul-label : tie.Need-mul-label Inv-loop μ-loop
@@ -180,25 +185,29 @@ loop-again c =
     let l = head f in
     let s = start l in (
       omega arith,
-      room-stays (l .loop .sizes) (l .loop .opens) (l .loop .cuts) (l .loop .i + 1) _ _ _ (l .loop .inv .1),
+      room-stays (length (s .args .labels .now)) (l .loop .sizes) (l .loop .opens) (l .loop .cuts) (l .loop .i + 1) _ _ _
+          (l .loop .inv .1),
       measured-more (s .args .labels .now) (l .loop .i) _ (c .before .before .before .open-size .result)
           (c .cut-count .result) (l .loop .sizes) (l .loop .opens) (l .loop .cuts)
-          (f .before .before .before .before .loop-test .taken) (s .pre .1 .0) (l .loop .inv .1) (l .loop .inv .2)
+          (f .before .before .before .before .loop-test .taken) (l .loop .inv .1) (l .loop .inv .2)
           (λ t e. (
             found f t e .size-is,
             c .before .before .before .open-size .ensures ∙ found f t e .open-is,
             c .cut-count .ensures ∙ found f t e .cuts-is,
           )),
+      simp length-set (omega (arith, length-set (s .args .sizes .now) 0 0)),
+      simp length-set (omega (arith, length-set (s .args .opens .now) 0 0)),
+      simp length-set (omega (arith, length-set (s .args .cuts .now) 0 0)),
     )
 
 same-length : tie.Need-same-length Inv-loop μ-loop
-same-length c = omega arith
+same-length c = omega (arith, length-set (start (c .before) .args .sizes .now) 0 0)
 
 same-length-2 : tie.Need-same-length-2 Inv-loop μ-loop
-same-length-2 c = omega arith
+same-length-2 c = omega (arith, length-set (start (c .before) .args .opens .now) 0 0)
 
 same-length-3 : tie.Need-same-length-3 Inv-loop μ-loop
-same-length-3 c = omega arith
+same-length-3 c = omega (arith, length-set (start (c .before) .args .cuts .now) 0 0)
 
 returns : tie.Need-returns Inv-loop μ-loop
 returns c =

@@ -1,5 +1,6 @@
 -- `tree::number::write_records` meets its contract: the pieces are handed down by what was measured, and then all is
 -- there that a record is written by.
+use native.Mathlib.Omega.{arith}
 use borrow.Author.Needs.{needs}
 use Rattle.tree.proofs.number.write_records.Statement.{statement}
 use Rattle.tree.proofs.number.write_records.Tie as tie
@@ -30,7 +31,7 @@ write-all-requires c κs =
       (
         pre .1 .0,
         (
-          (pre .1 .1 .0 .for-sizes, h .hand-down .kept .1 .1 .1 .1 .0),
+          (pre .1 .1 .0 .for-sizes, omega (arith, h .hand-down .kept .1 .1 .1 .1 .0, pre .1 .0)),
           ((record { sized = pre .1 .1 .1 .0 .sized }, h .hand-down .ensures), pre .1 .1 .1 .1),
         ),
       ),
