@@ -5,18 +5,17 @@ use mathlib.Core.List.{List, [], _∷_}
 use native.Mathlib.Omega.{arith}
 use lib.ListN.{length, getD}
 use denote.Enum.Declared.{tagOf}
-use Rattle.tree.specs.Limits.{slot-count}
 use Rattle.tree.specs.RefusalNumbers.{list-not-good, too-few-words, words-not-marks, class-buffer-too-short}
 use Rattle.language.specs.Tree.{Tree}
 use Rattle.tree.specs.Leaf.{Leaf}
 use Rattle.tree.specs.Layout.{class-record-size}
 use Rattle.tree.specs.Records.{Good}
 use Rattle.tree.specs.Readback.{good-unique}
-use Rattle.tree.specs.Judged.{Judged, Counts-below}
+use Rattle.tree.specs.Judged.{Judged, Counts-below, Room-to-decide}
 use Rattle.tree.specs.declared.good.Decided.{Decided}
 use Rattle.tree.specs.declared.good.Decided.the-variants.{Good as good, NotGood as not-good}
 use Rattle.tree.proofs.good.Decided.{the-type}
-use Rattle.tables.specs.Given.{Decided-good}
+use Rattle.tables.specs.Given.{Decided-good, good-top}
 use Rattle.marks.specs.declared.MarksAnswer.{MarksAnswer}
 use Rattle.marks.specs.declared.MarksAnswer.the-variants.{
   Marked,
@@ -30,16 +29,18 @@ use Rattle.marks.specs.Answer.{refusing, numbers}
 use Rattle.marks.specs.Promise.{Not-good, Classed, Too-few-classes}
 
 -- the list is good, and its tree is measured
-pub told-good : {list cuts : List ℕ} {answer : Decided} {records pieces leaves : ℕ}
+pub told-good : {list before cuts : List ℕ} {answer : Decided} {records pieces leaves : ℕ}
     → answer ≡ good records pieces leaves
-    → Judged list answer × Counts-below list cuts → length cuts ≡ slot-count → Decided-good list cuts pieces
-told-good {list} e decided room =
+    → Judged list answer × Counts-below list cuts → Room-to-decide list before → length cuts ≡ length before
+    → Decided-good list cuts pieces
+told-good {list} e decided room same =
     let fits = subst (Judged list) e (decided .0) .fits in
+    let top = good-top (fits .is-good) in
     record {
       some = fits .tree;
       good = fits .is-good;
       counted = decided .1;
-      cuts-room = room;
+      cuts-room = omega (arith, room .for-slots (omega (arith, top .all, top .fine .short)), same);
       pieces-are = fits .pieces-are;
     }
 

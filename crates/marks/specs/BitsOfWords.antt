@@ -7,3 +7,4 @@ pub mod Spots
 pub mod AllZero
 pub mod Alike
 pub mod Low
+pub mod Rows

@@ -31,8 +31,8 @@ use Rattle.marks.specs.Sweep.Swept.{Nearly-closed, Quiet, Narrow-below, 
 use Rattle.marks.specs.ClosingPieces.ClosedFromState.{closed-nearly}
 use Rattle.tables.specs.Given
 use Rattle.tables.specs.Given.{small-narrow}
-use Rattle.marks.specs.ClosingTable.Table.{Closed-all}
-use Rattle.marks.specs.Moving.Leaves.{Leaves-noted, kept-each}
+use Rattle.marks.specs.Passes.Masks.{Pieces-noted}
+use Rattle.marks.specs.Passes.Laid.{Lays-each, lays-each}
 use Rattle.marks.specs.BitsOfWords.Low.{low-tops, checkable}
 use Rattle.marks.specs.SharedStates.Checked.{Checkable}
 use Rattle.marks.specs.Moving.WordsMovedClosed.{
@@ -122,19 +122,24 @@ running ready long clean =
 
 module _ {t : Tree Leaf} {reach codes runs stands tops : List ℕ} {count : ℕ}
     (prepared : Prepared t reach codes runs stands tops count) where
-  -- the tables speak of every piece
-  pub prepared-laid : In-tables reach runs stands tops (cut-up t) 0
-  prepared-laid = laid-whole reach codes runs stands tops (cut-up t) (prepared .planned) (prepared .reached) (narrow t)
-      (all-narrow t)
-
   -- there is a word for each piece
   pub prepared-count : count ≡ 1 + run (cut-up t)
   prepared-count = prepared .counted ∙ sym (all-words t)
 
+  -- the codes and masks are those of every piece
+  laid-pieces : Lays-each reach codes (cut-up t)
+  laid-pieces = lays-each reach (record { codes = codes; runs = runs; stands = stands; tops = tops }) count
+      (prepared .noted) (cut-up t) (prepared .planned) (omega (arith, prepared-count))
+
+  -- the tables speak of every piece
+  pub prepared-laid : In-tables reach codes runs stands tops (cut-up t) 0
+  prepared-laid = laid-whole reach codes runs stands tops (cut-up t) (prepared .planned) laid-pieces (narrow t)
+      (all-narrow t)
+
   -- words that are clean, and closed piece by piece but for the root's start, are the run of the pieces
   pub prepared-run : {words : List ℕ} → Clean (cut-up t) words → Nearly-closed (cut-up t) start (getD words 0 0)
       → Each-closed-below (cut-up t) (drop 1 words)
-      → Run-of reach runs stands tops count (cut-up t) words
+      → Run-of reach codes runs stands tops count (cut-up t) words
   prepared-run clean nearly closed = record {
     laid = prepared-laid;
     counted = prepared-count;
@@ -145,15 +150,16 @@ module _ {t : Tree Leaf} {reach codes runs stands tops : List ℕ} {count : ℕ}
   }
 
   -- and can be closed
-  pub prepared-closable : {words : List ℕ} {from to : ℕ} → Roomy reach codes runs stands tops → count ≤ length words
-      → Run-of reach runs stands tops count (cut-up t) words
-      → Quiet 0 from to (take count words) → Closable reach runs stands tops count from to words
+  pub prepared-closable : {words : List ℕ} {from to : ℕ} → Roomy count reach codes runs stands tops → count ≤ length words
+      → Run-of reach codes runs stands tops count (cut-up t) words
+      → Quiet 0 from to (take count words) → Closable reach codes runs stands tops count from to words
   prepared-closable {words} roomy enough on quiet = record {
     sized = record {
-      reach-sized = roomy .reach-room;
-      runs-sized = roomy .runs-room;
-      stands-sized = roomy .stands-room;
-      tops-sized = roomy .tops-room;
+      reach-sized = omega (arith, length-take-le count words enough, roomy .reach-room);
+      codes-sized = omega (arith, length-take-le count words enough, roomy .codes-room);
+      runs-sized = omega (arith, length-take-le count words enough, roomy .runs-room);
+      stands-sized = omega (arith, length-take-le count words enough, roomy .stands-room);
+      tops-sized = omega (arith, length-take-le count words enough, roomy .tops-room);
       within = omega (arith, length-take-le count words enough, prepared .counted, prepared .few);
     };
     enough = enough;
@@ -177,14 +183,12 @@ module _ {t : Tree Leaf} {reach codes runs stands tops : List ℕ} {count : ℕ}
       same-bit e = (subst (λ (i : ℕ). Bit (getD words 0 0) i) e, subst (λ (i : ℕ). Bit (getD words 0 0) i) (sym e))
 
   -- whether words are marks can be tested
-  pub prepared-checkable : {words : List ℕ} → Roomy reach codes runs stands tops → count ≤ length words
+  pub prepared-checkable : {words : List ℕ} → Roomy count reach codes runs stands tops → count ≤ length words
       → Checkable runs stands tops words count
   prepared-checkable {words} roomy enough =
       checkable (record { codes = codes; runs = runs; stands = stands; tops = tops }) (cut-up t) count
       (prepared .planned) (sym prepared-count) (narrow t) (all-narrow t) words
-      (omega (arith, prepared .counted, prepared .few, roomy .runs-room))
-      (omega (arith, prepared .counted, prepared .few, roomy .stands-room))
-      (omega (arith, prepared .counted, prepared .few, roomy .tops-room)) enough
+      (roomy .runs-room) (roomy .stands-room) (roomy .tops-room) enough
 
   -- and what the test tells
   pub prepared-told : (words : List ℕ) {answer : Bool}
@@ -196,7 +200,7 @@ module _ {t : Tree Leaf} {reach codes runs stands tops : List ℕ} {count : ℕ}
 
   -- from words with the root's start alone marked, closed twice, and the first of them put into the lent words
   pub begun : (classes marked closed lent after : List ℕ) (yes' : Bool) → Start-marked (cut-up t) marked
-      → Closed-twice reach runs stands tops count marked closed
+      → Closed-twice reach codes runs stands tops count marked closed
       → count ≤ length closed → count ≤ length lent → after ≡ take count closed ++ drop count lent
       → Tells (Bit (getD after 0 0) (getD tops 0 0)) yes' → Begun classes t lent after yes'
   begun classes marked closed lent after yes' starts twice enough room put told =
@@ -210,7 +214,7 @@ module _ {t : Tree Leaf} {reach codes runs stands tops : List ℕ} {count : ℕ}
       let models : Models x (Holds x after) (Started (meaning classes) t) =
       subst (λ (s : Tree Leaf). Models x (Holds x after) (Started (meaning classes) s)) (stated t .same-tree)
       (models-same x (Started (meaning classes) (whole x)) agree
-      (closed-start reach runs stands tops count x marked closed twice on classes (start-holds x marked starts)))
+      (closed-start reach codes runs stands tops count x marked closed twice on classes (start-holds x marked starts)))
       in
       record {
         hold = record {
@@ -226,35 +230,30 @@ module _ {t : Tree Leaf} {reach codes runs stands tops : List ℕ} {count : ℕ}
 
   -- words that were moved are the run of the pieces
   pub moved-run : {classes : List ℕ} {byte : ℕ} {before moved : List ℕ} → Moved-closed reach classes codes before moved byte count
-      → Clean (cut-up t) before → Run-of reach runs stands tops count (cut-up t) moved
+      → Clean (cut-up t) before → Run-of reach codes runs stands tops count (cut-up t) moved
   moved-run went clean =
       let x = cut-up t in
-      let tables : Pieces = record { codes = codes; runs = runs; stands = stands; tops = tops } in
       let room : 1 + run x ≤ count = omega (arith, prepared-count) in
-      let closed = moved-each-closed went tables x refl (prepared .planned) (prepared .reached) room (narrow t)
-      (all-narrow t) clean in
-      prepared-run (moved-clean went tables x refl (prepared .planned) (prepared .reached) room (narrow t)
-      (all-narrow t) clean) (closed-nearly (closed .0)) (closed .1)
+      let closed = moved-each-closed went x laid-pieces room (narrow t) (all-narrow t) clean in
+      prepared-run (moved-clean went x laid-pieces room (narrow t) (all-narrow t) clean) (closed-nearly (closed .0))
+      (closed .1)
 
   -- from words moved along the byte, and closed twice
   pub advanced : {classes : List ℕ} (byte : ℕ) (before moved after : List ℕ) (yes' : Bool) → Marks-of t before
-      → Moved-closed reach classes codes before moved byte count → Closed-twice reach runs stands tops count moved after
+      → Moved-closed reach classes codes before moved byte count → Closed-twice reach codes runs stands tops count moved after
       → length after ≡ length moved → Tells (Bit (getD after 0 0) (getD tops 0 0)) yes'
       → Advanced classes t byte before after yes'
   advanced {classes} byte before moved after yes' marks went twice long told =
       let x = cut-up t in
-      let tables : Pieces = record { codes = codes; runs = runs; stands = stands; tops = tops } in
       let room : 1 + run x ≤ count = omega (arith, prepared-count) in
       let on = moved-run went (marks .clean) in
       let models : Models x (Holds x after) (Stepped (meaning classes) t byte (Set-of x before)) =
       subst (λ (s : Tree Leaf). Models x (Holds x after) (Stepped (meaning classes) s byte (Set-of x before)))
       (stated t .same-tree)
-      (closed-step reach runs stands tops count x moved after twice on classes byte (Holds x before) (Set-of x before)
+      (closed-step reach codes runs stands tops count x moved after twice on classes byte (Holds x before) (Set-of x before)
       (alike-models x (Holds x before) (marks .agreeing))
-      (moved-keeps went tables x refl (prepared .planned) (prepared .reached) room (narrow t) (all-narrow t)
-      (marks .clean))
-      (moved-within went tables x refl (prepared .planned) (prepared .reached) room (narrow t) (all-narrow t)
-      (marks .clean)))
+      (moved-keeps went x laid-pieces room (narrow t) (all-narrow t) (marks .clean))
+      (moved-within went x laid-pieces room (narrow t) (all-narrow t) (marks .clean)))
       in
       record {
         hold = record {
@@ -329,7 +328,7 @@ pub moved-closable : {reach classes codes runs stands tops : List ℕ} {count by
     → Running reach codes runs stands tops count before
     → Moved-closed reach classes codes before moved byte count → ((o : ℕ) → o < from → getD moved o 0 ≡ 0)
     → ((o : ℕ) → to ≤ o → o < count → getD moved o 0 ≡ 0)
-    → Closable reach runs stands tops count from to moved
+    → Closable reach codes runs stands tops count from to moved
 moved-closable {count = count} {moved = moved} running went none-before none-after =
     let prepared = running .ready .of-tree .1 in
     let enough : count ≤ length moved = omega (arith, moved-length went, running .enough) in
@@ -352,7 +351,7 @@ begins-marked x = record { first = refl; others = λ o inside. zeros 127 o }
 
 -- words with the root's start alone marked can be closed
 pub start-closable : {reach codes runs stands tops : List ℕ} {count : ℕ} → Ready reach codes runs stands tops count
-    → Closable reach runs stands tops count 0 0 begins
+    → Closable reach codes runs stands tops count 0 0 begins
 start-closable {count = count} ready =
     let x = cut-up (ready .of-tree .0) in
     let prepared = ready .of-tree .1 in
@@ -366,24 +365,20 @@ start-closable {count = count} ready =
     later zero l = absurd (omega arith)
     later (suc o) l = zeros 127 o
 
--- the tables that were made are those of t, once the table of the empty transitions is closed and the leaves are noted
-pub prepared-of : {list nexts closed reach codes runs stands tops : List ℕ} {count : ℕ} (t : Tree Leaf) → Good list t
-    → Given.Laid t nexts codes runs stands tops count
-    → Closed-all tops nexts closed count → Leaves-noted codes closed reach count
+-- the tables that were made are those of t, once the masks are made
+pub prepared-of : {list reach codes runs stands tops : List ℕ} {count : ℕ} (t : Tree Leaf) → Good list t
+    → Given.Laid t codes runs stands tops count → Pieces-noted codes tops reach count
     → Prepared t reach codes runs stands tops count
-prepared-of t good made closes notes = record {
+prepared-of t good made notes = record {
   planned = made .planned;
-  reached = kept-each notes (cut-up t) (narrow t) (all-narrow t)
-      (closes .reached (record { codes = _; runs = _; stands = _; tops = _ }) (cut-up t) refl (made .planned)
-      (omega (arith, made .counted, all-words t)) (made .words));
   noted = notes .noted;
   counted = made .counted;
   few = good .few;
 }
 
 -- every top is a number of a state
-pub tops-low : {nexts codes runs stands tops : List ℕ} {count : ℕ} (t : Tree Leaf)
-    → Given.Laid t nexts codes runs stands tops count → (k : ℕ) → k < count → getD tops k 0 < word-bits
+pub tops-low : {codes runs stands tops : List ℕ} {count : ℕ} (t : Tree Leaf)
+    → Given.Laid t codes runs stands tops count → (k : ℕ) → k < count → getD tops k 0 < word-bits
 tops-low {count = count} t made k inside =
     omega (
       arith,

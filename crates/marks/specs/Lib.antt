@@ -11,7 +11,7 @@ pub mod Inner
 pub mod Texts
 -- How the code comes to its answer, a folder for each part of it.
 pub mod BitsOfWords
-pub mod ClosingTable
+pub mod Passes
 pub mod ClosingPieces
 pub mod Moving
 pub mod Sweep

@@ -6,7 +6,8 @@ ghost use lib.ListN.{length, getD};
 ghost use Rattle.language.specs.Nested.{Nested};
 ghost use Rattle.tree.specs.Leaf.{Leaf};
 ghost use Rattle.tables.specs.Words.{word-bits, Bit, run, Clean, Agreeing};
-ghost use Rattle.tables.specs.Plan.{leaves-entry, Pieces, Planned};
+ghost use Rattle.tree.specs.Limits.{most-states};
+ghost use Rattle.tables.specs.Plan.{Pieces, Planned};
 ghost use Rattle.marks.specs.BitsOfWords.Bits.{Tells};
 ghost use Rattle.marks.specs.SharedStates.Parents.{Parent};
 ghost use Rattle.marks.specs.SharedStates.Checked.{Pair-agrees, Child-agrees, Checkable};
@@ -21,7 +22,7 @@ fn same_bit(one: u64, i: usize, other: u64, j: usize) -> bool
 
 // Whether no bit past the one numbered `top` is set.
 fn none_past(word: u64, top: usize) -> bool
-    requires { ⌜ top < leaves-entry ⌝ }
+    requires { ⌜ top < most-states ⌝ }
     ensures { λ r. ⌜ Tells (word < 2 ^ (top + 1)) r ⌝ }
 {
     word >> (top + 1) == 0
@@ -43,7 +44,7 @@ fn parent(runs: &[u8], child: usize) -> usize
 // the bits of their
 // stand-in, which are numbered from `stand` in the word above.
 fn pair_agrees(above: u64, stand: usize, word: u64, top: usize) -> bool
-    requires { ⌜ (stand < leaves-entry) × (top < leaves-entry) ⌝ }
+    requires { ⌜ (stand < most-states) × (top < most-states) ⌝ }
     ensures { λ r. ⌜ Tells (Pair-agrees above stand word top) r ⌝ }
 {
     if none_past(word, top) {

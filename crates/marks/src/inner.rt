@@ -1,8 +1,7 @@
 // The layer inside, for those who run many bytes or many texts over one list: its tables are made once.
 use crate::bits::has_bit;
-use crate::leaves::note_leaves;
+use crate::masks::note_all;
 use crate::moves::move_all;
-use crate::reach::close_all;
 use crate::sweep::close_twice;
 use tables::plan::plan;
 ghost use Prim.Native.Nat.{ℕ, _≤_, _<_};
@@ -32,16 +31,15 @@ pub fn prepare(
     tops: &mut [u8],
 )
     requires { ⌜ Decided-good (now list) (now cuts) count ⌝ }
-    requires { ⌜ Roomy (now reach) (now codes) (now runs) (now stands) (now tops) ⌝ }
-    ensures { λ _. ⌜ Roomy (now (reach .exit)) (now (codes .exit)) (now (runs .exit)) (now (stands .exit))
+    requires { ⌜ Roomy count (now reach) (now codes) (now runs) (now stands) (now tops) ⌝ }
+    ensures { λ _. ⌜ Roomy count (now (reach .exit)) (now (codes .exit)) (now (runs .exit)) (now (stands .exit))
         (now (tops .exit)) ⌝ }
     ensures { λ _. ⌜ ((t : Tree Leaf) → Good (now (list .entry)) t
         → Prepared t (now (reach .exit)) (now (codes .exit)) (now (runs .exit)) (now (stands .exit)) (now (tops .exit))
         count) ⌝ }
 {
-    plan(list, cuts, count, reach, codes, runs, stands, tops);
-    close_all(reach, tops, count);
-    note_leaves(reach, codes, count);
+    plan(list, cuts, count, codes, runs, stands, tops);
+    note_all(reach, codes, tops, count);
 }
 
 // Puts the first `count` words of one slice in the place of those of another.
@@ -76,7 +74,7 @@ pub fn begin(
 {
     let mut marks = [0u64; 128];
     marks[0] = 1;
-    close_twice(reach, runs, stands, tops, count, 0, 0, &mut marks);
+    close_twice(reach, codes, runs, stands, tops, count, 0, 0, &mut marks);
     copy(&marks, count, words);
     let top = tops[0] as usize;
     has_bit(words[0], top)
@@ -134,7 +132,7 @@ pub fn advance(
     move_all(reach, codes, classes, words, byte, count);
     let from = marked_from(words, count);
     let to = marked_to(words, count);
-    close_twice(reach, runs, stands, tops, count, from, to, words);
+    close_twice(reach, codes, runs, stands, tops, count, from, to, words);
     let top = tops[0] as usize;
     has_bit(words[0], top)
 }

@@ -4,28 +4,39 @@ mod bits;
 mod classes;
 mod close;
 pub mod inner;
-mod leaves;
+mod masks;
 mod moves;
 pub mod numbers;
-mod reach;
 mod sweep;
 
 use crate::agree::agreeing;
 use crate::inner::advance;
 use crate::inner::begin;
 use crate::inner::prepare;
+use tables::FEW_CODES;
+use tables::FEW_MASKS;
+use tables::FEW_PIECES;
+use tables::MASK_TABLE_SIZE;
 use tables::TABLE_SIZE;
 use tree::good::Decided;
 use tree::good::decide_with;
 use tree::layout::CLASS_RECORD_SIZE;
+use tree::layout::RECORD_SIZE;
+use tree::limits::FEW_SLOTS;
 use tree::limits::MOST_PIECES;
 use tree::limits::SLOT_COUNT;
+ghost use Prim.Native.Nat.{_/_, _≤_, _<_};
 ghost use mathlib.Core.Path.{_≡_};
 ghost use mathlib.Core.Bool.{true, false};
+ghost use lib.ListN.{length};
 ghost use Rattle.language.specs.Tree.{Tree};
 ghost use Rattle.tree.specs.Leaf.{Leaf};
+ghost use Rattle.tree.specs.Limits.{few-slots};
+ghost use Rattle.tree.specs.Layout.{record-size};
 ghost use Rattle.tree.specs.Records.{Good};
+ghost use Rattle.tree.specs.Judged.{Room-to-decide};
 ghost use Rattle.tables.specs.Given.{Decided-good};
+ghost use Rattle.tables.specs.Tables.{few-pieces, Roomy};
 ghost use Rattle.marks.specs.Answer.{numbers};
 ghost use Rattle.marks.specs.Promise.{Classed, Starts, Steps};
 
@@ -43,8 +54,97 @@ pub enum MarksAnswer {
     NotMarks,
 }
 
-// Starts, or steps along the byte, on a list that is known to be good: the tables are made for either.
-fn mark_good(
+// Starts, or steps along the byte, on a list that is known to be good: its tables are made in those that are lent.
+fn mark_in(
+    list: &[u8],
+    classes: &[u8],
+    cuts: &[u16],
+    count: usize,
+    reach: &mut [u64],
+    codes: &mut [u16],
+    runs: &mut [u8],
+    stands: &mut [u8],
+    tops: &mut [u8],
+    words: &mut [u64],
+    stepping: bool,
+    byte: u8,
+) -> MarksAnswer
+    requires { ⌜ Decided-good (now list) (now cuts) count ⌝ }
+    requires { ⌜ ((t : Tree Leaf) → Good (now list) t → Classed (now classes) t) ⌝ }
+    requires { ⌜ Roomy count (now reach) (now codes) (now runs) (now stands) (now tops) ⌝ }
+    ensures { λ r. ⌜ (stepping ≡ false
+        → Starts (now (list .entry)) (now (classes .entry)) (now (words .entry)) (now (words .exit)) (numbers r)) ⌝ }
+    ensures { λ r. ⌜ (stepping ≡ true
+        → Steps (now (list .entry)) (now (classes .entry)) byte (now (words .entry)) (now (words .exit))
+        (numbers r)) ⌝ }
+{
+    prepare(list, cuts, count, reach, codes, runs, stands, tops);
+    if words.len() < count {
+        return MarksAnswer::TooFewWords;
+    }
+    if stepping {
+        if !agreeing(runs, stands, tops, words, count) {
+            return MarksAnswer::NotMarks;
+        }
+        let accepting = advance(
+            reach,
+            codes,
+            runs,
+            stands,
+            tops,
+            count,
+            classes,
+            words,
+            byte,
+        );
+        return MarksAnswer::Marked { accepting };
+    }
+    let accepting = begin(reach, codes, runs, stands, tops, count, words);
+    MarksAnswer::Marked { accepting }
+}
+
+// On one of few pieces, in small tables.
+fn mark_few(
+    list: &[u8],
+    classes: &[u8],
+    cuts: &[u16],
+    count: usize,
+    words: &mut [u64],
+    stepping: bool,
+    byte: u8,
+) -> MarksAnswer
+    requires { ⌜ Decided-good (now list) (now cuts) count ⌝ }
+    requires { ⌜ ((t : Tree Leaf) → Good (now list) t → Classed (now classes) t) ⌝ }
+    requires { ⌜ count ≤ few-pieces ⌝ }
+    ensures { λ r. ⌜ (stepping ≡ false
+        → Starts (now (list .entry)) (now (classes .entry)) (now (words .entry)) (now (words .exit)) (numbers r)) ⌝ }
+    ensures { λ r. ⌜ (stepping ≡ true
+        → Steps (now (list .entry)) (now (classes .entry)) byte (now (words .entry)) (now (words .exit))
+        (numbers r)) ⌝ }
+{
+    let mut reach = [0u64; FEW_MASKS];
+    let mut codes = [0u16; FEW_CODES];
+    let mut runs = [0u8; FEW_PIECES];
+    let mut stands = [0u8; FEW_PIECES];
+    let mut tops = [0u8; FEW_PIECES];
+    mark_in(
+        list,
+        classes,
+        cuts,
+        count,
+        &mut reach,
+        &mut codes,
+        &mut runs,
+        &mut stands,
+        &mut tops,
+        words,
+        stepping,
+        byte,
+    )
+}
+
+// On one of as many pieces as there can be.
+fn mark_many(
     list: &[u8],
     classes: &[u8],
     cuts: &[u16],
@@ -61,13 +161,14 @@ fn mark_good(
         → Steps (now (list .entry)) (now (classes .entry)) byte (now (words .entry)) (now (words .exit))
         (numbers r)) ⌝ }
 {
-    let mut reach = [0u64; TABLE_SIZE];
+    let mut reach = [0u64; MASK_TABLE_SIZE];
     let mut codes = [0u16; TABLE_SIZE];
     let mut runs = [0u8; MOST_PIECES];
     let mut stands = [0u8; MOST_PIECES];
     let mut tops = [0u8; MOST_PIECES];
-    prepare(
+    mark_in(
         list,
+        classes,
         cuts,
         count,
         &mut reach,
@@ -75,41 +176,60 @@ fn mark_good(
         &mut runs,
         &mut stands,
         &mut tops,
-    );
-    if words.len() < count {
-        return MarksAnswer::TooFewWords;
-    }
-    if stepping {
-        if !agreeing(&runs, &stands, &tops, words, count) {
-            return MarksAnswer::NotMarks;
-        }
-        let accepting = advance(
-            &reach,
-            &codes,
-            &runs,
-            &stands,
-            &tops,
-            count,
-            classes,
-            words,
-            byte,
-        );
-        return MarksAnswer::Marked { accepting };
-    }
-    let accepting = begin(&reach, &codes, &runs, &stands, &tops, count, words);
-    MarksAnswer::Marked { accepting }
+        words,
+        stepping,
+        byte,
+    )
 }
 
-// Starts, or steps along the byte, on any list: refuses one that is not good, and class leaves with no record.
-fn mark(list: &[u8], classes: &[u8], words: &mut [u64], stepping: bool, byte: u8) -> MarksAnswer
+// In the smallest tables that have room: most of what a short list costs is setting them to 0. It calls itself with more
+// room, so that each size has a stack frame of its own.
+fn mark_good(
+    list: &[u8],
+    classes: &[u8],
+    cuts: &[u16],
+    count: usize,
+    room: usize,
+    words: &mut [u64],
+    stepping: bool,
+    byte: u8,
+) -> MarksAnswer
+    requires { ⌜ Decided-good (now list) (now cuts) count ⌝ }
+    requires { ⌜ ((t : Tree Leaf) → Good (now list) t → Classed (now classes) t) ⌝ }
+    requires { ⌜ 1 ≤ room ⌝ }
     ensures { λ r. ⌜ (stepping ≡ false
         → Starts (now (list .entry)) (now (classes .entry)) (now (words .entry)) (now (words .exit)) (numbers r)) ⌝ }
     ensures { λ r. ⌜ (stepping ≡ true
         → Steps (now (list .entry)) (now (classes .entry)) byte (now (words .entry)) (now (words .exit))
         (numbers r)) ⌝ }
 {
-    let mut cuts = [0u16; SLOT_COUNT];
-    let decided = decide_with(list, &mut cuts);
+    if room < count {
+        return mark_good(list, classes, cuts, count, 4 * room, words, stepping, byte);
+    }
+    if room <= FEW_PIECES {
+        return mark_few(list, classes, cuts, count, words, stepping, byte);
+    }
+    mark_many(list, classes, cuts, count, words, stepping, byte)
+}
+
+// Starts, or steps along the byte, on any list, with slots lent for deciding on it: refuses one that is not good, and
+// class leaves with no record.
+fn mark_by(
+    list: &[u8],
+    classes: &[u8],
+    cuts: &mut [u16],
+    words: &mut [u64],
+    stepping: bool,
+    byte: u8,
+) -> MarksAnswer
+    requires { ⌜ Room-to-decide (now list) (now cuts) ⌝ }
+    ensures { λ r. ⌜ (stepping ≡ false
+        → Starts (now (list .entry)) (now (classes .entry)) (now (words .entry)) (now (words .exit)) (numbers r)) ⌝ }
+    ensures { λ r. ⌜ (stepping ≡ true
+        → Steps (now (list .entry)) (now (classes .entry)) byte (now (words .entry)) (now (words .exit))
+        (numbers r)) ⌝ }
+{
+    let decided = decide_with(list, cuts);
     let Decided::Good {
         records: _,
         pieces,
@@ -121,7 +241,78 @@ fn mark(list: &[u8], classes: &[u8], words: &mut [u64], stepping: bool, byte: u8
     if classes.len() / CLASS_RECORD_SIZE < leaves {
         return MarksAnswer::TooFewClasses;
     }
-    mark_good(list, classes, &cuts, pieces, words, stepping, byte)
+    mark_good(
+        list,
+        classes,
+        cuts,
+        pieces,
+        FEW_PIECES,
+        words,
+        stepping,
+        byte,
+    )
+}
+
+// On a list of few records, with few slots.
+fn mark_short(
+    list: &[u8],
+    classes: &[u8],
+    words: &mut [u64],
+    stepping: bool,
+    byte: u8,
+) -> MarksAnswer
+    requires { ⌜ length (now list) / record-size < few-slots ⌝ }
+    ensures { λ r. ⌜ (stepping ≡ false
+        → Starts (now (list .entry)) (now (classes .entry)) (now (words .entry)) (now (words .exit)) (numbers r)) ⌝ }
+    ensures { λ r. ⌜ (stepping ≡ true
+        → Steps (now (list .entry)) (now (classes .entry)) byte (now (words .entry)) (now (words .exit))
+        (numbers r)) ⌝ }
+{
+    let mut cuts = [0u16; FEW_SLOTS];
+    mark_by(list, classes, &mut cuts, words, stepping, byte)
+}
+
+// On a list of any length.
+fn mark_long(
+    list: &[u8],
+    classes: &[u8],
+    words: &mut [u64],
+    stepping: bool,
+    byte: u8,
+) -> MarksAnswer
+    ensures { λ r. ⌜ (stepping ≡ false
+        → Starts (now (list .entry)) (now (classes .entry)) (now (words .entry)) (now (words .exit)) (numbers r)) ⌝ }
+    ensures { λ r. ⌜ (stepping ≡ true
+        → Steps (now (list .entry)) (now (classes .entry)) byte (now (words .entry)) (now (words .exit))
+        (numbers r)) ⌝ }
+{
+    let mut cuts = [0u16; SLOT_COUNT];
+    mark_by(list, classes, &mut cuts, words, stepping, byte)
+}
+
+// By the fewest slots that are enough; it calls itself with more, as above.
+fn mark(
+    list: &[u8],
+    classes: &[u8],
+    slots: usize,
+    words: &mut [u64],
+    stepping: bool,
+    byte: u8,
+) -> MarksAnswer
+    requires { ⌜ 1 ≤ slots ⌝ }
+    ensures { λ r. ⌜ (stepping ≡ false
+        → Starts (now (list .entry)) (now (classes .entry)) (now (words .entry)) (now (words .exit)) (numbers r)) ⌝ }
+    ensures { λ r. ⌜ (stepping ≡ true
+        → Steps (now (list .entry)) (now (classes .entry)) byte (now (words .entry)) (now (words .exit))
+        (numbers r)) ⌝ }
+{
+    if slots <= list.len() / RECORD_SIZE {
+        return mark(list, classes, 4 * slots, words, stepping, byte);
+    }
+    if slots <= FEW_SLOTS {
+        return mark_short(list, classes, words, stepping, byte);
+    }
+    mark_long(list, classes, words, stepping, byte)
 }
 
 // Marks the root's start in the lent words and closes.
@@ -129,7 +320,7 @@ pub fn start(list: &[u8], classes: &[u8], words: &mut [u64]) -> MarksAnswer
     ensures { λ r. ⌜ Starts (now (list .entry)) (now (classes .entry)) (now (words .entry)) (now (words .exit))
         (numbers r) ⌝ }
 {
-    mark(list, classes, words, false, 0)
+    mark(list, classes, FEW_SLOTS, words, false, 0)
 }
 
 // Moves the marks in the lent words along the byte and closes.
@@ -137,5 +328,5 @@ pub fn step(list: &[u8], classes: &[u8], words: &mut [u64], byte: u8) -> MarksAn
     ensures { λ r. ⌜ Steps (now (list .entry)) (now (classes .entry)) byte (now (words .entry)) (now (words .exit))
         (numbers r) ⌝ }
 {
-    mark(list, classes, words, true, byte)
+    mark(list, classes, FEW_SLOTS, words, true, byte)
 }

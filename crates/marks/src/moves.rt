@@ -4,7 +4,7 @@ use crate::bits::lowest;
 use crate::bits::with_bit;
 use crate::classes::takes_byte;
 use crate::close::close;
-use tables::LEAVES_ENTRY;
+use tables::MASK_COUNT;
 use tables::ROW_SIZE;
 ghost use mathlib.Core.Path.{_≡_};
 ghost use Prim.Native.Nat.{ℕ, _+_, _*_, _^_, _≤_, _<_};
@@ -13,24 +13,25 @@ ghost use Rattle.language.specs.Nested.{Nested};
 ghost use Rattle.tree.specs.Limits.{most-states};
 ghost use Rattle.tree.specs.Leaf.{Leaf};
 ghost use Rattle.tables.specs.Words.{width};
-ghost use Rattle.tables.specs.Plan.{row-size, row, takes, Moves};
-ghost use Rattle.tables.specs.Tables.{Noted};
+ghost use Rattle.tables.specs.Plan.{row-size, Moves};
+ghost use Rattle.tables.specs.Tables.{mask-count};
+ghost use Rattle.marks.specs.Passes.Laid.{Lays};
 ghost use Rattle.marks.specs.Moving.WordsMovedClosed.{Word-after, Moved-closed};
 
-// The word of a piece, moved along the byte: a state whose code takes it leads to the next state. Only leaves are looked
-// at.
+// The word of a piece, moved along the byte: a leaf's start whose number takes it goes over to the next state. Only starts
+// of leaves are looked at.
 pub fn moved(reach: &[u64], codes: &[u16], classes: &[u8], piece: usize, word: u64, byte: u8) -> u64
-    requires { ⌜ (row-size * piece + row-size ≤ length (now reach)) × (row-size * piece + row-size ≤ length (now codes))
-        × Noted (now reach) (now codes) piece ⌝ }
-    ensures { λ r. ⌜ ((x : Nested Leaf) → width x ≤ most-states → row (now (codes .entry)) piece (width x) ≡ takes x
-        → word < 2 ^ width x → Moves (now (classes .entry)) x byte word r) ⌝ }
+    requires { ⌜ (mask-count * piece + mask-count ≤ length (now reach))
+        × (row-size * piece + row-size ≤ length (now codes)) ⌝ }
+    ensures { λ r. ⌜ ((x : Nested Leaf) → width x ≤ most-states
+        → Lays (now (reach .entry)) (now (codes .entry)) x piece → word < 2 ^ width x → Moves (now (classes .entry)) x byte word r) ⌝ }
 {
     let base = ROW_SIZE * piece;
-    let mut rest = word & reach[base + LEAVES_ENTRY];
+    let mut rest = word & reach[MASK_COUNT * piece + 2];
     let mut picked: u64 = 0;
     while rest != 0 {
         let state = lowest(rest);
-        if takes_byte(classes, codes[base + state], byte) {
+        if takes_byte(classes, codes[base + state] / 4, byte) {
             picked = with_bit(picked, state);
         }
         rest = rest & (rest - 1);
@@ -48,15 +49,15 @@ fn word_after(
     word: u64,
     byte: u8,
 ) -> u64
-    requires { ⌜ (row-size * piece + row-size ≤ length (now reach)) × (row-size * piece + row-size ≤ length (now codes))
-        × Noted (now reach) (now codes) piece ⌝ }
+    requires { ⌜ (mask-count * piece + mask-count ≤ length (now reach))
+        × (row-size * piece + row-size ≤ length (now codes)) ⌝ }
     ensures { λ r. ⌜ Word-after (now (reach .entry)) (now (classes .entry)) (now (codes .entry)) piece word byte r ⌝ }
 {
     if word == 0 {
         return 0;
     }
     let moved = moved(reach, codes, classes, piece, word, byte);
-    close(reach, piece, moved)
+    close(reach, codes, piece, moved)
 }
 
 // Moves the words of all pieces along the byte, and closes each piece in itself.
@@ -68,9 +69,8 @@ pub fn move_all(
     byte: u8,
     pieces: usize,
 )
-    requires { ⌜ (row-size * pieces ≤ length (now reach)) × (row-size * pieces ≤ length (now codes))
+    requires { ⌜ (mask-count * pieces ≤ length (now reach)) × (row-size * pieces ≤ length (now codes))
         × (pieces ≤ length (now words)) ⌝ }
-    requires { ⌜ ((k : ℕ) → k < pieces → Noted (now reach) (now codes) k) ⌝ }
     ensures { λ _. ⌜ Moved-closed (now (reach .entry)) (now (classes .entry)) (now (codes .entry)) (now (words .entry)) (now (words .exit))
         byte pieces ⌝ }
 {

@@ -1,7 +1,8 @@
 // A sweep: the piece itself is closed, and its child pieces are gone through from left to right.
 use crate::bits::has_bit;
 use crate::bits::with_bit;
-use tables::ROW_SIZE;
+use crate::close::close;
+use crate::close::close_after;
 ghost use mathlib.Core.Path.{_≡_};
 ghost use mathlib.Core.Bool.{true};
 ghost use Prim.Native.Nat.{ℕ, _+_, _*_, _≤_, _<_};
@@ -11,6 +12,7 @@ ghost use Rattle.language.specs.Settled.{Settled};
 ghost use Rattle.tree.specs.Limits.{most-pieces};
 ghost use Rattle.tree.specs.Leaf.{Leaf, byteless};
 ghost use Rattle.tables.specs.Plan.{row-size};
+ghost use Rattle.tables.specs.Tables.{mask-count};
 ghost use Rattle.tables.specs.Words.{word-bits, Bit, Holds};
 ghost use Rattle.marks.specs.BitsOfWords.Bits.{Tells};
 ghost use Rattle.marks.specs.Sweep.Swept.{passed, Sweep-ready, Sweepable, Swept, At-rest, Missed, Apart};
@@ -25,14 +27,14 @@ fn pass(other: u64, from: usize, word: u64, to: usize) -> u64
     word | (((other >> from) & 1) << to)
 }
 
-// The word of a piece, closed: it was closed but for what one state reaches, so the row of that state is all there is
-// to join.
-fn close_from(reach: &[u64], piece: usize, word: u64, state: usize) -> u64
-    requires { ⌜ (row-size * piece + row-size ≤ length (now reach)) × (state < word-bits) ⌝ }
-    ensures { λ r. ⌜ Closes-from (now (reach .entry)) piece word state r ⌝ }
+// The word of a piece, closed: it was closed but for what one state reaches, so closing that state alone is enough.
+fn close_from(reach: &[u64], codes: &[u16], piece: usize, word: u64, state: usize) -> u64
+    requires { ⌜ (mask-count * piece + mask-count ≤ length (now reach))
+        × (row-size * piece + row-size ≤ length (now codes)) × (state < word-bits) ⌝ }
+    ensures { λ r. ⌜ Closes-from (now (reach .entry)) (now (codes .entry)) piece word state r ⌝ }
 {
     if has_bit(word, state) {
-        word | reach[ROW_SIZE * piece + state]
+        word | close(reach, codes, piece, with_bit(0, state))
     } else {
         word
     }
@@ -103,6 +105,7 @@ fn idle(word: u64, child: usize, to: usize) -> bool
 // not marked. Answers whether all starts were marked in time, so that another sweep would change nothing.
 pub fn sweep(
     reach: &[u64],
+    codes: &[u16],
     runs: &[u8],
     stands: &[u8],
     tops: &[u8],
@@ -111,17 +114,17 @@ pub fn sweep(
     to: usize,
     words: &mut [u64],
 ) -> bool
-    requires { ⌜ Sweep-ready (now reach) (now runs) (now stands) (now tops) piece from to (now words) ⌝ }
+    requires { ⌜ Sweep-ready (now reach) (now codes) (now runs) (now stands) (now tops) piece from to (now words) ⌝ }
     ensures { λ r.
         ⌜ ((x : Nested Leaf)
-        → Sweepable (now (reach .entry)) (now (runs .entry)) (now (stands .entry)) (now (tops .entry)) x piece
+        → Sweepable (now (reach .entry)) (now (codes .entry)) (now (runs .entry)) (now (stands .entry)) (now (tops .entry)) x piece
         (now (words .entry)) → Swept x (now (words .entry)) (now (words .exit))) ⌝ }
     ensures { λ r.
         ⌜ ((x : Nested Leaf)
-        → Sweepable (now (reach .entry)) (now (runs .entry)) (now (stands .entry)) (now (tops .entry)) x piece
+        → Sweepable (now (reach .entry)) (now (codes .entry)) (now (runs .entry)) (now (stands .entry)) (now (tops .entry)) x piece
         (now (words .entry)) → r ≡ true → Settled byteless x (Holds x (now (words .exit)))) ⌝ }
 {
-    words[0] = close_from(reach, piece, words[0], 0);
+    words[0] = close_from(reach, codes, piece, words[0], 0);
     let mut settled = true;
     let mut waiting: u64 = 0;
     let mut at = 1;
@@ -138,6 +141,7 @@ pub fn sweep(
             words[at] = pass(words[0], stand, words[at], 0);
             if !sweep(
                 reach,
+                codes,
                 runs,
                 stands,
                 tops,
@@ -149,7 +153,7 @@ pub fn sweep(
                 settled = false;
             }
             let raised = pass(words[at], top, words[0], stand + 1);
-            words[0] = close_from(reach, piece, raised, stand + 1);
+            words[0] = close_after(reach, codes, piece, raised, words[0]);
         }
         at = next;
     }
@@ -160,6 +164,7 @@ pub fn sweep(
 // The second sweep is left out where the first says that it would change nothing.
 pub fn close_twice(
     reach: &[u64],
+    codes: &[u16],
     runs: &[u8],
     stands: &[u8],
     tops: &[u8],
@@ -168,12 +173,32 @@ pub fn close_twice(
     to: usize,
     words: &mut [u64],
 )
-    requires { ⌜ Closable (now reach) (now runs) (now stands) (now tops) count from to (now words) ⌝ }
-    ensures { λ _. ⌜ Closed-twice (now (reach .entry)) (now (runs .entry)) (now (stands .entry)) (now (tops .entry))
+    requires { ⌜ Closable (now reach) (now codes) (now runs) (now stands) (now tops) count from to (now words) ⌝ }
+    ensures { λ _. ⌜ Closed-twice (now (reach .entry)) (now (codes .entry)) (now (runs .entry)) (now (stands .entry)) (now (tops .entry))
         count (now (words .entry)) (now (words .exit)) ⌝ }
 {
-    if sweep(reach, runs, stands, tops, 0, from, to, &mut words[..count]) {
+    if sweep(
+        reach,
+        codes,
+        runs,
+        stands,
+        tops,
+        0,
+        from,
+        to,
+        &mut words[..count],
+    ) {
         return;
     }
-    sweep(reach, runs, stands, tops, 0, 0, count, &mut words[..count]);
+    sweep(
+        reach,
+        codes,
+        runs,
+        stands,
+        tops,
+        0,
+        0,
+        count,
+        &mut words[..count],
+    );
 }

@@ -40,7 +40,7 @@ pub record Top (list : List ℕ) (x : Nested Leaf) : Type 0 where
   pub of-tree : Tree Leaf
   pub good : Good list of-tree
   pub cut : x ≡ cut-up of-tree
-  pub fine : Fine list (site x 0 0 1 0)
+  pub fine : Fine list (1 + run x) (site x 0 0 1 0)
   pub plain : Plain x
   pub all : length list ≡ record-size * size x
 

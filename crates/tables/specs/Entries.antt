@@ -1,5 +1,5 @@
 -- Parts of a table, entry by entry, and the rows that a piece's nodes have there.
-use Prim.Native.Nat.{ℕ, suc, _+_, _^_, _≤_, _<_}
+use Prim.Native.Nat.{ℕ, suc, _+_, _≤_, _<_}
 use mathlib.Core.Path.{_≡_, refl, sym, ap, subst, _∙_}
 use mathlib.Core.List.{List, [], _∷_, _++_}
 use native.Mathlib.Omega.{arith}
@@ -9,7 +9,7 @@ use lib.Seq.{getD-set-same, getD-set-other, drop-cons}
 use Rattle.language.specs.Nested.{Nested, leaf, catenation, union, star, below}
 use Rattle.tree.specs.Leaf.{Leaf}
 use Rattle.tables.specs.Words.{width}
-use Rattle.tables.specs.Plan.{nexts, takes, leaf-next}
+use Rattle.tables.specs.Plan.{leads-on, jumps-to, leads-and-jumps, leaf-code, codes-of, takes}
 
 -- the list l stands in the table from the entry `at` on
 pub data Lies (table : List ℕ) : ℕ → List ℕ → Type 0 where
@@ -48,41 +48,40 @@ lies-row {table} {at} (entry {v = v} {l = l} e h) fits =
     ∙ ap (λ (k : ℕ). v ∷ take (length l) (drop k table)) (sym (add-one at))
     ∙ ap (λ (m : List ℕ). v ∷ m) (lies-row h (omega arith))
 
--- the words of the empty transitions but for that of the accepting state
+-- the codes of x's states but for that of the accepting state
 abbrev pub fronts : Nested Leaf → ℕ → List ℕ
-fronts (leaf a) i = leaf-next a i ∷ []
-fronts (catenation x y) i =
-    (2 ^ (i + 1)) ∷ (nexts x (i + 1) (2 ^ (i + (1 + width x)))
-    ++ nexts y (i + (1 + width x)) (2 ^ (i + (1 + width x + width y))))
-fronts (union x y) i = (2 ^ (i + 1) + 2 ^ (i + (1 + width x))) ∷ (nexts x (i + 1) (2 ^ (i + (1 + width x + width y)))
-    ++ nexts y (i + (1 + width x)) (2 ^ (i + (1 + width x + width y))))
-fronts (star x) i = (2 ^ (i + 1) + 2 ^ (i + (1 + width x))) ∷ nexts x (i + 1) (2 ^ (i + 1) + 2 ^ (i + (1 + width x)))
+fronts (leaf a) i = leaf-code a ∷ []
+fronts (catenation x y) i = leads-on ∷ (codes-of x (i + 1) leads-on ++ codes-of y (i + (1 + width x)) leads-on)
+fronts (union x y) i =
+    leads-and-jumps (i + (1 + width x)) ∷ (codes-of x (i + 1) (jumps-to (i + (1 + width x + width y)))
+    ++ codes-of y (i + (1 + width x)) leads-on)
+fronts (star x) i = leads-and-jumps (i + (1 + width x)) ∷ codes-of x (i + 1) (leads-and-jumps (i + 1))
 fronts (below x) i = 0 ∷ []
 
--- the word of the accepting state comes last
-pub nexts-fronts : (x : Nested Leaf) (i exit : ℕ) → nexts x i exit ≡ fronts x i ++ (exit ∷ [])
-nexts-fronts (leaf a) i exit = refl
-nexts-fronts (catenation x y) i exit = refl
-nexts-fronts (union x y) i exit = refl
-nexts-fronts (star x) i exit = refl
-nexts-fronts (below x) i exit = refl
-
--- one word for each state
-pub length-nexts : (x : Nested Leaf) (i exit : ℕ) → length (nexts x i exit) ≡ width x
-length-nexts (leaf a) i exit = refl
-length-nexts (catenation x y) i exit = let e = length-nexts x in let g =
-    length-nexts y in simp (length-append, e, g) (omega arith)
-length-nexts (union x y) i exit = let e = length-nexts x in let g =
-    length-nexts y in simp (length-append, e, g) (omega arith)
-length-nexts (star x) i exit = let e = length-nexts x in simp (length-append, e) (omega arith)
-length-nexts (below x) i exit = refl
-
--- one word for each state but the accepting one
-pub length-fronts : (x : Nested Leaf) (i : ℕ) → length (fronts x i) + 1 ≡ width x
-length-fronts x i = sym (length-append (fronts x i) (0 ∷ [])) ∙ ap length (sym (nexts-fronts x i 0))
-    ∙ length-nexts x i 0
+-- the code of the accepting state comes last
+pub codes-fronts : (x : Nested Leaf) (i exit : ℕ) → codes-of x i exit ≡ fronts x i ++ (exit ∷ [])
+codes-fronts (leaf a) i exit = refl
+codes-fronts (catenation x y) i exit = refl
+codes-fronts (union x y) i exit = refl
+codes-fronts (star x) i exit = refl
+codes-fronts (below x) i exit = refl
 
 -- one code for each state
+pub length-codes : (x : Nested Leaf) (i exit : ℕ) → length (codes-of x i exit) ≡ width x
+length-codes (leaf a) i exit = refl
+length-codes (catenation x y) i exit = let e = length-codes x in let g =
+    length-codes y in simp (length-append, e, g) (omega arith)
+length-codes (union x y) i exit = let e = length-codes x in let g =
+    length-codes y in simp (length-append, e, g) (omega arith)
+length-codes (star x) i exit = let e = length-codes x in simp (length-append, e) (omega arith)
+length-codes (below x) i exit = refl
+
+-- one code for each state but the accepting one
+pub length-fronts : (x : Nested Leaf) (i : ℕ) → length (fronts x i) + 1 ≡ width x
+length-fronts x i = sym (length-append (fronts x i) (0 ∷ [])) ∙ ap length (sym (codes-fronts x i 0))
+    ∙ length-codes x i 0
+
+-- one leaf's number for each state
 pub length-takes : (x : Nested Leaf) → length (takes x) ≡ width x
 length-takes (leaf a) = refl
 length-takes (catenation x y) = let e = length-takes x in let g =

@@ -8,7 +8,7 @@ use lib.Seq.{getD-append-add}
 use Rattle.language.specs.Tree.{Tree, nodes}
 use Rattle.language.specs.Nested.{Nested, leaf, catenation, union, star, below, own}
 use Rattle.tree.specs.Leaf.{Leaf, character, class}
-use Rattle.tree.specs.Limits.{most-pieces, most-records, most-states, slot-count}
+use Rattle.tree.specs.Limits.{most-pieces, most-records, most-states}
 use Rattle.tree.specs.Layout.{record-size}
 use Rattle.tree.specs.Records.{Good, Ranked, piece-count, class-numbers, class-count}
 use Rattle.tree.specs.Parts.{Small, Every-below}
@@ -16,8 +16,8 @@ use Rattle.tree.specs.Stored.{stored}
 use Rattle.tree.specs.Judged.{Counts-below}
 use Rattle.tree.specs.Pieces.{cut-up, stated, good-small, good-tells}
 use Rattle.tables.specs.Words.{width, run}
-use Rattle.tables.specs.Plan.{Planned, Each, Nexts}
-use Rattle.tables.specs.Tables.{Roomy}
+use Rattle.tables.specs.Plan.{Planned}
+use Rattle.tables.specs.Tables.{Pieces-room}
 use Rattle.tables.specs.Standing.{
   here,
   size,
@@ -29,7 +29,7 @@ use Rattle.tables.specs.Standing.{
 }
 use Rattle.tables.specs.Filling.{tables}
 use Rattle.tables.specs.Below.{Top, Listed, slot-below}
-use Rattle.tables.specs.Making.{made-none, made-planned, made-nexts, Making, making-at, Total}
+use Rattle.tables.specs.Making.{made-none, made-planned, Making, making-at, Total}
 
 -- two states for each node of a piece's own tree
 pub width-own : (x : Nested Leaf) → width x ≡ 2 * nodes (own x)
@@ -113,7 +113,8 @@ good-top {list} {t} good =
           begins = refl;
         };
         later = omega arith;
-        few = omega (arith, told .few-pieces);
+        few = omega arith;
+        low = omega (arith, told .few-pieces);
         narrow = omega (arith, small-narrow x (small .0));
         short = omega (arith, ap nodes (told .cut .same-tree), good-small list t good);
         sound = small-sound x (small .1);
@@ -133,13 +134,12 @@ pub record Decided-good (list cuts : List ℕ) (pieces : ℕ) : Type 0 where
   pub some : Tree Leaf
   pub good : Good list some
   pub counted : Counts-below list cuts
-  pub cuts-room : length cuts ≡ slot-count
+  pub cuts-room : length list / record-size < length cuts
   pub pieces-are : pieces ≡ piece-count some
 
--- the tables are those of t: of its pieces, the words of the empty transitions, and the number of the pieces
-pub record Laid (t : Tree Leaf) (nexts codes runs stands tops : List ℕ) (count : ℕ) : Type 0 where
+-- the tables are those of t: of its pieces, and the number of the pieces
+pub record Laid (t : Tree Leaf) (codes runs stands tops : List ℕ) (count : ℕ) : Type 0 where
   pub planned : Planned (record { codes = codes; runs = runs; stands = stands; tops = tops }) (cut-up t)
-  pub words : Each Nexts nexts (cut-up t)
   pub counted : count ≡ piece-count t
 
 -- the last record is the root's
@@ -174,36 +174,35 @@ module _ {list cuts : List ℕ} {pieces : ℕ} (known : Decided-good list cuts p
   }
 
 -- before the first piece
-pub making-none : {list cuts nexts codes runs stands tops roots : List ℕ} {pieces : ℕ}
-    → Decided-good list cuts pieces → Roomy nexts codes runs stands tops → length roots ≡ most-pieces
-    → getD roots 0 0 ≡ length list / record-size - 1 → Making list cuts 0 (tables nexts codes stands roots) runs tops
+pub making-none : {list cuts codes runs stands tops roots : List ℕ} {pieces : ℕ}
+    → Decided-good list cuts pieces → Pieces-room pieces codes runs stands tops → length roots ≡ most-pieces
+    → getD roots 0 0 ≡ length list / record-size - 1 → Making list cuts 0 (tables codes stands roots) runs tops
 making-none {runs = runs} {tops = tops} known roomy roots-room first =
+    let total = total-of known in
     record {
       listed = record { some = cut-up (known .some); top = good-top (known .good) };
       counted = known .counted;
       cuts-room = known .cuts-room;
-      room = record {
-        of-nexts = roomy .reach-room;
-        of-codes = roomy .codes-room;
-        of-stands = roomy .stands-room;
-        of-roots = roots-room;
+      room = λ x top. record {
+        of-codes = omega (arith, roomy .codes-room, total .counts-all x top);
+        of-stands = omega (arith, roomy .stands-room, total .counts-all x top);
+        of-roots = omega (arith, roots-room, top .fine .low);
       };
-      runs-room = roomy .runs-room;
-      tops-room = roomy .tops-room;
+      runs-room = λ x top. omega (arith, roomy .runs-room, total .counts-all x top);
+      tops-room = λ x top. omega (arith, roomy .tops-room, total .counts-all x top);
       so-far = λ x top. made-none x _ runs tops (omega (arith, last-root top));
     }
 
 -- after the last
-pub laid : {list cuts nexts codes runs stands tops roots : List ℕ} {total : ℕ}
-    → Making list cuts total (tables nexts codes stands roots) runs tops → Total list total
-    → (t : Tree Leaf) → Good list t → Laid t nexts codes runs stands tops total
+pub laid : {list cuts codes runs stands tops roots : List ℕ} {total : ℕ}
+    → Making list cuts total (tables codes stands roots) runs tops → Total list total
+    → (t : Tree Leaf) → Good list t → Laid t codes runs stands tops total
 laid making all t good =
     let top = good-top good in
     let count = all .counts-all (cut-up t) top in
     let made = making-at making count .so-far (cut-up t) top in
     record {
-      planned = made-planned top (making .room) made;
-      words = made-nexts top (making .room) made;
+      planned = made-planned top (making .room (cut-up t) top) made;
       counted =
           count ∙ stated t .all-pieces;
     }

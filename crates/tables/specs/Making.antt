@@ -8,11 +8,12 @@ use lib.ListN.{length, getD, set, take, drop}
 use lib.Seq.{getD-set-same, getD-set-other}
 use Rattle.language.specs.Nested.{Nested, leaf, catenation, union, star, below}
 use Rattle.tree.specs.Leaf.{Leaf}
-use Rattle.tree.specs.Limits.{most-pieces, most-records, most-states, slot-count}
+use Rattle.tree.specs.Limits.{most-pieces, most-states}
+use Rattle.tree.specs.Layout.{record-size}
 use Rattle.tree.specs.Judged.{Counts-below}
 use Rattle.tables.specs.Words.{width, run}
 use Rattle.tables.specs.Plan
-use Rattle.tables.specs.Plan.{row-size, takes}
+use Rattle.tables.specs.Plan.{row-size, codes-of}
 use Rattle.tables.specs.Entries.{
   Lies,
   ends,
@@ -23,10 +24,9 @@ use Rattle.tables.specs.Entries.{
   lies-same,
   lies-row,
   fronts,
-  nexts-fronts,
-  length-nexts,
+  codes-fronts,
+  length-codes,
   length-fronts,
-  length-takes,
   wide,
 }
 use Rattle.tables.specs.Standing.{
@@ -57,8 +57,28 @@ use Rattle.tables.specs.Standing.{
   one-stand-in,
   piece-below,
 }
-use Rattle.tables.specs.Filling.{Tables, tables, Tables-room, Stand-in-placed, Same-place, Filled, still-placed}
-use Rattle.tables.specs.Walking.{Sits, sits, Piece-bounds, bounds, Visited, Visitable, filled-ends, room-kept}
+use Rattle.tables.specs.Filling.{
+  Tables,
+  tables,
+  Tables-room,
+  Same-lengths,
+  Stand-in-placed,
+  Same-place,
+  Filled,
+  still-placed,
+}
+use Rattle.tables.specs.Walking.{
+  Sits,
+  sits,
+  Piece-bounds,
+  bounds,
+  Visited-within,
+  Visited,
+  Visitable,
+  filled-ends,
+  room-kept,
+  row-within,
+}
 use Rattle.tables.specs.Below.{Top, Listed, slot-below}
 
 -- what lies below what lies below a site
@@ -133,8 +153,7 @@ owner {x} m = in-owner m (record { top = x; begin = 0; head = root; inside = her
 
 -- all entries of the piece n, which is the top piece of y, are there
 pub record Row-made (y : Nested Leaf) (n : ℕ) (t : Tables) (runs tops : List ℕ) : Type 0 where
-  pub words : Lies (t .nexts) (row-size * n) (Plan.nexts y 0 0)
-  pub leaves : Lies (t .codes) (row-size * n) (takes y)
+  pub all-codes : Lies (t .codes) (row-size * n) (codes-of y 0 0)
   pub ran : getD runs n 0 ≡ 1 + run y
   pub topped : getD tops n 0 ≡ width y - 1
 
@@ -152,7 +171,7 @@ head-root top made (child m) = made .placed _ _ m stand-in (in-fine m (top .fine
 
 -- so the top of the piece sits at that record
 pub head-sits : {list : List ℕ} {x y : Nested Leaf} {f n : ℕ} {t : Tables} {runs tops : List ℕ} → Top list x
-    → Pieces-made x n t runs tops → Head x y f n → Sits list (getD (t .roots) n 0) n 0 (head-site y f n)
+    → Pieces-made x n t runs tops → Head x y f n → Sits list (1 + run x) (getD (t .roots) n 0) n 0 (head-site y f n)
 head-sits top made head = sits (in-fine (head-in head) (top .fine)) (head-root top made head)
 
 -- a piece's top is a node
@@ -166,15 +185,15 @@ pub made-none : (x : Nested Leaf) (t : Tables) (runs tops : List ℕ) → getD (
 made-none x t runs tops e =
     record { rooted = e; placed = λ u n m s low. absurd (omega arith); rows = λ head low. absurd (omega arith) }
 
--- the tables when a piece has been walked and its last word set
+-- the tables when a piece has been walked and the code of its accepting state set
 abbrev pub closed-row : Tables → (k last : ℕ) → Tables
-closed-row t k last = tables (set (t .nexts) (row-size * k + last - 1) 0) (t .codes) (t .stands) (t .roots)
+closed-row t k last = tables (set (t .codes) (row-size * k + last - 1) 0) (t .stands) (t .roots)
 
 module _ {list : List ℕ} {x : Nested Leaf} (top : Top list x) (k : ℕ) (inside : k < 1 + run x) {t after : Tables}
-    (full : Tables-room after)
-    {runs tops : List ℕ} (runs-room : length runs ≡ most-pieces) (tops-room : length tops ≡ most-pieces)
+    (full : Tables-room (1 + run x) after)
+    {runs tops : List ℕ} (runs-room : 1 + run x ≤ length runs) (tops-room : 1 + run x ≤ length tops)
     (made : Pieces-made x k t runs tops)
-    {last r : ℕ} (done : Visited list (getD (t .roots) k 0) k 0 t after last)
+    {last r : ℕ} (done : Visited-within list (1 + run x) (getD (t .roots) k 0) k 0 t after last)
     (counted : (y : Nested Leaf) (f : ℕ) → Head x y f k → r ≡ run y) where
   -- the walk has filled the row of the piece k
   filled : {y : Nested Leaf} {f : ℕ} → Head x y f k → Filled (head-site y f k) t after last
@@ -186,9 +205,6 @@ module _ {list : List ℕ} {x : Nested Leaf} (top : Top list x) (k : ℕ) (insid
 
   this-filled : Filled (head-site (this .top) (this .begin) k) t after last
   this-filled = filled (this .head)
-
-  few : k < most-pieces
-  few = omega (arith, top .fine .few)
 
   -- a stand-in of a piece made before keeps its place
   still : (u : Site) (n : ℕ) → In (whole-site x) u → Stand-in u n → piece u < k → Same-place t after n
@@ -228,17 +244,16 @@ module _ {list : List ℕ} {x : Nested Leaf} (top : Top list x) (k : ℕ) (insid
       let long = length-fronts y 0 in
       let broad = wide y in
       let small = in-fine (head-in head) (top .fine) .narrow in
-      let room = full .of-nexts in
-      let low-k = few in
-      let front : Lies (closed-row after k last .nexts) (row-size * k) (fronts y 0) =
-      lies-at (lies-same (closed-row after k last .nexts) (part .words)
-      (λ j low high. getD-set-other (after .nexts) (row-size * k + last - 1) j 0 0 (λ same. omega arith)))
+      let room = full .of-codes in
+      let low-k = inside in
+      let front : Lies (closed-row after k last .codes) (row-size * k) (fronts y 0) =
+      lies-at (lies-same (closed-row after k last .codes) (part .front)
+      (λ j low high. getD-set-other (after .codes) (row-size * k + last - 1) j 0 0 (λ same. omega arith)))
       (omega arith) in
       record {
-        words = lies-is
-            (lies-append front (entry (getD-set-same (after .nexts) (row-size * k + last - 1) 0 0 (omega arith)) ends)
-            (omega arith)) (sym (nexts-fronts y 0 0));
-        leaves = lies-at (part .leaves) (omega arith);
+        all-codes = lies-is
+            (lies-append front (entry (getD-set-same (after .codes) (row-size * k + last - 1) 0 0 (omega arith)) ends)
+            (omega arith)) (sym (codes-fronts y 0 0));
         ran = getD-set-same runs k (r + 1) 0 (omega arith) ∙ omega (arith, counted y f head);
         topped = getD-set-same tops k (last - 1) 0 (omega arith) ∙ omega arith;
       }
@@ -252,13 +267,11 @@ module _ {list : List ℕ} {x : Nested Leaf} (top : Top list x) (k : ℕ) (insid
       let row = made .rows head low in
       let broad = wide (this .top) in
       let small = in-fine (head-in head) (top .fine) .narrow in
-      let long = length-nexts y 0 0 in
-      let long-codes = length-takes y in
+      let long = length-codes y 0 0 in
       record {
-        words = lies-same (closed-row after k last .nexts) (row .words)
-            (λ j above high. getD-set-other (after .nexts) (row-size * k + last - 1) j 0 0 (λ same. omega arith)
-            ∙ part .words-before j (omega arith));
-        leaves = lies-same (after .codes) (row .leaves) (λ j above high. part .leaves-before j (omega arith));
+        all-codes = lies-same (closed-row after k last .codes) (row .all-codes)
+            (λ j above high. getD-set-other (after .codes) (row-size * k + last - 1) j 0 0 (λ same. omega arith)
+            ∙ part .codes-before j (omega arith));
         ran = getD-set-other runs k n (r + 1) 0 (λ same. omega arith) ∙ row .ran;
         topped = getD-set-other tops k n (last - 1) 0 (λ same. omega arith) ∙ row .topped;
       }
@@ -277,9 +290,9 @@ module _ {list : List ℕ} {x : Nested Leaf} (top : Top list x) (k : ℕ) (insid
   }
 
 -- when all pieces have been made, the tables are those that are wanted
-module _ {list : List ℕ} {x : Nested Leaf} (top : Top list x) {t : Tables} (room : Tables-room t) {runs tops : List ℕ}
+module _ {list : List ℕ} {x : Nested Leaf} (top : Top list x) {t : Tables} (room : Tables-room (1 + run x) t) {runs tops : List ℕ}
     (made : Pieces-made x (1 + run x) t runs tops) where
-  -- the tables without the words
+  -- the tables without the roots
   abbrev told : Plan.Pieces
   told = record { codes = t .codes; runs = runs; stands = t .stands; tops = tops }
 
@@ -294,23 +307,14 @@ module _ {list : List ℕ} {x : Nested Leaf} (top : Top list x) {t : Tables} (ro
   piece-told : {y : Nested Leaf} {f n : ℕ} → Head x y f n → Plan.Piece-at told y n
   piece-told {y} {f} {n} head =
       let row = made .rows head (head-low head) in
-      let long = length-takes y in
+      let long = length-codes y 0 0 in
       let small = in-fine (head-in head) (top .fine) in
       record {
-        coded = subst (λ (k : ℕ). take k (drop (row-size * n) (t .codes)) ≡ takes y) long
-            (lies-row (row .leaves) (omega (arith, room .of-codes, small .narrow, small .later, small .few)));
+        coded = subst (λ (k : ℕ). take k (drop (row-size * n) (t .codes)) ≡ codes-of y 0 0) long
+            (lies-row (row .all-codes) (omega (arith, room .of-codes, small .narrow, small .later, small .few)));
         ran = row .ran;
         topped = row .topped;
       }
-
-  -- each piece's row has its words
-  words-told : {y : Nested Leaf} {f n : ℕ} → Head x y f n → Plan.Nexts y (Plan.row (t .nexts) n (width y))
-  words-told {y} {f} {n} head =
-      let row = made .rows head (head-low head) in
-      let long = length-nexts y 0 0 in
-      let small = in-fine (head-in head) (top .fine) in
-      subst (λ (k : ℕ). take k (drop (row-size * n) (t .nexts)) ≡ Plan.nexts y 0 0) long
-      (lies-row (row .words) (omega (arith, room .of-nexts, small .narrow, small .later, small .few)))
 
   -- so they do of the child pieces below each site
   children-told : (y : Nested Leaf) {f p n i : ℕ} → In (whole-site x) (site y f p n i) → Plan.Children-at told y i n
@@ -325,29 +329,17 @@ module _ {list : List ℕ} {x : Nested Leaf} (top : Top list x) {t : Tables} (ro
     children-told y (in-child m under),
   )
 
-  below-told : (y : Nested Leaf) {f p n i : ℕ} → In (whole-site x) (site y f p n i)
-      → Plan.Each-below Plan.Nexts (t .nexts) y n
-  below-told (leaf a) m = tt
-  below-told (catenation y z) m =
-      (below-told y (in-child m catenation-left), below-told z (in-child m catenation-right))
-  below-told (union y z) m = (below-told y (in-child m union-left), below-told z (in-child m union-right))
-  below-told (star y) m = below-told y (in-child m operand)
-  below-told (below y) m = (words-told (child m), below-told y (in-child m under))
-
   pub made-planned : Plan.Planned told x
   made-planned = (piece-told root, children-told x here)
-
-  pub made-nexts : Plan.Each Plan.Nexts (t .nexts) x
-  made-nexts = (words-told root, below-told x here)
 
 -- the tables of the list are being made, and have been made for the pieces up to k
 pub record Making (list cuts : List ℕ) (k : ℕ) (t : Tables) (runs tops : List ℕ) : Type 0 where
   pub listed : Listed list
   pub counted : Counts-below list cuts
-  pub cuts-room : length cuts ≡ slot-count
-  pub room : Tables-room t
-  pub runs-room : length runs ≡ most-pieces
-  pub tops-room : length tops ≡ most-pieces
+  pub cuts-room : length list / record-size < length cuts
+  pub room : (x : Nested Leaf) → Top list x → Tables-room (1 + run x) t
+  pub runs-room : (x : Nested Leaf) → Top list x → 1 + run x ≤ length runs
+  pub tops-room : (x : Nested Leaf) → Top list x → 1 + run x ≤ length tops
   pub so-far : (x : Nested Leaf) → Top list x → Pieces-made x k t runs tops
 
 -- k is the number of a piece
@@ -364,18 +356,22 @@ module _ {list cuts : List ℕ} {k : ℕ} {t : Tables} {runs tops : List ℕ} (m
   the-piece : Piece-of (making .listed .some) k
   the-piece = piece-of (making .listed .some) k (inside .below-count _ the-top)
 
-  the-sits : Sits list (getD (t .roots) k 0) k 0 (head-site (the-piece .top) (the-piece .begin) k)
+  the-sits : Sits list (1 + run (making .listed .some)) (getD (t .roots) k 0) k 0 (head-site (the-piece .top) (the-piece .begin) k)
   the-sits = head-sits the-top (making .so-far _ the-top) (the-piece .head)
 
+  the-room : Tables-room (1 + run (making .listed .some)) t
+  the-room = making .room _ the-top
+
   -- what its walk needs
-  pub piece-few : k < most-pieces
-  piece-few = omega (arith, inside .below-count _ the-top, the-top .fine .few)
-
   pub piece-ready : Visitable list (getD (t .roots) k 0) k 0 t
-  piece-ready = record { some = _; sitting = the-sits; room = making .room }
+  piece-ready = record { room = _; some = _; sitting = the-sits; full = the-room }
 
-  pub piece-within : Piece-bounds list (getD (t .roots) k 0) k 0
+  pub piece-within : Piece-bounds list (1 + run (making .listed .some)) (getD (t .roots) k 0) k 0
   piece-within = bounds the-sits
+
+  -- the root's record can be looked up
+  pub root-within : k < length (t .roots)
+  root-within = omega (arith, piece-within .few-pieces, the-room .of-roots)
 
   -- the number of the pieces below it is known
   piece-runs : (x : Nested Leaf) → Top list x → (y : Nested Leaf) (f : ℕ) → Head x y f k
@@ -390,39 +386,47 @@ module _ {list cuts : List ℕ} {k : ℕ} {t : Tables} {runs tops : List ℕ} (m
         arith,
         piece-runs _ the-top _ _ (the-piece .head),
         in-fine (head-in (the-piece .head)) (the-top .fine) .few,
+        the-top .fine .low,
       )
 
   module _ {after : Tables} {last : ℕ} (done : Visited list (getD (t .roots) k 0) k 0 t after last) where
     -- the walk ends within the row
     pub piece-ends : (2 ≤ last) × (last ≤ most-states)
-    piece-ends = omega (arith, filled-ends the-sits (done _ the-sits))
+    piece-ends = omega (arith, filled-ends the-sits (done _ the-room _ the-sits))
 
     -- and the pieces up to k + 1 have been made
-    pub piece-made : Tables-room after → (x : Nested Leaf) → Top list x
+    pub piece-made : Same-lengths t after → (x : Nested Leaf) → Top list x
         → Pieces-made x (k + 1) (closed-row after k last) (set runs k (getD cuts (getD (t .roots) k 0 + 1) 0 + 1))
         (set tops k (last - 1))
-    piece-made full x top = made-more top k (inside .below-count x top) full (making .runs-room) (making .tops-room)
-        (making .so-far x top) done (piece-runs x top)
+    piece-made same x top =
+        made-more top k (inside .below-count x top) (room-kept same (making .room x top)) (making .runs-room x top)
+        (making .tops-room x top) (making .so-far x top) (done _ (making .room x top)) (piece-runs x top)
 
 -- all that storing the piece's numbers needs
-pub record Storable (k last node count : ℕ) : Type 0 where
-  pub few : k < most-pieces
+pub record Storable (k last node count : ℕ) (codes runs tops cuts : List ℕ) : Type 0 where
+  pub row-within : row-size * k + row-size ≤ length codes
+  pub run-within : k < length runs
+  pub top-within : k < length tops
+  pub cut-within : node + 1 < length cuts
   pub two : 2 ≤ last
   pub narrow : last ≤ most-states
-  pub few-nodes : node < most-records
   pub small : count < most-pieces
 
 pub piece-storable : {list cuts : List ℕ} {k : ℕ} {t after : Tables} {runs tops : List ℕ} {last : ℕ}
     → Making list cuts k t runs tops → Piece-number list k
-    → Visited list (getD (t .roots) k 0) k 0 t after last
-    → Storable k last (getD (t .roots) k 0) (getD cuts (getD (t .roots) k 0 + 1) 0)
-piece-storable making inside done =
+    → Visited list (getD (t .roots) k 0) k 0 t after last → Same-lengths t after
+    → Storable k last (getD (t .roots) k 0) (getD cuts (getD (t .roots) k 0 + 1) 0) (after .codes) runs tops cuts
+piece-storable making inside done same =
     let ended = piece-ends making inside done in
+    let top = the-top making inside in
+    let within = piece-within making inside in
     record {
-      few = piece-few making inside;
+      row-within = omega (arith, row-within (piece-ready making inside), same .of-codes);
+      run-within = omega (arith, within .few-pieces, making .runs-room _ top);
+      top-within = omega (arith, within .few-pieces, making .tops-room _ top);
+      cut-within = omega (arith, within .listed, making .cuts-room);
       two = ended .0;
       narrow = ended .1;
-      few-nodes = piece-within making inside .few-nodes;
       small = piece-few-below making inside;
     }
 
@@ -436,23 +440,22 @@ total-inside all low = record { below-count = λ x top. omega (arith, all .count
 
 -- there are at most 128 pieces
 pub total-few : {list : List ℕ} {total : ℕ} → Listed list → Total list total → total ≤ most-pieces
-total-few listed all = omega (arith, all .counts-all _ (listed .top), listed .top .fine .few)
+total-few listed all = omega (arith, all .counts-all _ (listed .top), listed .top .fine .few, listed .top .fine .low)
 
 -- from one piece to the next
 pub making-more : {list cuts : List ℕ} {k : ℕ} {t : Tables} {runs tops : List ℕ} → Making list cuts k t runs tops
-    → (nexts codes runs-after stands tops-after roots : List ℕ) → length nexts ≡ length (t .nexts)
-    → length codes ≡ length (t .codes) → length runs-after ≡ length runs
-    → length stands ≡ length (t .stands) → length tops-after ≡ length tops → length roots ≡ length (t .roots)
-    → ((x : Nested Leaf) → Top list x → Pieces-made x (k + 1) (tables nexts codes stands roots) runs-after tops-after)
-    → Making list cuts (k + 1) (tables nexts codes stands roots) runs-after tops-after
-making-more making nexts codes runs-after stands tops-after roots a b c d e f more =
+    → (codes runs-after stands tops-after roots : List ℕ) → Same-lengths t (tables codes stands roots)
+    → length runs-after ≡ length runs → length tops-after ≡ length tops
+    → ((x : Nested Leaf) → Top list x → Pieces-made x (k + 1) (tables codes stands roots) runs-after tops-after)
+    → Making list cuts (k + 1) (tables codes stands roots) runs-after tops-after
+making-more making codes runs-after stands tops-after roots same same-runs same-tops more =
     record {
       listed = making .listed;
       counted = making .counted;
       cuts-room = making .cuts-room;
-      room = room-kept nexts codes stands roots (making .room) a b d f;
-      runs-room = c ∙ making .runs-room;
-      tops-room = e ∙ making .tops-room;
+      room = λ x top. room-kept same (making .room x top);
+      runs-room = λ x top. omega (arith, same-runs, making .runs-room x top);
+      tops-room = λ x top. omega (arith, same-tops, making .tops-room x top);
       so-far = more;
     }
 

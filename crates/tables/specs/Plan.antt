@@ -1,7 +1,7 @@
 -- What is made of a list once, before any byte is read: for each piece where its states, its leaves and its child
 -- pieces are.
 -- Entry row-size * k + i of a table speaks of state i of the piece k.
-use Prim.Native.Nat.{ℕ, _+_, _*_, _-_, _^_, _<_}
+use Prim.Native.Nat.{ℕ, _+_, _*_, _-_, _/_, _%_, _^_, _<_}
 use mathlib.Core.Path.{_≡_}
 use mathlib.Core.Bool.{cond}
 use mathlib.Core.Logic.{_↔_}
@@ -16,35 +16,54 @@ use Rattle.tables.specs.Words.{word-bits, Bit, width, run, Own, number}
 abbrev pub row-size : ℕ
 row-size = word-bits
 
--- the entry of a piece's row that is no state's: its word has the bits of the states with a code
-abbrev pub leaves-entry : ℕ
-leaves-entry = 63
+-- the code of a state says in its two lowest bits where empty transitions lead from it. Bit 0: to the next state
+abbrev pub leads-on : ℕ
+leads-on = 1
 
--- the word of a leaf's start, numbered i: the bit of its accepting state, where the leaf has the empty text
-abbrev pub leaf-next : Leaf → ℕ → ℕ
-leaf-next a i = cond (has-empty a) (2 ^ (i + 1)) 0
+-- bit 1: they jump to the state whose number stands above the two bits
+abbrev pub jumps-to : ℕ → ℕ
+jumps-to target = 4 * target + 2
 
--- the words of the empty transitions: one for each state of x's own part of its piece, numbered from i, in the order of
--- the numbers.
--- Bit j is set for a transition to state j. `exit` is the word of x's accepting state
-abbrev pub nexts : Nested Leaf → ℕ → ℕ → List ℕ
-nexts (leaf a) i exit = leaf-next a i ∷ exit ∷ []
-nexts (catenation x y) i exit =
-    (2 ^ (i + 1)) ∷ (nexts x (i + 1) (2 ^ (i + (1 + width x)))
-    ++ nexts y (i + (1 + width x)) (2 ^ (i + (1 + width x + width y))) ++ (exit ∷ []))
-nexts (union x y) i exit =
-    (2 ^ (i + 1) + 2 ^ (i + (1 + width x))) ∷ (nexts x (i + 1) (2 ^ (i + (1 + width x + width y)))
-    ++ nexts y (i + (1 + width x)) (2 ^ (i + (1 + width x + width y))) ++ (exit ∷ []))
-nexts (star x) i exit =
-    (2 ^ (i + 1) + 2 ^ (i + (1 + width x))) ∷ (nexts x (i + 1) (2 ^ (i + 1) + 2 ^ (i + (1 + width x))) ++ (exit ∷ []))
-nexts (below x) i exit = 0 ∷ exit ∷ []
+-- both bits: one leads to the next state, and one jumps
+abbrev pub leads-and-jumps : ℕ → ℕ
+leads-and-jumps target = 4 * target + 3
 
--- the code of a leaf's start: even and not 0 for a character, odd for a class, so that it gives back its leaf
+-- a state with this code leads to the next one
+abbrev pub Leads-on : ℕ → Type 0
+Leads-on code = code % 2 ≡ 1
+
+-- a state with this code jumps
+abbrev pub Jumps : ℕ → Type 0
+Jumps code = code / 2 % 2 ≡ 1
+
+-- a state with this code is the start of a leaf that may take a byte
+abbrev pub Is-leaf : ℕ → Type 0
+Is-leaf code = (code % 4 ≡ 0) × (code ≡ 0 → ⊥)
+
+-- a leaf's number: even and not 0 for a character, odd for a class, so that it gives back its leaf
 abbrev pub start-code : Leaf → ℕ
 start-code (character c) = 2 * (c + 1)
 start-code (class k) = 2 * k + 1
 
--- the codes of the states: a leaf's at its start, else 0, which is no leaf's code: a stand-in reads no byte
+-- the code of a leaf's start: it leads on where the leaf has the empty text, else the leaf's number stands above the two
+-- bits, which are 0
+abbrev pub leaf-code : Leaf → ℕ
+leaf-code a = cond (has-empty a) leads-on (4 * start-code a)
+
+-- the codes of the states of x's own part of its piece, numbered from i, in the order of the numbers. `exit` is the code
+-- of x's accepting state. A stand-in's start has the code 0: no empty transition leads from it and it reads no byte
+abbrev pub codes-of : Nested Leaf → ℕ → ℕ → List ℕ
+codes-of (leaf a) i exit = leaf-code a ∷ exit ∷ []
+codes-of (catenation x y) i exit =
+    leads-on ∷ (codes-of x (i + 1) leads-on ++ codes-of y (i + (1 + width x)) leads-on ++ (exit ∷ []))
+codes-of (union x y) i exit =
+    leads-and-jumps (i + (1 + width x)) ∷ (codes-of x (i + 1) (jumps-to (i + (1 + width x + width y)))
+    ++ codes-of y (i + (1 + width x)) leads-on ++ (exit ∷ []))
+codes-of (star x) i exit =
+    leads-and-jumps (i + (1 + width x)) ∷ (codes-of x (i + 1) (leads-and-jumps (i + 1)) ++ (exit ∷ []))
+codes-of (below x) i exit = 0 ∷ exit ∷ []
+
+-- the numbers of the leaves: a leaf's at its start, else 0, which is no leaf's: a stand-in reads no byte
 abbrev pub takes : Nested Leaf → List ℕ
 takes (leaf a) = start-code a ∷ 0 ∷ []
 takes (catenation x y) = 0 ∷ (takes x ++ takes y ++ (0 ∷ []))
@@ -66,7 +85,7 @@ pub record Pieces : Type 0 where
 
 -- the tables speak of the piece k, which is the top piece of x
 pub record Piece-at (tables : Pieces) (x : Nested Leaf) (k : ℕ) : Type 0 where
-  pub coded : row (tables .codes) k (width x) ≡ takes x
+  pub coded : row (tables .codes) k (width x) ≡ codes-of x 0 0
   pub ran : getD (tables .runs) k 0 ≡ 1 + run x
   pub topped : getD (tables .tops) k 0 ≡ width x - 1
 
@@ -85,29 +104,6 @@ Children-at tables (below x) i new = (getD (tables .stands) new 0 ≡ i) × Piec
 -- the tables speak of every piece of x, whose top piece is 0
 abbrev pub Planned : Pieces → Nested Leaf → Type 0
 Planned tables x = Piece-at tables x 0 × Children-at tables x 0 1
-
--- the words of x's top piece are those of the empty transitions
-abbrev pub Nexts : Nested Leaf → List ℕ → Type 0
-Nexts x words = words ≡ nexts x 0 0
-
--- the closing table of the top piece: one word for each state, with the bits of the states that empty transitions
--- reach from it
-pub record Reaches (x : Nested Leaf) (words : List ℕ) : Type 0 where
-  pub exactly : (p q : State) → Own x p → Own x q → Bit (getD words (number x p) 0) (number x q)
-      ↔ Path-of (Own-empty byteless x) p q
-  pub clean : (i : ℕ) → i < width x → getD words i 0 < 2 ^ width x
-
--- in a table, the row of each child piece below x is as P says of the piece; the child pieces are numbered from new
-abbrev pub Each-below : (Nested Leaf → List ℕ → Type 0) → List ℕ → Nested Leaf → ℕ → Type 0
-Each-below P table (leaf a) new = Unit {0}
-Each-below P table (catenation x y) new = Each-below P table x new × Each-below P table y (new + run x)
-Each-below P table (union x y) new = Each-below P table x new × Each-below P table y (new + run x)
-Each-below P table (star x) new = Each-below P table x new
-Each-below P table (below x) new = P x (row table new (width x)) × Each-below P table x (new + 1)
-
--- in a table, the row of each piece of x, whose top piece is 0, is as P says of the piece
-abbrev pub Each : (Nested Leaf → List ℕ → Type 0) → List ℕ → Nested Leaf → Type 0
-Each P table x = P x (row table 0 (width x)) × Each-below P table x 1
 
 -- r is the word w of x's top piece, closed: its states that empty transitions of its own tree reach from the states of
 -- w

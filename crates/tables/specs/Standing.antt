@@ -158,11 +158,12 @@ pub record Written (list : List ℕ) (s : Site) : Type 0 where
   pub parts : list ≡ before ++ (stored (tree s) (first s) (piece s) (new s) ++ after)
   pub begins : length before ≡ record-size * first s
 
--- the site stands in the list, and its numbers are within bounds
-pub record Fine (list : List ℕ) (s : Site) : Type 0 where
+-- the site stands in the list, and its numbers are within bounds: its pieces are among the first `room`
+pub record Fine (list : List ℕ) (room : ℕ) (s : Site) : Type 0 where
   pub written : Written list s
   pub later : piece s < new s
-  pub few : new s + run (tree s) ≤ most-pieces
+  pub few : new s + run (tree s) ≤ room
+  pub low : room ≤ most-pieces
   pub narrow : number s + width (tree s) ≤ most-states
   pub short : first s + size (tree s) ≤ most-records
   pub sound : Sound (tree s)
@@ -224,12 +225,13 @@ child-written (operand {x = x} {f = f} {p = p} {n = n}) w =
 child-written under w = record { before = w .before; after = w .after; parts = w .parts; begins = w .begins }
 
 -- the children of a site within bounds are so too
-pub child-fine : {list : List ℕ} {s t : Site} → Child s t → Fine list s → Fine list t
+pub child-fine : {list : List ℕ} {s t : Site} {room : ℕ} → Child s t → Fine list room s → Fine list room t
 child-fine (catenation-left {x = x} {y = y}) h =
     record {
       written = child-written catenation-left (h .written);
       later = h .later;
       few = omega arith;
+      low = h .low;
       narrow =
           omega arith;
       short = omega arith;
@@ -241,6 +243,7 @@ child-fine (catenation-right {x = x} {y = y}) h =
       written = child-written catenation-right (h .written);
       later = omega arith;
       few = omega arith;
+      low = h .low;
       narrow =
           omega arith;
       short = omega arith;
@@ -252,6 +255,7 @@ child-fine (union-left {x = x} {y = y}) h =
       written = child-written union-left (h .written);
       later = h .later;
       few = omega arith;
+      low = h .low;
       narrow = omega arith;
       short = omega arith;
       sound = h .sound .0;
@@ -262,6 +266,7 @@ child-fine (union-right {x = x} {y = y}) h =
       written = child-written union-right (h .written);
       later = omega arith;
       few = omega arith;
+      low = h .low;
       narrow =
           omega arith;
       short = omega arith;
@@ -273,6 +278,7 @@ child-fine (operand {x = x}) h =
       written = child-written operand (h .written);
       later = h .later;
       few = omega arith;
+      low = h .low;
       narrow = omega arith;
       short = omega arith;
       sound = h .sound;
@@ -283,6 +289,7 @@ child-fine (under {x = x}) h =
       written = child-written under (h .written);
       later = omega arith;
       few = omega arith;
+      low = h .low;
       narrow =
           omega (arith, h .sound .1);
       short = omega arith;
@@ -291,7 +298,7 @@ child-fine (under {x = x}) h =
     }
 
 -- and so is all that lies below it
-pub in-fine : {list : List ℕ} {s t : Site} → In s t → Fine list s → Fine list t
+pub in-fine : {list : List ℕ} {s t : Site} {room : ℕ} → In s t → Fine list room s → Fine list room t
 in-fine here h = h
 in-fine (step c m) h = in-fine m (child-fine c h)
 
@@ -310,29 +317,29 @@ root-shows {list} {s = site x f p n i} w r kind character left right own at e sm
     rw split (shows (w .before ++ inner x f p n) (w .after) r kind character left right own
     (simp length-append (omega arith)) small-left small-right small-piece)
 
-module _ {list : List ℕ} {f p n i : ℕ} where
+module _ {list : List ℕ} {f p n i : ℕ} {room : ℕ} where
   -- what the record of a node shows, by the node's kind
-  pub leaf-shows : (a : Leaf) → Fine list (site (leaf a) f p n i) → (r : ℕ) → r + 1 ≡ f + 1
+  pub leaf-shows : (a : Leaf) → Fine list room (site (leaf a) f p n i) → (r : ℕ) → r + 1 ≡ f + 1
       → Shows list r (leaf-kind a) (leaf-character a) (leaf-number a) no-child p
   leaf-shows (Leaf.character c) h r at =
       root-shows (h .written) r _ _ _ _ _ at refl (omega arith) (omega arith) (omega arith)
   leaf-shows (Leaf.class k) h r at =
       root-shows (h .written) r _ _ _ _ _ at refl (omega (arith, h .numbers)) (omega arith) (omega arith)
 
-  pub catenation-shows : {x y : Nested Leaf} → Fine list (site (catenation x y) f p n i) → (r : ℕ)
+  pub catenation-shows : {x y : Nested Leaf} → Fine list room (site (catenation x y) f p n i) → (r : ℕ)
       → r + 1 ≡ f + size (catenation x y) → Shows list r catenation-kind 0 (f + size x - 1) (f + size x + size y - 1) p
   catenation-shows h r at = root-shows (h .written) r _ _ _ _ _ at refl (omega arith) (omega arith) (omega arith)
 
-  pub union-shows : {x y : Nested Leaf} → Fine list (site (union x y) f p n i) → (r : ℕ) → r + 1 ≡ f + size (union x y)
+  pub union-shows : {x y : Nested Leaf} → Fine list room (site (union x y) f p n i) → (r : ℕ) → r + 1 ≡ f + size (union x y)
       → Shows list r union-kind 0 (f + size x - 1) (f + size x + size y - 1) p
   union-shows h r at = root-shows (h .written) r _ _ _ _ _ at refl (omega arith) (omega arith) (omega arith)
 
-  pub star-shows : {x : Nested Leaf} → Fine list (site (star x) f p n i) → (r : ℕ) → r + 1 ≡ f + size (star x)
+  pub star-shows : {x : Nested Leaf} → Fine list room (site (star x) f p n i) → (r : ℕ) → r + 1 ≡ f + size (star x)
       → Shows list r star-kind 0 (f + size x - 1) no-child p
   star-shows h r at = root-shows (h .written) r _ _ _ _ _ at refl (omega arith) (omega arith) (omega arith)
 
 -- the piece that a node's record shows is the node's
-pub piece-shows : {list : List ℕ} {f p n i : ℕ} (x : Nested Leaf) → Plain x → Fine list (site x f p n i) → (r : ℕ)
+pub piece-shows : {list : List ℕ} {f p n i : ℕ} {room : ℕ} (x : Nested Leaf) → Plain x → Fine list room (site x f p n i) → (r : ℕ)
     → r + 1 ≡ f + size x → piece-at list r ≡ p
 piece-shows (leaf a) plain h r at = leaf-shows a h r at .piece-is
 piece-shows (catenation x y) plain h r at = catenation-shows h r at .piece-is
@@ -341,7 +348,7 @@ piece-shows (star x) plain h r at = star-shows h r at .piece-is
 piece-shows (below x) plain h r at = absurd plain
 
 -- the list holds the records of the site
-pub within : {list : List ℕ} {s : Site} → Fine list s → record-size * (first s + size (tree s)) ≤ length list
+pub within : {list : List ℕ} {s : Site} {room : ℕ} → Fine list room s → record-size * (first s + size (tree s)) ≤ length list
 within {list} {s = site x f p n i} h =
     let w = h .written in
     let e = w .begins in
@@ -400,7 +407,7 @@ one-stand-in {v = v} (step {t = t} c m) (step d l) a b =
     one-stand-in m (subst (λ (q : Site). In q v) (sym e) l) a b
 
 -- pieces below a site have higher numbers than the site's
-pub piece-grows : {list : List ℕ} {s u : Site} → Fine list s → In s u → piece s ≤ piece u
+pub piece-grows : {list : List ℕ} {s u : Site} {room : ℕ} → Fine list room s → In s u → piece s ≤ piece u
 piece-grows h here = omega arith
 piece-grows h (step catenation-left m) = piece-grows (child-fine catenation-left h) m
 piece-grows h (step catenation-right m) = piece-grows (child-fine catenation-right h) m

@@ -1,5 +1,5 @@
-// A piece's row of entries, filled by a walk of the piece's own tree: the words of the empty transitions and the codes
-// of the states.
+// A piece's codes, filled in by a walk of the piece's own tree: for each state where its empty transitions lead, or which
+// leaf starts there.
 use crate::ROW_SIZE;
 use tree::layout::CATENATION;
 use tree::layout::CHARACTER;
@@ -11,91 +11,82 @@ use tree::layout::left_at;
 use tree::layout::piece_at;
 use tree::layout::right_at;
 ghost use mathlib.Core.Path.{_≡_};
-ghost use Prim.Native.Nat.{_+_, _*_, _-_, _<_, _≤_, _^_};
+ghost use Prim.Native.Nat.{_+_, _*_, _-_, _<_, _≤_};
 ghost use lib.ListN.{length, set};
-ghost use Rattle.tree.specs.Limits.{most-pieces, most-records, most-states};
-ghost use Rattle.tables.specs.Words.{word-bits};
-ghost use Rattle.tables.specs.Plan.{leaves-entry, row-size};
+ghost use Rattle.tree.specs.Limits.{most-records, most-states};
+ghost use Rattle.tables.specs.Plan.{row-size, jumps-to, leads-and-jumps};
 ghost use Rattle.tables.specs.Entries.{thrice};
-ghost use Rattle.tables.specs.Filling.{start-word, left-exit, right-exit, tables, Tables-room, stand-entries};
-ghost use Rattle.tables.specs.Walking.{code-at, Code-readable, Wide, Visited, Visitable};
+ghost use Rattle.tables.specs.Filling.{begin-code, left-exit, right-exit, tables, stand-entries};
+ghost use Rattle.tables.specs.Walking.{code-at, Code-readable, Visited, Visitable};
 
-// The word with bit i alone.
-fn bit(i: usize) -> u64
-    requires { ⌜ i < word-bits ⌝ }
-    ensures { λ r. ⌜ r ≡ 2 ^ i ⌝ }
+// The code of a state that leads to the next one and nowhere else.
+const LEADS_ON: u16 = 1;
+
+// The code of a state that jumps, and does not lead to the next one.
+fn jumps_to(target: usize) -> u16
+    requires { ⌜ target < most-states ⌝ }
+    ensures { λ r. ⌜ r ≡ jumps-to target ⌝ }
 {
-    1 << i
+    4 * target as u16 + 2
 }
 
-// The word with the bits i and j, which differ.
-fn two_bits(i: usize, j: usize) -> u64
-    requires { ⌜ (i < leaves-entry) × (j < leaves-entry) ⌝ }
-    ensures { λ r. ⌜ r ≡ 2 ^ i + 2 ^ j ⌝ }
+// The code of a state that leads to the next one and jumps.
+fn leads_and_jumps(target: usize) -> u16
+    requires { ⌜ target < most-states ⌝ }
+    ensures { λ r. ⌜ r ≡ leads-and-jumps target ⌝ }
 {
-    bit(i) + bit(j)
+    4 * target as u16 + 3
 }
 
-// The word of a node's start, by its kind.
-fn start_word(kind: u8, at: usize, middle: usize) -> u64
-    requires { ⌜ (at < most-states) × (middle < leaves-entry) ⌝ }
-    ensures { λ r. ⌜ r ≡ start-word kind at middle ⌝ }
+// The code of a node's start, by its kind.
+fn begin_code(kind: u8, middle: usize) -> u16
+    requires { ⌜ middle < most-states ⌝ }
+    ensures { λ r. ⌜ r ≡ begin-code kind middle ⌝ }
 {
     if kind == CATENATION {
-        bit(at + 1)
+        LEADS_ON
     } else {
-        two_bits(at + 1, middle)
+        leads_and_jumps(middle)
     }
 }
 
-// The word of its right or only child's accepting state.
-fn right_exit(kind: u8, at: usize, middle: usize, last: usize) -> u64
-    requires { ⌜ (at < most-states) × (middle < leaves-entry) × (last < leaves-entry) ⌝ }
-    ensures { λ r. ⌜ r ≡ right-exit kind at middle last ⌝ }
+// The code of its right or only child's accepting state.
+fn right_exit(kind: u8, at: usize) -> u16
+    requires { ⌜ at + 1 < most-states ⌝ }
+    ensures { λ r. ⌜ r ≡ right-exit kind at ⌝ }
 {
     if kind == STAR {
-        two_bits(at + 1, middle)
+        leads_and_jumps(at + 1)
     } else {
-        bit(last)
+        LEADS_ON
     }
 }
 
-// The word of its left or only child's accepting state.
-fn left_exit(kind: u8, at: usize, middle: usize, last: usize) -> u64
-    requires { ⌜ (at < most-states) × (middle < leaves-entry) × (last < leaves-entry) ⌝ }
-    ensures { λ r. ⌜ r ≡ left-exit kind at middle last ⌝ }
+// The code of its left child's accepting state.
+fn left_exit(kind: u8, last: usize) -> u16
+    requires { ⌜ last < most-states ⌝ }
+    ensures { λ r. ⌜ r ≡ left-exit kind last ⌝ }
 {
     if kind == CATENATION {
-        bit(middle)
+        LEADS_ON
     } else {
-        right_exit(kind, at, middle, last)
+        jumps_to(last)
     }
 }
 
-// Two entries for a leaf or a stand-in, but for the word of its accepting state.
-fn pair(nexts: &mut [u64], codes: &mut [u16], at: usize, code: u16)
-    requires { ⌜ (at < length (now nexts)) × (at + 1 < length (now codes)) ⌝ }
-    ensures { λ _. ⌜ now (nexts .exit) ≡ set (now (nexts .entry)) at 0 ⌝ }
-    ensures { λ _. ⌜ now (codes .exit) ≡ set (set (now (codes .entry)) at code) (at + 1) 0 ⌝ }
-{
-    nexts[at] = 0;
-    codes[at] = code;
-    codes[at + 1] = 0;
-}
-
-// The code of a character: even, and not 0.
+// The code of a character's start: its number is even, and not 0.
 fn character_code(character: u8) -> u16
-    ensures { λ r. ⌜ r ≡ 2 * (character + 1) ⌝ }
+    ensures { λ r. ⌜ r ≡ 4 * (2 * (character + 1)) ⌝ }
 {
-    2 * (character as u16 + 1)
+    8 * (character as u16 + 1)
 }
 
-// The code of a class by its number: odd.
+// The code of a class's start by the class's number: odd above the two lowest bits.
 fn class_code(number: usize) -> u16
     requires { ⌜ number < most-records ⌝ }
-    ensures { λ r. ⌜ r ≡ 2 * number + 1 ⌝ }
+    ensures { λ r. ⌜ r ≡ 4 * (2 * number + 1) ⌝ }
 {
-    (2 * number + 1) as u16
+    (8 * number + 4) as u16
 }
 
 // The code of a record's leaf, or 0 where the record is not a leaf's.
@@ -112,108 +103,90 @@ fn code_at(list: &[u8], node: usize, kind: u8) -> u16
     0
 }
 
-// The entries of a leaf of this code at the number `at`. Gives the number after its last state's.
-fn leaf(code: u16, piece: usize, at: usize, nexts: &mut [u64], codes: &mut [u16]) -> usize
-    requires { ⌜ (piece < most-pieces) × (at + 2 ≤ most-states) ⌝ }
-    requires { ⌜ Wide (now nexts) (now codes) ⌝ }
+// The code of a leaf's start, numbered `at`. Gives the number after its last state's.
+fn leaf(code: u16, piece: usize, at: usize, codes: &mut [u16]) -> usize
+    requires { ⌜ (row-size * piece + row-size ≤ length (now codes)) × (at + 2 ≤ most-states) ⌝ }
     ensures { λ r. ⌜ r ≡ at + 2 ⌝ }
-    ensures { λ _. ⌜ now (nexts .exit) ≡ set (now (nexts .entry)) (row-size * piece + at) 0 ⌝ }
-    ensures { λ _. ⌜ now (codes .exit)
-        ≡ set (set (now (codes .entry)) (row-size * piece + at) code) (row-size * piece + at + 1) 0 ⌝ }
+    ensures { λ _. ⌜ now (codes .exit) ≡ set (now (codes .entry)) (row-size * piece + at) code ⌝ }
 {
-    pair(nexts, codes, ROW_SIZE * piece + at, code);
+    codes[ROW_SIZE * piece + at] = code;
     at + 2
 }
 
-// The entries of the stand-in of the piece `child`, whose root's record is `node`, and what is told of that piece.
+// The code of the start of the stand-in of the piece `child`, whose root's record is `node`, and what is told of that
+// piece.
 fn stand(
     child: usize,
     node: usize,
     piece: usize,
     at: usize,
-    nexts: &mut [u64],
     codes: &mut [u16],
     stands: &mut [u8],
     roots: &mut [u16],
 ) -> usize
-    requires { ⌜ (child < most-pieces) × (node < most-records) × (piece < most-pieces) × (at + 2 ≤ most-states) ⌝ }
-    requires { ⌜ Tables-room (tables (now nexts) (now codes) (now stands) (now roots)) ⌝ }
+    requires { ⌜ (child < length (now stands)) × (child < length (now roots)) × (node < most-records) ⌝ }
+    requires { ⌜ (row-size * piece + row-size ≤ length (now codes)) × (at + 2 ≤ most-states) ⌝ }
     ensures { λ r. ⌜ r ≡ at + 2 ⌝ }
-    ensures { λ _. ⌜ tables (now (nexts .exit)) (now (codes .exit)) (now (stands .exit)) (now (roots .exit))
-        ≡ stand-entries (tables (now (nexts .entry)) (now (codes .entry)) (now (stands .entry)) (now (roots .entry)))
+    ensures { λ _. ⌜ tables (now (codes .exit)) (now (stands .exit)) (now (roots .exit))
+        ≡ stand-entries (tables (now (codes .entry)) (now (stands .entry)) (now (roots .entry)))
         (row-size * piece + at) child at node ⌝ }
 {
-    pair(nexts, codes, ROW_SIZE * piece + at, 0);
+    codes[ROW_SIZE * piece + at] = 0;
     stands[child] = at as u8;
     roots[child] = node as u16;
     at + 2
 }
 
-// The entries of a node whose children's are there: its start's, its children's accepting states', and its codes.
-fn join(
-    kind: u8,
-    piece: usize,
-    at: usize,
-    middle: usize,
-    last: usize,
-    nexts: &mut [u64],
-    codes: &mut [u16],
-) -> usize
-    requires { ⌜ (piece < most-pieces) × (at < middle) × (middle ≤ last) × (last < most-states) ⌝ }
-    requires { ⌜ Wide (now nexts) (now codes) ⌝ }
+// The codes that a node gives when those of its children are there: its start's and its children's accepting states'.
+fn join(kind: u8, piece: usize, at: usize, middle: usize, last: usize, codes: &mut [u16]) -> usize
+    requires { ⌜ (row-size * piece + row-size ≤ length (now codes)) × (at < middle) × (middle ≤ last)
+        × (last < most-states) ⌝ }
     ensures { λ r. ⌜ r ≡ last + 1 ⌝ }
-    ensures { λ _. ⌜ now (nexts .exit)
-        ≡ thrice (now (nexts .entry)) (row-size * piece + at) (row-size * piece + middle - 1)
-        (row-size * piece + last - 1) (start-word kind at middle) (left-exit kind at middle last)
-        (right-exit kind at middle last) ⌝ }
     ensures { λ _. ⌜ now (codes .exit)
-        ≡ set (set (now (codes .entry)) (row-size * piece + at) 0) (row-size * piece + last) 0 ⌝ }
+        ≡ thrice (now (codes .entry)) (row-size * piece + at) (row-size * piece + middle - 1)
+        (row-size * piece + last - 1) (begin-code kind middle) (left-exit kind last) (right-exit kind at) ⌝ }
 {
     let base = ROW_SIZE * piece;
-    let start = start_word(kind, at, middle);
-    let left = left_exit(kind, at, middle, last);
-    let right = right_exit(kind, at, middle, last);
-    nexts[base + at] = start;
-    nexts[base + middle - 1] = left;
-    nexts[base + last - 1] = right;
-    codes[base + at] = 0;
-    codes[base + last] = 0;
+    let begin = begin_code(kind, middle);
+    let left = left_exit(kind, last);
+    let right = right_exit(kind, at);
+    codes[base + at] = begin;
+    codes[base + middle - 1] = left;
+    codes[base + last - 1] = right;
     last + 1
 }
 
-// The entries of the part of a piece at and below a record, from the number `at` on, but for the word of its accepting
-// state.
+// The codes of the part of a piece at and below a record, from the number `at` on, but for that of its accepting state.
 // Gives the number after its last state's. A record of another piece is a stand-in's.
 pub fn fill(
     list: &[u8],
     node: usize,
     piece: usize,
     at: usize,
-    nexts: &mut [u64],
     codes: &mut [u16],
     stands: &mut [u8],
     roots: &mut [u16],
 ) -> usize
-    requires { ⌜ Visitable (now list) node piece at (tables (now nexts) (now codes) (now stands) (now roots)) ⌝ }
+    requires { ⌜ Visitable (now list) node piece at (tables (now codes) (now stands) (now roots)) ⌝ }
     ensures { λ r. ⌜ Visited (now (list .entry)) node piece at
-        (tables (now (nexts .entry)) (now (codes .entry)) (now (stands .entry)) (now (roots .entry)))
-        (tables (now (nexts .exit)) (now (codes .exit)) (now (stands .exit)) (now (roots .exit))) r ⌝ }
+        (tables (now (codes .entry)) (now (stands .entry)) (now (roots .entry)))
+        (tables (now (codes .exit)) (now (stands .exit)) (now (roots .exit))) r ⌝ }
 {
     let own = piece_at(list, node);
     if own != piece {
-        return stand(own, node, piece, at, nexts, codes, stands, roots);
+        return stand(own, node, piece, at, codes, stands, roots);
     }
     let kind = kind_at(list, node);
     let code = code_at(list, node, kind);
     if code != 0 {
-        return leaf(code, piece, at, nexts, codes);
+        return leaf(code, piece, at, codes);
     }
     let left = left_at(list, node);
-    let middle = fill(list, left, piece, at + 1, nexts, codes, stands, roots);
+    let middle = fill(list, left, piece, at + 1, codes, stands, roots);
     if kind == STAR {
-        return join(kind, piece, at, middle, middle, nexts, codes);
+        return join(kind, piece, at, middle, middle, codes);
     }
     let right = right_at(list, node);
-    let last = fill(list, right, piece, middle, nexts, codes, stands, roots);
-    join(kind, piece, at, middle, last, nexts, codes)
+    let last = fill(list, right, piece, middle, codes, stands, roots);
+    join(kind, piece, at, middle, last, codes)
 }

@@ -1,11 +1,18 @@
-// The tables of a good list, made once before any byte is read: the words of the empty transitions, the codes of the
-// states, and where each piece stands.
+// The tables of a good list, made once before any byte is read: the codes of the states, and where each piece stands.
 mod fill;
 pub mod plan;
 
-// How many entries a piece has in a table: one for each bit of a word.
+// How many entries a piece has in the table of codes: one for each bit of a word.
 pub const ROW_SIZE: usize = 64;
-// The entry of a piece's row that is no state's.
-pub const LEAVES_ENTRY: usize = 63;
-// How many entries a table has: those of as many pieces as a good list may have.
+// How many codes there are: those of as many pieces as a good list may have.
 pub const TABLE_SIZE: usize = 8192;
+// How many masks a piece has: the states that lead on, those that jump, and the starts of leaves.
+pub const MASK_COUNT: usize = 3;
+// How many masks there are for as many pieces as a good list may have.
+pub const MASK_TABLE_SIZE: usize = 384;
+// Lists of so few pieces take small tables, with room for so many codes and masks.
+pub const FEW_PIECES: usize = 32;
+
+pub const FEW_CODES: usize = 2048;
+
+pub const FEW_MASKS: usize = 96;

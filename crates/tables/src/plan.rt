@@ -8,7 +8,7 @@ ghost use Rattle.language.specs.Tree.{Tree};
 ghost use Rattle.language.specs.Nested.{Nested};
 ghost use Rattle.tree.specs.Leaf.{Leaf};
 ghost use Rattle.tree.specs.Records.{Good};
-ghost use Rattle.tables.specs.Tables.{Roomy};
+ghost use Rattle.tables.specs.Tables.{Pieces-room};
 ghost use Rattle.tables.specs.Filling.{tables};
 ghost use Rattle.tables.specs.Below.{Top};
 ghost use Rattle.tables.specs.Making.{Pieces-made, Making, Piece-number, Total};
@@ -20,25 +20,24 @@ fn piece(
     list: &[u8],
     cuts: &[u16],
     k: usize,
-    nexts: &mut [u64],
     codes: &mut [u16],
     runs: &mut [u8],
     stands: &mut [u8],
     tops: &mut [u8],
     roots: &mut [u16],
 )
-    requires { ⌜ Making (now list) (now cuts) k (tables (now nexts) (now codes) (now stands) (now roots)) (now runs)
+    requires { ⌜ Making (now list) (now cuts) k (tables (now codes) (now stands) (now roots)) (now runs)
         (now tops) ⌝ }
     requires { ⌜ Piece-number (now list) k ⌝ }
     ensures { λ _. ⌜ ((x : Nested Leaf) → Top (now (list .entry)) x
         → Pieces-made x (k + 1)
-        (tables (now (nexts .exit)) (now (codes .exit)) (now (stands .exit)) (now (roots .exit)))
+        (tables (now (codes .exit)) (now (stands .exit)) (now (roots .exit)))
         (now (runs .exit)) (now (tops .exit))) ⌝ }
 {
     let node = roots[k] as usize;
-    let last = fill(list, node, k, 0, nexts, codes, stands, roots);
+    let last = fill(list, node, k, 0, codes, stands, roots);
     let below = cuts[node + 1];
-    nexts[ROW_SIZE * k + last - 1] = 0;
+    codes[ROW_SIZE * k + last - 1] = 0;
     runs[k] = (below + 1) as u8;
     tops[k] = (last - 1) as u8;
 }
@@ -48,57 +47,45 @@ fn pieces(
     list: &[u8],
     cuts: &[u16],
     total: usize,
-    nexts: &mut [u64],
     codes: &mut [u16],
     runs: &mut [u8],
     stands: &mut [u8],
     tops: &mut [u8],
     roots: &mut [u16],
 )
-    requires { ⌜ Making (now list) (now cuts) 0 (tables (now nexts) (now codes) (now stands) (now roots)) (now runs)
+    requires { ⌜ Making (now list) (now cuts) 0 (tables (now codes) (now stands) (now roots)) (now runs)
         (now tops) ⌝ }
     requires { ⌜ Total (now list) total ⌝ }
     ensures { λ _. ⌜ Making (now (list .entry)) (now (cuts .entry)) total
-        (tables (now (nexts .exit)) (now (codes .exit)) (now (stands .exit)) (now (roots .exit))) (now (runs .exit))
+        (tables (now (codes .exit)) (now (stands .exit)) (now (roots .exit))) (now (runs .exit))
         (now (tops .exit)) ⌝ }
 {
     let mut k: usize = 0;
     while k < total {
-        piece(list, cuts, k, nexts, codes, runs, stands, tops, roots);
+        piece(list, cuts, k, codes, runs, stands, tops, roots);
         k += 1;
     }
 }
 
 // Makes the tables of a good list, with what deciding on it has left: the pieces below each record's node, and how many
-// pieces there are in all. `nexts` has the words of the empty transitions.
+// pieces there are in all.
 pub fn plan(
     list: &[u8],
     cuts: &[u16],
     total: usize,
-    nexts: &mut [u64],
     codes: &mut [u16],
     runs: &mut [u8],
     stands: &mut [u8],
     tops: &mut [u8],
 )
     requires { ⌜ Decided-good (now list) (now cuts) total ⌝ }
-    requires { ⌜ Roomy (now nexts) (now codes) (now runs) (now stands) (now tops) ⌝ }
+    requires { ⌜ Pieces-room total (now codes) (now runs) (now stands) (now tops) ⌝ }
     ensures { λ _. ⌜ ((t : Tree Leaf) → Good (now (list .entry)) t
-        → Laid t (now (nexts .exit)) (now (codes .exit)) (now (runs .exit)) (now (stands .exit)) (now (tops .exit))
+        → Laid t (now (codes .exit)) (now (runs .exit)) (now (stands .exit)) (now (tops .exit))
         total) ⌝ }
 {
     let mut roots = [0u16; MOST_PIECES];
     let last = list.len() / RECORD_SIZE - 1;
     roots[0] = last as u16;
-    pieces(
-        list,
-        cuts,
-        total,
-        nexts,
-        codes,
-        runs,
-        stands,
-        tops,
-        &mut roots,
-    );
+    pieces(list, cuts, total, codes, runs, stands, tops, &mut roots);
 }

@@ -1,26 +1,26 @@
--- Why the row of one state closes a word that is closed but for what that state reaches.
-use Prim.Native.Nat.{ℕ, _+_, _*_, _^_, _≤_, _<_}
-use mathlib.Core.Path.{_≡_, sym, ap, subst}
-use mathlib.Core.Logic.{_⊎_, inl, inr, ⊎-elim}
+-- Why closing one state alone closes a word that is closed but for what that state reaches.
+use Prim.Native.Nat.{ℕ, _^_, _≤_, _<_}
+use mathlib.Core.Path.{_≡_, refl, sym, ap, subst, _∙_}
+use mathlib.Core.Logic.{_⊎_, inl, inr, _↔_, ⊎-elim}
 use mathlib.Core.List.{List}
+use native.Mathlib.Omega.{arith}
 use lib.Bits.{bitOr}
-use lib.ListN.{getD}
 use Rattle.language.specs.Automaton.{State, Path-of, here}
 use Rattle.language.specs.Nested.{Nested, Own-empty}
 use Rattle.tree.specs.Limits.{most-states}
 use Rattle.tree.specs.Leaf.{Leaf, byteless}
 use Rattle.tables.specs.Words.{Bit, width, Own, number}
-use Rattle.tables.specs.Plan.{row-size, row, Reaches, Closes}
-use Rattle.marks.specs.BitsOfWords.Bits.{bit-or, bit-below, below-of-bits}
-use Rattle.marks.specs.ClosingTable.Rows.{row-at}
+use Rattle.tables.specs.Plan.{Closes}
+use Rattle.marks.specs.BitsOfWords.Bits.{bit-zero, bit-or, bit-with, bit-below, below-of-bits}
+use Rattle.marks.specs.Passes.Laid.{Lays}
 use Rattle.marks.specs.BitsOfWords.Numbers.{number-below, number-onto, number-injective}
 use Rattle.marks.specs.Sweep.Swept.{passed, Nearly-closed}
 use Rattle.marks.specs.Sweep.Passing.{bit-passed}
 
 -- r closes the word, for every tree in which it is closed but for what its state of that number reaches
-pub record Closes-from (reach : List ℕ) (piece word state r : ℕ) : Type 0 where
-  pub closes : (x : Nested Leaf) (s : State) → width x ≤ most-states → Reaches x (row reach piece (width x))
-      → word < 2 ^ width x → Own x s → number x s ≡ state → Nearly-closed x s word → Closes x word r
+pub record Closes-from (reach codes : List ℕ) (piece word state r : ℕ) : Type 0 where
+  pub closes : (x : Nested Leaf) (s : State) → width x ≤ most-states → Lays reach codes x piece → word < 2 ^ width x
+      → Own x s → number x s ≡ state → Nearly-closed x s word → Closes x word r
 
 module _ {x : Nested Leaf} {s : State} {word : ℕ} (small : word < 2 ^ width x) (nearly : Nearly-closed x s word) where
   -- where the state is not marked, the word is closed
@@ -33,46 +33,54 @@ module _ {x : Nested Leaf} {s : State} {word : ℕ} (small : word < 2 ^ width x)
     clean = small;
   }
 
-  -- where it is marked, its row is joined to it
-  row-closes : (reach : List ℕ) (k : ℕ) → Reaches x (row reach k (width x)) → Own x s → Bit word (number x s)
-      → Closes x word (bitOr word (getD reach (row-size * k + number x s) 0))
-  row-closes reach k reaches own-s marked = record {
+  -- where it is marked, what it reaches is joined to it
+  marked-closed : (alone row : ℕ) → ((i : ℕ) → Bit alone i ↔ (i ≡ number x s)) → Own x s → Bit word (number x s)
+      → Closes x alone row → Closes x word (bitOr word row)
+  marked-closed alone row one own-s marked closes = record {
     exactly = λ q o. (
       λ b. ⊎-elim (λ c. (q, o, c, here))
-          (λ c. (
+          (λ c. let (p, own-p, at, way) = closes .exactly q o .0 c in (
             s,
             own-s,
             marked,
-            reaches .exactly s q own-s o .0 (subst (λ (v : ℕ). Bit v (number x q)) (sym entry) c),
+            subst (λ (t : State). Path-of (Own-empty byteless x) t q)
+                (number-injective x p s own-p own-s (one (number x p) .0 at)) way,
           ))
-          (bit-or word (getD reach (row-size * k + number x s) 0) (number x q) .0 b),
-      λ (p, o', b, way). bit-or word (getD reach (row-size * k + number x s) 0) (number x q) .1 (⊎-elim inl
-          (λ c. inr (subst (λ (v : ℕ). Bit v (number x q)) entry (reaches .exactly s q own-s o .1 (c .1))))
+          (bit-or word row (number x q) .0 b),
+      λ (p, o', b, way). bit-or word row (number x q) .1 (⊎-elim inl
+          (λ c. inr (closes .exactly q o .1 (s, own-s, one (number x s) .1 refl, c .1)))
           (nearly .reached p q o' o b way)),
     );
-    clean = below-of-bits (width x) (bitOr word (getD reach (row-size * k + number x s) 0)) (λ j b. ⊎-elim
-        (λ c. bit-below small c)
-        (λ c. bit-below
-        (subst (λ (v : ℕ). v < 2 ^ width x) entry (reaches .clean (number x s) (number-below x s own-s))) c)
-        (bit-or word (getD reach (row-size * k + number x s) 0) j .0 b));
+    clean = below-of-bits (width x) (bitOr word row) (λ j b. ⊎-elim
+        (λ c. bit-below small c) (λ c. bit-below (closes .clean) c) (bit-or word row j .0 b));
   }
-    where
-      entry : getD (row reach k (width x)) (number x s) 0 ≡ getD reach (row-size * k + number x s) 0
-      entry = row-at reach k (width x) (number x s) (number-below x s own-s)
 
 -- the two cases, for the state of a number
-pub closes-unmarked : (reach : List ℕ) (k word state : ℕ) → (Bit word state → ⊥) → Closes-from reach k word state word
-closes-unmarked reach k word state none = record {
-  closes = λ x s narrow reaches small own-s at nearly. unmarked-closed small nearly (λ b. none (subst (Bit word) at b));
+pub closes-unmarked : (reach codes : List ℕ) (k word state : ℕ) → (Bit word state → ⊥)
+    → Closes-from reach codes k word state word
+closes-unmarked reach codes k word state none = record {
+  closes = λ x s narrow lays small own-s at nearly. unmarked-closed small nearly (λ b. none (subst (Bit word) at b));
 }
 
-pub closes-marked : (reach : List ℕ) (k word state : ℕ) → Bit word state
-    → Closes-from reach k word state (bitOr word (getD reach (row-size * k + state) 0))
-closes-marked reach k word state marked = record {
-  closes = λ x s narrow reaches small own-s at nearly.
-      subst (λ (i : ℕ). Closes x word (bitOr word (getD reach (row-size * k + i) 0))) at
-      (row-closes small nearly reach k reaches own-s (subst (Bit word) (sym at) marked));
+pub closes-marked : (reach codes : List ℕ) (k word state alone row : ℕ) → Bit word state
+    → alone ≡ bitOr 0 (2 ^ state)
+    → ((x : Nested Leaf) → width x ≤ most-states → Lays reach codes x k → alone < 2 ^ width x → Closes x alone row)
+    → Closes-from reach codes k word state (bitOr word row)
+closes-marked reach codes k word state alone row marked e closes = record {
+  closes = λ x s narrow lays small own-s at nearly.
+      marked-closed small nearly alone row (only x s at) own-s (subst (Bit word) (sym at) marked)
+      (closes x narrow lays (below-of-bits (width x) alone (λ j b.
+      omega (arith, only x s at j .0 b, number-below x s own-s))));
 }
+  where
+    one : (x : Nested Leaf) (s : State) → number x s ≡ state → (i : ℕ) → Bit (bitOr 0 (2 ^ state)) i ↔ (i ≡ number x s)
+    one x s at i = (
+      λ b. ⊎-elim (λ c. absurd (bit-zero i c)) (λ f. f ∙ sym at) (bit-with 0 state i .0 b),
+      λ f. bit-with 0 state i .1 (inr (f ∙ at)),
+    )
+
+    only : (x : Nested Leaf) (s : State) → number x s ≡ state → (i : ℕ) → Bit alone i ↔ (i ≡ number x s)
+    only x s at i = subst (λ (v : ℕ). Bit v i ↔ (i ≡ number x s)) (sym e) (one x s at i)
 
 -- a closed word is closed but for nothing
 pub closed-nearly : {x : Nested Leaf} {s : State} {w : ℕ} → Closes x w w → Nearly-closed x s w

@@ -19,27 +19,27 @@ use Rattle.marks.specs.BitsOfWords.Numbers.{number-below}
 
 -- in the list for a node of two parts, where the codes of the parts' states are
 module _ (x y : Nested Leaf) where
-  left-code : (p : State) → Own x p → getD (takes (catenation x y)) (1 + number x p) 0 ≡ getD (takes x) (number x p) 0
+  pub left-code : (p : State) → Own x p → getD (takes (catenation x y)) (1 + number x p) 0 ≡ getD (takes x) (number x p) 0
   left-code p o = two-left 0 0 (takes x) (takes y) (length-takes x) (length-takes y) 0 (number x p)
       (number-below x p o)
 
   -- the code of a state of the second part
-  right-code : (p : State) → Own y p → getD (takes (catenation x y)) (1 + width x + number y p) 0
+  pub right-code : (p : State) → Own y p → getD (takes (catenation x y)) (1 + width x + number y p) 0
       ≡ getD (takes y) (number y p) 0
   right-code p o = two-right 0 0 (takes x) (takes y) (length-takes x) (length-takes y) 0 (number y p)
       (number-below y p o)
 
   -- the accepting state's code
-  end-code : getD (takes (catenation x y)) (1 + width x + width y) 0 ≡ 0
+  pub end-code : getD (takes (catenation x y)) (1 + width x + width y) 0 ≡ 0
   end-code = two-end 0 0 (takes x) (takes y) (length-takes x) (length-takes y) 0
 
 -- and for a node of one part
 module _ (x : Nested Leaf) where
-  inside-code : (p : State) → Own x p → getD (takes (star x)) (1 + number x p) 0 ≡ getD (takes x) (number x p) 0
+  pub inside-code : (p : State) → Own x p → getD (takes (star x)) (1 + number x p) 0 ≡ getD (takes x) (number x p) 0
   inside-code p o = one-inside 0 0 (takes x) (length-takes x) 0 (number x p) (number-below x p o)
 
   -- the accepting state's code
-  last-code : getD (takes (star x)) (1 + width x) 0 ≡ 0
+  pub last-code : getD (takes (star x)) (1 + width x) 0 ≡ 0
   last-code = one-end 0 0 (takes x) (length-takes x) 0
 
 -- a leaf of this code takes the byte b: an even code is that of one character, an odd one that of a class

@@ -14,18 +14,20 @@ use Rattle.language.specs.Nested.{Nested, Own-reads}
 use Rattle.tree.specs.Limits.{most-states}
 use Rattle.tree.specs.Leaf.{Leaf, meaning}
 use Rattle.tables.specs.Words.{word-bits, Bit, width, Own, number}
-use Rattle.tables.specs.Plan.{row-size, leaves-entry, row, takes, Moves}
-use Rattle.tables.specs.Tables.{Noted}
+use Rattle.tables.specs.Plan.{row-size, Is-leaf, codes-of, takes, Moves}
+use Rattle.tables.specs.Tables.{mask-count}
+use Rattle.marks.specs.Passes.Laid.{Lays}
+use Rattle.marks.specs.Moving.LeafCodes.{leaf-number}
 use Rattle.marks.specs.BitsOfWords.Bits.{bit-zero, bit-and, bit-with, bit-below, bit-low, bit-suc, below-of-bits}
 use Rattle.marks.specs.BitsOfWords.LowestBit.{Lowest}
 use Rattle.marks.specs.BitsOfWords.Numbers.{number-below, number-onto, number-injective}
-use Rattle.marks.specs.ClosingTable.Rows.{row-at}
+use Rattle.marks.specs.BitsOfWords.Rows.{row-at}
 use Rattle.marks.specs.Moving.Codes.{Code-takes, no-leaf-takes, reads-on, reads-from}
 
 -- of the bits of w that are no longer in rest, those whose states have a code that takes the byte are the bits of r
 pub record Picked (classes codes : List ℕ) (base byte w rest r : ℕ) : Type 0 where
   pub among : (i : ℕ) → Bit rest i → Bit w i
-  pub exactly : (j : ℕ) → Bit r j ↔ (Bit w j × (Bit rest j → ⊥) × Code-takes classes (getD codes (base + j) 0) byte)
+  pub exactly : (j : ℕ) → Bit r j ↔ (Bit w j × (Bit rest j → ⊥) × Code-takes classes (getD codes (base + j) 0 / 4) byte)
 
 -- at first none are picked
 pub picked-none : (classes codes : List ℕ) (base byte w : ℕ) → Picked classes codes base byte w w 0
@@ -35,7 +37,7 @@ picked-none classes codes base byte w =
 module _ {classes codes : List ℕ} {base byte w rest r s : ℕ} (so-far : Picked classes codes base byte w rest r)
     (lowest : Lowest rest s) where
   -- the lowest bit that is left is picked where the code of its state takes the byte
-  pub picked-more : {rest′ r′ : ℕ} → Code-takes classes (getD codes (base + s) 0) byte → r′ ≡ bitOr r (2 ^ s)
+  pub picked-more : {rest′ r′ : ℕ} → Code-takes classes (getD codes (base + s) 0 / 4) byte → r′ ≡ bitOr r (2 ^ s)
       → rest′ ≡ bitAnd rest (rest - 1) → Picked classes codes base byte w rest′ r′
   picked-more has picks takes = subst₂ (λ (m v : ℕ). Picked classes codes base byte w m v) (sym takes) (sym picks) record {
     among = λ i b. so-far .among i (lowest .left i .0 b .0);
@@ -45,7 +47,7 @@ module _ {classes codes : List ℕ} {base byte w rest r s : ℕ} (so-far : Picke
           (λ e. (
             subst (λ (i : ℕ). Bit w i) (sym e) (so-far .among s (lowest .is-set)),
             λ l. lowest .left j .0 l .1 e,
-            subst (λ (i : ℕ). Code-takes classes (getD codes (base + i) 0) byte) (sym e) has,
+            subst (λ (i : ℕ). Code-takes classes (getD codes (base + i) 0 / 4) byte) (sym e) has,
           ))
           (bit-with r s j .0 c),
       λ (b, gone, at). bit-with r s j .1 (elim (ℕ-discrete j s) [
@@ -56,37 +58,18 @@ module _ {classes codes : List ℕ} {base byte w rest r s : ℕ} (so-far : Picke
   }
 
   -- and is not where it does not
-  pub picked-same : {rest′ r′ : ℕ} → (Code-takes classes (getD codes (base + s) 0) byte → ⊥) → r′ ≡ r → rest′ ≡ bitAnd rest (rest - 1)
+  pub picked-same : {rest′ r′ : ℕ} → (Code-takes classes (getD codes (base + s) 0 / 4) byte → ⊥) → r′ ≡ r → rest′ ≡ bitAnd rest (rest - 1)
       → Picked classes codes base byte w rest′ r′
   picked-same lacks keeps takes = subst₂ (λ (m v : ℕ). Picked classes codes base byte w m v) (sym takes) (sym keeps) record {
     among = λ i b. so-far .among i (lowest .left i .0 b .0);
     exactly = λ j. (
       λ c. let (b, gone, at) = so-far .exactly j .0 c in (b, λ l. gone (lowest .left j .0 l .0), at),
       λ (b, gone, at). elim (ℕ-discrete j s) [
-        | yes e ↦ absurd (lacks (subst (λ (i : ℕ). Code-takes classes (getD codes (base + i) 0) byte) e at))
+        | yes e ↦ absurd (lacks (subst (λ (i : ℕ). Code-takes classes (getD codes (base + i) 0 / 4) byte) e at))
         | no other ↦ so-far .exactly j .1 (b, λ l. gone (lowest .left j .1 (l, other)), at)
       ],
     );
   }
-
--- where the picked ones are those among the leaves, they are those of the whole word: a state whose code takes a
--- byte is a leaf
-picked-leaves : (reach classes codes : List ℕ) (k byte w : ℕ) {rest r : ℕ} → Noted reach codes k → w < 2 ^ most-states → rest ≡ 0
-    → Picked classes codes (row-size * k) byte (bitAnd w (getD reach (row-size * k + leaves-entry) 0)) rest r
-    → Picked classes codes (row-size * k) byte w 0 r
-picked-leaves reach classes codes k byte w noted small nothing picked = record {
-  among = λ i c. absurd (bit-zero i c);
-  exactly = λ j. (
-    λ c. let (m, _, at) = picked .exactly j .0 c in
-        (bit-and w (getD reach (row-size * k + leaves-entry) 0) j .0 m .0, bit-zero j, at),
-    λ (m, _, at). picked .exactly j .1 (
-      bit-and w (getD reach (row-size * k + leaves-entry) 0) j .1
-          (m, noted .leaves j (bit-below small m) (no-leaf-takes at)),
-      λ l. bit-zero j (subst (λ (v : ℕ). Bit v j) nothing l),
-      at,
-    ),
-  );
-}
 
 -- a word one place up
 bit-up : (w j : ℕ) → Bit (w * 2) (suc j) ↔ Bit w j
@@ -126,36 +109,52 @@ comes-to {classes} {x} {b} q o m = (
       (number-injective x (m .to) q (reads-on classes b x (m .reads) .to-own) o (m .numbered)) (m .reads),
 )
 
--- the picked bits, one place up, are the word moved
-moves-by-picking : (classes codes : List ℕ) (piece b w r : ℕ) (x : Nested Leaf) → width x ≤ most-states
-    → row codes piece (width x) ≡ takes x → w < 2 ^ width x
-    → Picked classes codes (row-size * piece) b w 0 r → Moves classes x b w (r * 2 % 2 ^ word-bits)
-moves-by-picking classes codes piece b w r x narrow coded small picked =
+-- the picked ones of the leaves' starts, one place up, are the word moved
+pub moves-by-leaves : (reach classes codes : List ℕ) (piece b w rest r : ℕ) → rest ≡ 0
+    → Picked classes codes (row-size * piece) b (bitAnd w (getD reach (mask-count * piece + 2) 0)) rest r
+    → (x : Nested Leaf) → width x ≤ most-states → Lays reach codes x piece → w < 2 ^ width x
+    → Moves classes x b w (r * 2 % 2 ^ word-bits)
+moves-by-leaves reach classes codes piece b w rest r nothing picked x narrow lays small =
     subst (λ (v : ℕ). Moves classes x b w v) (sym (mod-eq-of-lt fits)) record {
       exactly = λ q o. (λ c. comes-to q o (up (number x q) c), forth q o);
       clean = below-of-bits (width x) (r * 2) (λ j c. comes-below (up j c));
     }
   where
+    -- a picked bit is one of the word, and a leaf's start
+    marked-leaf : (j : ℕ) → Bit r j → Bit w j × Bit (getD reach (mask-count * piece + 2) 0) j
+    marked-leaf j c = bit-and w (getD reach (mask-count * piece + 2) 0) j .0 (picked .exactly j .0 c .0)
+
     picked-small : r < 2 ^ most-states
-    picked-small = lt-of-lt-of-le (below-of-bits (width x) r (λ j c. bit-below small (picked .exactly j .0 c .0)))
+    picked-small = lt-of-lt-of-le (below-of-bits (width x) r (λ j c. bit-below small (marked-leaf j c .0)))
         (pow-mono narrow)
 
     fits : r * 2 < 2 ^ word-bits
     fits = omega (arith, picked-small)
 
-    code-at : (p : State) (j : ℕ) → number x p ≡ j → j < width x → getD (takes x) (number x p) 0
+    code-at : (p : State) (j : ℕ) → number x p ≡ j → j < width x → getD (codes-of x 0 0) (number x p) 0
         ≡ getD codes (row-size * piece + j) 0
     code-at p j e h =
-        ap (λ (i : ℕ). getD (takes x) i 0) e ∙ ap (λ (l : List ℕ). getD l j 0) (sym coded)
+        ap (λ (i : ℕ). getD (codes-of x 0 0) i 0) e ∙ ap (λ (l : List ℕ). getD l j 0) (sym (lays .coded))
         ∙ row-at codes piece (width x) j h
+
+    -- the number of a leaf is what stands above the two lowest bits of its start's code
+    number-at : (p : State) (j : ℕ) → Own x p → number x p ≡ j → j < width x
+        → Is-leaf (getD codes (row-size * piece + j) 0)
+        → getD (takes x) (number x p) 0 ≡ getD codes (row-size * piece + j) 0 / 4
+    number-at p j o e h is-leaf =
+        leaf-number x p o (getD codes (row-size * piece + j) 0 / 4) (omega (arith, is-leaf .0, is-leaf .1)) .0
+        (code-at p j e h ∙ omega (arith, is-leaf .0))
 
     up : (j : ℕ) → Bit (r * 2) j → Comes classes x b w j
     up zero c = absurd (no-bit-up r c)
     up (suc j) c =
-        let m = picked .exactly j .0 (bit-up r j .0 c) in
+        let d = bit-up r j .0 c in
+        let m = marked-leaf j d in
         let s = number-onto x j (bit-below small (m .0)) in
         let t = reads-from classes b x (s .0) (s .1)
-        (subst (λ (c : ℕ). Code-takes classes c b) (sym (code-at (s .0) j (s .2) (bit-below small (m .0)))) (m .2)) in
+        (subst (λ (n : ℕ). Code-takes classes n b)
+        (sym (number-at (s .0) j (s .1) (s .2) (bit-below small (m .0)) (lays .noted .leaves j .0 (m .1) .1)))
+        (picked .exactly j .0 d .2)) in
         record {
           from = s .0;
           to = t .0;
@@ -169,19 +168,16 @@ moves-by-picking classes codes piece b w r x narrow coded small picked =
         → Bit (r * 2) (number x q)
     forth q o m =
         let s = reads-on classes b x (m .3) in
+        let j = number x (m .0) in
+        let low = number-below x (m .0) (m .1) in
+        let n = getD (takes x) j 0 in
+        let some : (n ≡ 0 → ⊥) = no-leaf-takes (s .code) in
+        let code : getD codes (row-size * piece + j) 0 ≡ 4 * n =
+        sym (code-at (m .0) j refl low) ∙ leaf-number x (m .0) (m .1) n (omega (arith, some)) .1 refl in
         subst (λ (i : ℕ). Bit (r * 2) i) (omega (arith, s .next))
-        (bit-up r (number x (m .0)) .1 (picked .exactly (number x (m .0)) .1 (
-          m .2,
-          bit-zero (number x (m .0)),
-          subst (λ (c : ℕ). Code-takes classes c b)
-              (code-at (m .0) (number x (m .0)) refl (number-below x (m .0) (m .1))) (s .code),
+        (bit-up r j .1 (picked .exactly j .1 (
+          bit-and w (getD reach (mask-count * piece + 2) 0) j .1
+              (m .2, lays .noted .leaves j .1 (low, (omega (arith, code), λ none. some (omega (arith, code, none))))),
+          λ l. bit-zero j (subst (λ (v : ℕ). Bit v j) nothing l),
+          subst (λ (c : ℕ). Code-takes classes c b) (omega (arith, code)) (s .code),
         )))
-
--- so are those among the leaves
-pub moves-by-leaves : (reach classes codes : List ℕ) (piece b w rest r : ℕ) → Noted reach codes piece → rest ≡ 0
-    → Picked classes codes (row-size * piece) b (bitAnd w (getD reach (row-size * piece + leaves-entry) 0)) rest r
-    → (x : Nested Leaf) → width x ≤ most-states → row codes piece (width x) ≡ takes x → w < 2 ^ width x
-    → Moves classes x b w (r * 2 % 2 ^ word-bits)
-moves-by-leaves reach classes codes piece b w rest r noted nothing picked x narrow coded small =
-    moves-by-picking classes codes piece b w r x narrow coded small
-    (picked-leaves reach classes codes piece b w noted (lt-of-lt-of-le small (pow-mono narrow)) nothing picked)

@@ -28,8 +28,9 @@ use Rattle.language.specs.Nested.{
 use Rattle.tree.specs.Limits.{most-states}
 use Rattle.tree.specs.Leaf.{Leaf, meaning}
 use Rattle.tables.specs.Words.{Bit, width, run, Own, number, Marked, Holds, Clean-below, Clean}
-use Rattle.tables.specs.Plan.{row, takes, Moves, Pieces, Piece-at, Children-at, Planned}
-use Rattle.marks.specs.ClosingTable.Rows.{Rows, rows-set-at}
+use Rattle.tables.specs.Plan.{Moves}
+use Rattle.marks.specs.Passes.Laid.{Lays, Lays-below, Lays-each}
+use Rattle.marks.specs.BitsOfWords.Rows.{Rows, rows-set-at}
 use Rattle.marks.specs.Sweep.Swept.{Narrow-below}
 use mathlib.Core.Logic.{Iff·trans as iff-trans}
 
@@ -311,18 +312,18 @@ module _ (classes : List ℕ) (b : ℕ) where
   clean-moved (star x) ws ws′ u = clean-moved x ws ws′ u
   clean-moved (below x) ws ws′ u = (u .0 .clean, clean-moved x (drop 1 ws) (drop 1 ws′) (u .1))
 
--- w is word k moved along b, for every tree that the codes of piece k speak of
-pub record Word-moved (classes codes before : List ℕ) (b k w : ℕ) : Type 0 where
-  pub moves : (x : Nested Leaf) → width x ≤ most-states → row codes k (width x) ≡ takes x
-      → getD before k 0 < 2 ^ width x → Moves classes x b (getD before k 0) w
+-- w is word k moved along b, for every tree that the codes and masks of piece k are those of
+pub record Word-moved (reach classes codes before : List ℕ) (b k w : ℕ) : Type 0 where
+  pub moves : (x : Nested Leaf) → width x ≤ most-states → Lays reach codes x k → getD before k 0 < 2 ^ width x
+      → Moves classes x b (getD before k 0) w
 
 -- one word more, moved from what it is now, which is what it was before
-pub moved-more : {classes codes before after : List ℕ} {b n w : ℕ} → n < length before
-    → Rows (Word-moved classes codes before b) before after 0 n
-    → ((x : Nested Leaf) → width x ≤ most-states → row codes n (width x) ≡ takes x → getD after n 0 < 2 ^ width x
+pub moved-more : {reach classes codes before after : List ℕ} {b n w : ℕ} → n < length before
+    → Rows (Word-moved reach classes codes before b) before after 0 n
+    → ((x : Nested Leaf) → width x ≤ most-states → Lays reach codes x n → getD after n 0 < 2 ^ width x
     → Moves classes x b (getD after n 0) w)
-    → Rows (Word-moved classes codes before b) before (set after n w) 0 (n + 1)
-moved-more {classes} {codes} {before} {after} {b} {n} {w} h so-far moves =
+    → Rows (Word-moved reach classes codes before b) before (set after n w) 0 (n + 1)
+moved-more {classes = classes} {before = before} {after = after} {b = b} {n = n} {w = w} h so-far moves =
     rows-set-at so-far w (omega arith) (omega arith) record {
       moves = λ x narrow at small. subst (λ (v : ℕ). Moves classes x b v w) as-before
           (moves x narrow at (subst (λ (v : ℕ). v < 2 ^ width x) (sym as-before) small));
@@ -337,10 +338,9 @@ pub record Marks-moved (classes : List ℕ) (x : Nested Leaf) (b : ℕ) (before 
   pub clean : Clean x after
 
 -- the first n words are moved along b; the others are as before
-pub record Moved-all (classes codes before after : List ℕ) (b n : ℕ) : Type 0 where
+pub record Moved-all (reach classes codes before after : List ℕ) (b n : ℕ) : Type 0 where
   pub same-length : length after ≡ length before
-  pub marks : (tables : Pieces) (x : Nested Leaf) → tables .codes ≡ codes → Planned tables x → 1 + run x ≤ n
-      → width x ≤ most-states → Narrow-below x
+  pub marks : (x : Nested Leaf) → Lays-each reach codes x → 1 + run x ≤ n → width x ≤ most-states → Narrow-below x
       → Clean x before → Marks-moved classes x b before after
   pub others : (k : ℕ) → n ≤ k → getD after k 0 ≡ getD before k 0
 
@@ -348,50 +348,50 @@ pub record Moved-all (classes codes before after : List ℕ) (b n : ℕ) : Type 
 pub first-left : (l : List ℕ) (k : ℕ) → getD (drop k l) 0 0 ≡ getD l k 0
 first-left l k = getD-drop k l 0 0 ∙ ap (λ (i : ℕ). getD l i 0) (add-zero k)
 
-module _ (classes : List ℕ) (tables : Pieces) (before after : List ℕ) (b n : ℕ)
-    (rows : Rows (Word-moved classes (tables .codes) before b) before after 0 n) where
+module _ (reach classes codes before after : List ℕ) (b n : ℕ)
+    (rows : Rows (Word-moved reach classes codes before b) before after 0 n) where
   -- the word of piece k is moved
-  word-moved : (x : Nested Leaf) (k : ℕ) → k < n → Piece-at tables x k → width x ≤ most-states
-      → getD (drop k before) 0 0 < 2 ^ width x
+  word-moved : (x : Nested Leaf) (k : ℕ) → k < n → Lays reach codes x k → width x ≤ most-states → getD (drop k before) 0 0
+      < 2 ^ width x
       → Moves classes x b (getD (drop k before) 0 0) (getD (drop k after) 0 0)
   word-moved x k h at narrow small =
       subst₂ (λ (v w : ℕ). Moves classes x b v w) (sym (first-left before k)) (ap (λ (i : ℕ). getD after i 0) (zero-add k)
       ∙ sym (first-left after k))
-      (rows .rows k h .moves x narrow (at .coded) (subst (λ (v : ℕ). v < 2 ^ width x) (first-left before k) small))
+      (rows .rows k h .moves x narrow at (subst (λ (v : ℕ). v < 2 ^ width x) (first-left before k) small))
 
   -- the words of the child pieces below x are
-  below-moved : (x : Nested Leaf) (i new : ℕ) → Children-at tables x i new → new + run x ≤ n → Narrow-below x
+  below-moved : (x : Nested Leaf) (new : ℕ) → Lays-below reach codes x new → new + run x ≤ n → Narrow-below x
       → Clean-below x (drop new before)
       → Below-moved classes b x (drop new before) (drop new after)
-  below-moved (leaf a) i new at h narrow clean = tt
-  below-moved (catenation x y) i new at h narrow clean = (
-    below-moved x (i + 1) new (at .0) (omega arith) (narrow .0) (clean .0),
+  below-moved (leaf a) new at h narrow clean = tt
+  below-moved (catenation x y) new at h narrow clean = (
+    below-moved x new (at .0) (omega arith) (narrow .0) (clean .0),
     subst₂ (λ (u v : List ℕ). Below-moved classes b y u v) (sym (drop-drop (run x) new before))
         (sym (drop-drop (run x) new after))
-        (below-moved y (i + (1 + width x)) (new + run x) (at .1) (omega arith) (narrow .1)
+        (below-moved y (new + run x) (at .1) (omega arith) (narrow .1)
         (subst (Clean-below y) (drop-drop (run x) new before) (clean .1))),
   )
-  below-moved (union x y) i new at h narrow clean = (
-    below-moved x (i + 1) new (at .0) (omega arith) (narrow .0) (clean .0),
+  below-moved (union x y) new at h narrow clean = (
+    below-moved x new (at .0) (omega arith) (narrow .0) (clean .0),
     subst₂ (λ (u v : List ℕ). Below-moved classes b y u v) (sym (drop-drop (run x) new before))
         (sym (drop-drop (run x) new after))
-        (below-moved y (i + (1 + width x)) (new + run x) (at .1) (omega arith) (narrow .1)
+        (below-moved y (new + run x) (at .1) (omega arith) (narrow .1)
         (subst (Clean-below y) (drop-drop (run x) new before) (clean .1))),
   )
-  below-moved (star x) i new at h narrow clean = below-moved x (i + 1) new at h narrow clean
-  below-moved (below x) i new at h narrow clean = (
-    word-moved x new (omega arith) (at .1) (narrow .0) (clean .0),
+  below-moved (star x) new at h narrow clean = below-moved x new at h narrow clean
+  below-moved (below x) new at h narrow clean = (
+    word-moved x new (omega arith) (at .0) (narrow .0) (clean .0),
     subst₂ (λ (u v : List ℕ). Below-moved classes b x u v) (sym (drop-drop 1 new before)) (sym (drop-drop 1 new after))
-        (below-moved x 0 (new + 1) (at .2) (omega arith) (narrow .1)
+        (below-moved x (new + 1) (at .1) (omega arith) (narrow .1)
         (subst (Clean-below x) (drop-drop 1 new before) (clean .1))),
   )
 
   -- so the marks are
-  marks-moved : (x : Nested Leaf) → Planned tables x → 1 + run x ≤ n → width x ≤ most-states → Narrow-below x
+  marks-moved : (x : Nested Leaf) → Lays-each reach codes x → 1 + run x ≤ n → width x ≤ most-states → Narrow-below x
       → Clean x before → Marks-moved classes x b before after
   marks-moved x at h narrow-top narrow clean =
       let top = word-moved x 0 (omega arith) (at .0) narrow-top (clean .0) in
-      let children = below-moved x 0 1 (at .1) h narrow (clean .1) in
+      let children = below-moved x 1 (at .1) h narrow (clean .1) in
       record {
         holds = marked-moved classes b x 0 (getD before 0 0) (getD after 0 0) (drop 1 before) (drop 1 after) (shifts classes b top)
             children;
@@ -399,13 +399,11 @@ module _ (classes : List ℕ) (tables : Pieces) (before after : List ℕ) (b n :
       }
 
 -- word by word, every word is moved
-pub moved-all : {classes codes before after : List ℕ} {b n m : ℕ} → m ≡ n → Rows (Word-moved classes codes before b) before after 0 m
-    → Moved-all classes codes before after b n
-moved-all {classes} {codes} {before} {after} {b} {n} {m} e rows = record {
+pub moved-all : {reach classes codes before after : List ℕ} {b n m : ℕ} → m ≡ n
+    → Rows (Word-moved reach classes codes before b) before after 0 m → Moved-all reach classes codes before after b n
+moved-all {reach} {classes} {codes} {before} {after} {b} {n} {m} e rows = record {
   same-length = rows .same-length;
-  marks = λ tables x t at h narrow-top narrow clean.
-      marks-moved classes tables before after b n
-      (subst₂ (λ (l : List ℕ) (k : ℕ). Rows (Word-moved classes l before b) before after 0 k) (sym t) e rows) x at h narrow-top
-      narrow clean;
+  marks = marks-moved reach classes codes before after b n
+      (subst (λ (k : ℕ). Rows (Word-moved reach classes codes before b) before after 0 k) e rows);
   others = λ k h. rows .others k (inr (omega arith));
 }

@@ -12,10 +12,11 @@ use Rattle.language.specs.Same.{More-in}
 use Rattle.tree.specs.Limits.{most-states}
 use Rattle.tree.specs.Leaf.{Leaf, meaning, byteless}
 use Rattle.tables.specs.Words.{width, run, number, Holds, Clean}
-use Rattle.tables.specs.Plan.{row, takes, Moves, Pieces, Planned, Reaches, Each, Closes}
+use Rattle.tables.specs.Plan.{Moves, Closes}
+use Rattle.marks.specs.Passes.Laid.{Lays, Lays-each}
 use Rattle.marks.specs.BitsOfWords.Bits.{bit-zero}
 use Rattle.marks.specs.ClosingPieces.WordClosed.{closes-none}
-use Rattle.marks.specs.ClosingTable.Rows.{Rows, rows-none}
+use Rattle.marks.specs.BitsOfWords.Rows.{Rows, rows-none}
 use Rattle.marks.specs.Sweep.Swept.{Narrow-below}
 use Rattle.marks.specs.ClosingPieces.EachPieceClosed.{Each-closed}
 use Rattle.marks.specs.Moving.WordsMoved.{Word-moved, moved-more, Marks-moved, Moved-all, moved-all}
@@ -32,47 +33,47 @@ use Rattle.marks.specs.ClosingPieces.WordsClosed.{
 -- the first n words are moved along b, and each is closed in itself; the others are as before
 pub record Moved-closed (reach classes codes before after : List ℕ) (b n : ℕ) : Type 0 where
   pub moved : List ℕ
-  pub moves : Moved-all classes codes before moved b n
-  pub closes : Closed-words reach moved after n
+  pub moves : Moved-all reach classes codes before moved b n
+  pub closes : Closed-words reach codes moved after n
 
 -- so far, word by word
 pub record Moving-closing (reach classes codes before after : List ℕ) (b n : ℕ) : Type 0 where
   pub moved : List ℕ
-  pub moves : Rows (Word-moved classes codes before b) before moved 0 n
-  pub closes : Closed-words reach moved after n
+  pub moves : Rows (Word-moved reach classes codes before b) before moved 0 n
+  pub closes : Closed-words reach codes moved after n
 
 -- at first none is
 pub moving-none : (reach classes codes words : List ℕ) (b : ℕ) → Moving-closing reach classes codes words words b 0
 moving-none reach classes codes words b =
-    record { moved = words; moves = rows-none (Word-moved classes codes words b) words 0; closes = closed-none reach words }
+    record { moved = words; moves = rows-none (Word-moved reach classes codes words b) words 0; closes = closed-none reach codes words }
 
 -- r is the word of the piece after the byte b: moved, and closed in the piece
 pub record Word-after (reach classes codes : List ℕ) (piece word b r : ℕ) : Type 0 where
   pub moved : ℕ
-  pub moves : (x : Nested Leaf) → width x ≤ most-states → row codes piece (width x) ≡ takes x → word < 2 ^ width x
+  pub moves : (x : Nested Leaf) → width x ≤ most-states → Lays reach codes x piece → word < 2 ^ width x
       → Moves classes x b word moved
-  pub closes : (x : Nested Leaf) → width x ≤ most-states → Reaches x (row reach piece (width x)) → moved < 2 ^ width x
+  pub closes : (x : Nested Leaf) → width x ≤ most-states → Lays reach codes x piece → moved < 2 ^ width x
       → Closes x moved r
 
 -- a word of no marks stays one
 pub none-after : (reach classes codes : List ℕ) (piece word b : ℕ) → word ≡ 0 → Word-after reach classes codes piece word b 0
 none-after reach classes codes piece word b none = subst (λ (w : ℕ). Word-after reach classes codes piece w b 0) (sym none) record {
   moved = 0;
-  moves = λ x narrow coded small. record {
+  moves = λ x narrow lays small. record {
     exactly = λ q o. (λ m. absurd (bit-zero (number x q) m), λ (p, o', m, way). absurd (bit-zero (number x p) m));
     clean = small;
   };
-  closes = λ x narrow reaches small. closes-none x;
+  closes = λ x narrow lays small. closes-none x;
 }
 
 -- one word more
 pub moving-more : {reach classes codes before after : List ℕ} {b n w : ℕ} → n < length before
     → Moving-closing reach classes codes before after b n
     → Word-after reach classes codes n (getD after n 0) b w → Moving-closing reach classes codes before (set after n w) b (n + 1)
-moving-more {classes = classes} {codes = codes} {after = after} {b = b} {n = n} inside so-far next = record {
+moving-more {reach} {classes} {codes} {after = after} {b = b} {n = n} inside so-far next = record {
   moved = set (so-far .moved) n (next .moved);
   moves = moved-more inside (so-far .moves)
-      (subst (λ (u : ℕ). (x : Nested Leaf) → width x ≤ most-states → row codes n (width x) ≡ takes x → u < 2 ^ width x
+      (subst (λ (u : ℕ). (x : Nested Leaf) → width x ≤ most-states → Lays reach codes x n → u < 2 ^ width x
       → Moves classes x b u (next .moved))
       (so-far .closes .others n (omega arith)) (next .moves));
   closes = closed-more (omega (arith, so-far .moves .same-length)) (so-far .closes) (next .closes);
@@ -81,10 +82,10 @@ moving-more {classes = classes} {codes = codes} {after = after} {b = b} {n = n} 
 -- at last all are
 pub moving-all : {reach classes codes before after : List ℕ} {b n m : ℕ} → m ≡ n → Moving-closing reach classes codes before after b m
     → Moved-closed reach classes codes before after b n
-moving-all {reach} {after = after} e all = record {
+moving-all {reach} {codes = codes} {after = after} e all = record {
   moved = all .moved;
   moves = moved-all e (all .moves);
-  closes = subst (λ (k : ℕ). Closed-words reach (all .moved) after k) e (all .closes);
+  closes = subst (λ (k : ℕ). Closed-words reach codes (all .moved) after k) e (all .closes);
 }
 
 module _ {reach classes codes before after : List ℕ} {b n : ℕ} (went : Moved-closed reach classes codes before after b n) where
@@ -96,28 +97,27 @@ module _ {reach classes codes before after : List ℕ} {b n : ℕ} (went : Moved
   pub moved-others : (k : ℕ) → n ≤ k → getD after k 0 ≡ getD before k 0
   moved-others k past = omega (arith, went .moves .others k past, went .closes .others k past)
 
-  module _ (tables : Pieces) (x : Nested Leaf) (same : tables .codes ≡ codes) (planned : Planned tables x)
-      (reached : Each Reaches reach x) (room : 1 + run x ≤ n)
+  module _ (x : Nested Leaf) (laid : Lays-each reach codes x) (room : 1 + run x ≤ n)
       (narrow : width x ≤ most-states) (narrow-below : Narrow-below x) (clean : Clean x before) where
     alone : Marks-moved classes x b before (went .moved)
-    alone = went .moves .marks tables x same planned room narrow narrow-below clean
+    alone = went .moves .marks x laid room narrow narrow-below clean
 
     -- each moved mark is there
     pub moved-keeps : More-in (Has x) (Move (meaning classes) b x (Holds x before)) (Holds x after)
-    moved-keeps q has m = closed-keeps (went .closes) x reached room narrow narrow-below (alone .clean) q has
+    moved-keeps q has m = closed-keeps (went .closes) x laid room narrow narrow-below (alone .clean) q has
         (alone .holds q has .1 m)
 
     -- the marks lie within each settled set that has the moved ones
     pub moved-within : (Z : States) → Settled byteless x Z → More-in (Has x) (Move (meaning classes) b x (Holds x before)) Z
         → More-in (Has x) (Holds x after) Z
     moved-within Z settled within =
-        closed-within (went .closes) x reached room narrow narrow-below (alone .clean) Z settled
+        closed-within (went .closes) x laid room narrow narrow-below (alone .clean) Z settled
         (λ q has m. within q has (alone .holds q has .0 m))
 
     -- each piece is closed
     pub moved-each-closed : Each-closed x after
-    moved-each-closed = closed-each (went .closes) x reached room narrow narrow-below (alone .clean)
+    moved-each-closed = closed-each (went .closes) x laid room narrow narrow-below (alone .clean)
 
     -- and no bit past a last state is set
     pub moved-clean : Clean x after
-    moved-clean = closed-clean (went .closes) x reached room narrow narrow-below (alone .clean)
+    moved-clean = closed-clean (went .closes) x laid room narrow narrow-below (alone .clean)

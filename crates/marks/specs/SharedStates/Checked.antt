@@ -14,7 +14,8 @@ use Rattle.language.specs.Automaton.{accepting}
 use Rattle.language.specs.Nested.{Nested, leaf, catenation, union, star, below}
 use Rattle.tree.specs.Leaf.{Leaf}
 use Rattle.tables.specs.Words.{Bit, width, run, number, Clean-below, Clean, Agreeing}
-use Rattle.tables.specs.Plan.{leaves-entry, Pieces, Piece-at, Children-at, Planned}
+use Rattle.tree.specs.Limits.{most-states}
+use Rattle.tables.specs.Plan.{Pieces, Piece-at, Children-at, Planned}
 use Rattle.marks.specs.BitsOfWords.Numbers.{width-two, number-accepting}
 use Rattle.marks.specs.BitsOfWords.Bits.{Tells}
 use Rattle.marks.specs.SharedStates.Parents.{
@@ -66,8 +67,8 @@ pub record Checkable (runs stands tops words : List ℕ) (n : ℕ) : Type 0 wher
   pub stands-long : n ≤ length stands
   pub tops-long : n ≤ length tops
   pub words-long : n ≤ length words
-  pub low-stands : (c : ℕ) → 0 < c → c < n → getD stands c 0 < leaves-entry
-  pub low-tops : (c : ℕ) → c < n → getD tops c 0 < leaves-entry
+  pub low-stands : (c : ℕ) → 0 < c → c < n → getD stands c 0 < most-states
+  pub low-tops : (c : ℕ) → c < n → getD tops c 0 < most-states
 
 -- the same, by the tree: of x, a part of a piece with the word w whose states are numbered from i, and with the words
 -- ws below it

@@ -22,8 +22,8 @@ use Rattle.marks.specs.Sweep.Visiting.{own-holds, part-at, started-own, 
 use Rattle.marks.specs.ClosingPieces.ClosedFromState.{closes-keeps}
 use Rattle.marks.specs.Sweep.RunOfChildren.{Gone, Further, Visitable}
 
-module _ {reach runs stands tops : List ℕ} {x : Nested Leaf} {c : Child} {k at : ℕ} {words : List ℕ}
-    (can : Visitable reach runs stands tops x c k at words) where
+module _ {reach codes runs stands tops : List ℕ} {x : Nested Leaf} {c : Child} {k at : ℕ} {words : List ℕ}
+    (can : Visitable reach codes runs stands tops x c k at words) where
   -- the own word with the accepting state passed up has no bit past the last state
   raised-small : (after : List ℕ)
       → passed (getD after (c .from) 0) (width (c .tree) - 1) (getD words 0 0) (c .stand + 1) < 2 ^ width x
@@ -80,8 +80,8 @@ module _ {reach runs stands tops : List ℕ} {x : Nested Leaf} {c : Child} {k at
       at-rest = rests;
     }
 
-module _ {reach runs stands tops : List ℕ} {x : Nested Leaf} {c : Child} {k at : ℕ} {words : List ℕ}
-    (can : Visitable reach runs stands tops x c k at words)
+module _ {reach codes runs stands tops : List ℕ} {x : Nested Leaf} {c : Child} {k at : ℕ} {words : List ℕ}
+    (can : Visitable reach codes runs stands tops x c k at words)
     (unmarked : Bit (getD words 0 0) (c .stand) → ⊥) (none : (o : ℕ) → o < 1 + run (c .tree)
     → getD words (at + o) 0 ≡ 0) where
   zero-part : (o : ℕ) → o < 1 + run (c .tree) → getD (part c words) o 0 ≡ 0

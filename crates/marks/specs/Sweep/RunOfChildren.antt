@@ -14,7 +14,8 @@ use Rattle.language.specs.Settled.{Settled}
 use Rattle.tree.specs.Limits.{most-states}
 use Rattle.tree.specs.Leaf.{Leaf, byteless}
 use Rattle.tables.specs.Words.{Bit, width, run, Holds, Clean}
-use Rattle.tables.specs.Plan.{Children-at, row, Reaches, Each-below, Closes}
+use Rattle.tables.specs.Plan.{Children-at, Closes}
+use Rattle.marks.specs.Passes.Laid.{Lays, Lays-below}
 use Rattle.marks.specs.ClosingPieces.EachPieceClosed.{Each-closed, Each-closed-below, closed-same}
 use Rattle.marks.specs.Sweep.Swept.{
   Apart,
@@ -154,7 +155,7 @@ gone-further {before} {after} {settled' = settled'} {at = at} further on c gone 
     run-same = part-same c before after (further .as-long)
         (λ o l. further .behind-kept (c .from + o) (omega (arith, gone .after-own)) (omega (arith, gone .behind)))
 
-module _ (reach runs stands tops : List ℕ) where
+module _ (reach codes runs stands tops : List ℕ) where
   -- the child piece c of x, whose top piece is the piece k of the tables, is where its numbers say, and its run is
   -- closed piece by piece
   pub record Child-stands (begun : List ℕ) (x : Nested Leaf) (k : ℕ) (c : Child) : Type 0 where
@@ -162,7 +163,7 @@ module _ (reach runs stands tops : List ℕ) where
     pub placed : c .from ≡ suc place
     pub seat : Part-seat x (below (c .tree)) (c .stand) place
     pub stood : getD stands (k + c .from) 0 ≡ c .stand
-    pub laid : In-tables reach runs stands tops (c .tree) (k + c .from)
+    pub laid : In-tables reach codes runs stands tops (c .tree) (k + c .from)
     pub closed : Each-closed (c .tree) (part c begun)
 
   -- the child pieces stand one after the other, the first at `at`, and the last ends at `end`
@@ -186,45 +187,43 @@ module _ (reach runs stands tops : List ℕ) where
       omega (arith, chain-length begun x k cs (at + (1 + run (c .tree))) end rest)
 
   -- the child pieces below a part of the piece
-  chain-of : (begun : List ℕ) (whole x : Nested Leaf) (k i n f new end : ℕ) (codes : List ℕ) → Part-seat whole x i n
+  chain-of : (begun : List ℕ) (whole x : Nested Leaf) (k i n f new end : ℕ) → Part-seat whole x i n
       → f ≡ suc n → new ≡ k + f → end ≡ f + run x
-      → Children-at (tables codes runs stands tops) x i new → Each-below Reaches reach x new → Narrow-below x
+      → Children-at (tables codes runs stands tops) x i new → Lays-below reach codes x new → Narrow-below x
       → Each-closed-below x (drop f begun) → Lined-up begun whole k (children-of x i f) f end
-  chain-of begun whole (leaf a) k i n f new end codes seat from number ends at reaches narrow closed = omega arith
-  chain-of begun whole (catenation x y) k i n f new end codes seat from number ends at reaches narrow closed =
+  chain-of begun whole (leaf a) k i n f new end seat from number ends at lays narrow closed = omega arith
+  chain-of begun whole (catenation x y) k i n f new end seat from number ends at lays narrow closed =
       chain-append begun whole k (children-of x (i + 1) f) (children-of y (i + (1 + width x)) (f + run x)) f (f + run x)
       end
-      (chain-of begun whole x k (i + 1) n f new (f + run x) codes
-      (seat-in (i + 1) n refl (omega arith) seat (catenation-left x y .seat)) from number refl (at .0) (reaches .0)
+      (chain-of begun whole x k (i + 1) n f new (f + run x)
+      (seat-in (i + 1) n refl (omega arith) seat (catenation-left x y .seat)) from number refl (at .0) (lays .0)
       (narrow .0) (closed .0))
-      (chain-of begun whole y k (i + (1 + width x)) (n + run x) (f + run x) (new + run x) end codes
+      (chain-of begun whole y k (i + (1 + width x)) (n + run x) (f + run x) (new + run x) end
       (seat-in (i + (1 + width x)) (n + run x) refl refl seat (catenation-right x y .seat)) (omega arith)
-      (omega arith) (omega arith) (at .1) (reaches .1) (narrow .1)
+      (omega arith) (omega arith) (at .1) (lays .1) (narrow .1)
       (subst (Each-closed-below y) (drop-drop (run x) f begun) (closed .1)))
-  chain-of begun whole (union x y) k i n f new end codes seat from number ends at reaches narrow closed =
+  chain-of begun whole (union x y) k i n f new end seat from number ends at lays narrow closed =
       chain-append begun whole k (children-of x (i + 1) f) (children-of y (i + (1 + width x)) (f + run x)) f (f + run x)
       end
-      (chain-of begun whole x k (i + 1) n f new (f + run x) codes
-      (seat-in (i + 1) n refl (omega arith) seat (union-left x y .seat)) from number refl (at .0) (reaches .0)
+      (chain-of begun whole x k (i + 1) n f new (f + run x)
+      (seat-in (i + 1) n refl (omega arith) seat (union-left x y .seat)) from number refl (at .0) (lays .0)
       (narrow .0) (closed .0))
-      (chain-of begun whole y k (i + (1 + width x)) (n + run x) (f + run x) (new + run x) end codes
+      (chain-of begun whole y k (i + (1 + width x)) (n + run x) (f + run x) (new + run x) end
       (seat-in (i + (1 + width x)) (n + run x) refl refl seat (union-right x y .seat)) (omega arith) (omega arith)
-      (omega arith) (at .1) (reaches .1) (narrow .1)
+      (omega arith) (at .1) (lays .1) (narrow .1)
       (subst (Each-closed-below y) (drop-drop (run x) f begun) (closed .1)))
-  chain-of begun whole (star x) k i n f new end codes seat from number ends at reaches narrow closed =
-      chain-of begun whole x k (i + 1) n f new end codes
-      (seat-in (i + 1) n refl (omega arith) seat (star-inside x .seat)) from number ends at reaches narrow closed
-  chain-of begun whole (below x) k i n f new end codes seat from number ends at reaches narrow closed =
+  chain-of begun whole (star x) k i n f new end seat from number ends at lays narrow closed =
+      chain-of begun whole x k (i + 1) n f new end
+      (seat-in (i + 1) n refl (omega arith) seat (star-inside x .seat)) from number ends at lays narrow closed
+  chain-of begun whole (below x) k i n f new end seat from number ends at lays narrow closed =
       (refl, standing, omega arith)
     where
-      laid : In-tables reach runs stands tops x new
+      laid : In-tables reach codes runs stands tops x new
       laid = record {
-        codes = codes;
         piece = at .1;
         children = at .2;
-        reaches = reaches .0;
-        reaches-below =
-            reaches .1;
+        lays = lays .0;
+        lays-below = lays .1;
         narrow = narrow .0;
         narrow-below = narrow .1;
       }
@@ -235,7 +234,7 @@ module _ (reach runs stands tops : List ℕ) where
         placed = from;
         seat = seat;
         stood = subst (λ (m : ℕ). getD stands m 0 ≡ i) number (at .0);
-        laid = subst (In-tables reach runs stands tops x) number laid;
+        laid = subst (In-tables reach codes runs stands tops x) number laid;
         closed = closed-same x (drop f begun) (part (record { stand = i; from = f; tree = x }) begun)
             (λ o l. getD-drop f begun o 0 ∙ sym (part-at (record { stand = i; from = f; tree = x }) begun o l)) closed;
       }
@@ -247,9 +246,9 @@ module _ (reach runs stands tops : List ℕ) where
     pub after-own : 0 < at
     pub stood : getD stands (k + at) 0 ≡ c .stand
     pub inside : c .stand + 1 < width x
-    pub laid : In-tables reach runs stands tops (c .tree) (k + at)
+    pub laid : In-tables reach codes runs stands tops (c .tree) (k + at)
     pub room : at + (1 + run (c .tree)) ≤ length words
-    pub reaches : Reaches x (row reach k (width x))
+    pub lays : Lays reach codes x k
     pub narrow : width x ≤ most-states
     pub own-clean : getD words 0 0 < 2 ^ width x
     pub own-closed : Closes x (getD words 0 0) (getD words 0 0)
@@ -280,14 +279,14 @@ module _ (reach runs stands tops : List ℕ) where
           → Gone after waiting' settled' (at + (1 + run (child .tree))) child
           → Under-way begun after (at + (1 + run (child .tree))) waiting' settled'
 
-    module _ (begun : List ℕ) (sweepable : Sweepable reach runs stands tops x k begun)
+    module _ (begun : List ℕ) (sweepable : Sweepable reach codes runs stands tops x k begun)
         (own-closed : Closes x (getD begun 0 0) (getD begun 0 0)) (settled : Bool) where
       -- where a sweep begins
       pub under-way : Under-way begun begun 1 0 settled
       under-way = record {
         rest = children-of x 0 1;
-        chain = chain-of begun x x k 0 0 1 (k + 1) (length begun) (sweepable .laid .codes) (place-whole x .seat) refl
-            refl (sweepable .whole-run) (sweepable .laid .children) (sweepable .laid .reaches-below)
+        chain = chain-of begun x x k 0 0 1 (k + 1) (length begun) (place-whole x .seat) refl
+            refl (sweepable .whole-run) (sweepable .laid .children) (sweepable .laid .lays-below)
             (sweepable .laid .narrow-below) (sweepable .closed-below);
         clean = sweepable .clean;
         own-closed = own-closed;
@@ -298,7 +297,7 @@ module _ (reach runs stands tops : List ℕ) where
         gone = tt;
       }
 
-    module _ (begun : List ℕ) (sweepable : Sweepable reach runs stands tops x k begun) where
+    module _ (begun : List ℕ) (sweepable : Sweepable reach codes runs stands tops x k begun) where
       module _ (words : List ℕ) (at waiting : ℕ) (settled : Bool) (same : length words ≡ length begun) where
         waiting-of : (rest : List Child) → Lined-up begun x k rest at (length words)
             → (way : Under-way begun words at waiting settled)
@@ -313,9 +312,9 @@ module _ (reach runs stands tops : List ℕ) where
             after-own = omega (arith, standing .placed);
             stood = subst (λ (a : ℕ). getD stands (k + a) 0 ≡ c .stand) here (standing .stood);
             inside = omega (arith, standing .seat .wide);
-            laid = subst (λ (a : ℕ). In-tables reach runs stands tops (c .tree) (k + a)) here (standing .laid);
+            laid = subst (λ (a : ℕ). In-tables reach codes runs stands tops (c .tree) (k + a)) here (standing .laid);
             room = chain-length begun x k cs (at + (1 + run (c .tree))) (length words) rest;
-            reaches = sweepable .laid .reaches;
+            lays = sweepable .laid .lays;
             narrow = sweepable .laid .narrow;
             own-clean = way .clean .0;
             own-closed = way .own-closed;
@@ -383,7 +382,7 @@ module _ (reach runs stands tops : List ℕ) where
               settled = gone .at-rest e;
             }
 
-    module _ (before : List ℕ) (closed : ℕ) (sweepable : Sweepable reach runs stands tops x k before)
+    module _ (before : List ℕ) (closed : ℕ) (sweepable : Sweepable reach codes runs stands tops x k before)
         (closes : Closes x (getD before 0 0) closed) where
       own-is : getD (set before 0 closed) 0 0 ≡ closed
       own-is = getD-set-same before 0 closed 0 (omega (arith, sweepable .whole-run))
@@ -392,7 +391,7 @@ module _ (reach runs stands tops : List ℕ) where
       begun-closed = subst (λ (w : ℕ). Closes x w w) (sym own-is) (closes-again closes)
 
       -- with the own word closed, the words are still a run to be swept
-      pub closed-sweepable : Sweepable reach runs stands tops x k (set before 0 closed)
+      pub closed-sweepable : Sweepable reach codes runs stands tops x k (set before 0 closed)
       closed-sweepable = record {
         laid = sweepable .laid;
         whole-run = length-set before 0 closed ∙ sweepable .whole-run;

@@ -15,7 +15,7 @@ use Rattle.tree.specs.Leaf.{Leaf, byteless}
 use Rattle.tables.specs.Words.{Bit, width, run, Holds}
 use Rattle.tables.specs.Plan.{Closes}
 use Rattle.marks.specs.ClosingPieces.EachPieceClosed.{Each-closed, Each-closed-below, closed-same}
-use Rattle.marks.specs.ClosingTable.Transitions.{transition-own}
+use Rattle.marks.specs.Passes.Transitions.{transition-own}
 use Rattle.marks.specs.Sweep.Swept.{Child, children-of, part}
 use Rattle.marks.specs.BitsOfWords.Spots.{bit-at, bit-of}
 use Rattle.marks.specs.Sweep.Within.{own-has}

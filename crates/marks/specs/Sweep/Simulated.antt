@@ -16,7 +16,8 @@ use Rattle.language.specs.Sweeps.{sweeps-start, sweeps-step-closed}
 use Rattle.tree.specs.Limits.{most-states}
 use Rattle.tree.specs.Leaf.{Leaf, meaning, byteless}
 use Rattle.tables.specs.Words.{Bit, width, run, number, Holds, Clean}
-use Rattle.tables.specs.Plan.{Planned, Each, Reaches}
+use Rattle.tables.specs.Plan.{Planned}
+use Rattle.marks.specs.Passes.Laid.{Lays-each}
 use Rattle.marks.specs.BitsOfWords.Numbers.{width-two, number-injective}
 use Rattle.marks.specs.BitsOfWords.Bits.{bit-zero, bit-power}
 use Rattle.marks.specs.ClosingPieces.EachPieceClosed.{Each-closed-below, zeros-closed}
@@ -42,14 +43,13 @@ use Rattle.marks.specs.Sweep.Twice.{Run-of, Closed-twice}
 
 -- the tables speak of all pieces of x, from piece 0 on
 pub laid-whole : (reach codes runs stands tops : List ℕ) (x : Nested Leaf) → Planned (tables codes runs stands tops) x
-    → Each Reaches reach x
-    → width x ≤ most-states → Narrow-below x → In-tables reach runs stands tops x 0
-laid-whole reach codes runs stands tops x planned reached narrow narrow-below = record {
-  codes = codes;
+    → Lays-each reach codes x
+    → width x ≤ most-states → Narrow-below x → In-tables reach codes runs stands tops x 0
+laid-whole reach codes runs stands tops x planned laid narrow narrow-below = record {
   piece = planned .0;
   children = planned .1;
-  reaches = reached .0;
-  reaches-below = reached .1;
+  lays = laid .0;
+  lays-below = laid .1;
   narrow = narrow;
   narrow-below = narrow-below;
 }
@@ -103,9 +103,9 @@ module _ (x : Nested Leaf) (words : List ℕ) (marked : Start-marked x words) wh
       zeros-closed x (drop 1 words) (λ o l. getD-drop 1 words o 0 ∙ ap (λ (k : ℕ). getD words k 0) (omega arith)
       ∙ marked .others o l)
 
-module _ (reach runs stands tops : List ℕ) (count : ℕ) (x : Nested Leaf) (before after : List ℕ)
-    (closed : Closed-twice reach runs stands tops count before after)
-    (on : Run-of reach runs stands tops count x before) where
+module _ (reach codes runs stands tops : List ℕ) (count : ℕ) (x : Nested Leaf) (before after : List ℕ)
+    (closed : Closed-twice reach codes runs stands tops count before after)
+    (on : Run-of reach codes runs stands tops count x before) where
   -- from the root's start, the closing is the start of the plain simulation, by any class records
   pub closed-start : (classes : List ℕ) → Agree x (Holds x before) (λ q. q ≡ start)
       → Models x (Holds x after) (Started (meaning classes) (whole x))

@@ -22,11 +22,13 @@ use Rattle.language.specs.Automaton.{start}
 use Rattle.language.specs.Nested.{Nested}
 use Rattle.language.specs.Settled.{Settled}
 use Rattle.tree.specs.Limits.{most-pieces}
+use Rattle.tables.specs.Tables.{mask-count}
 use Rattle.tree.specs.Leaf.{Leaf, byteless}
 use Rattle.tables.specs.Words.{word-bits, Bit, width, run, Holds, Clean}
 use Rattle.tables.specs.Plan.{row-size, Closes}
 use Rattle.marks.specs.BitsOfWords.Numbers.{width-two, number-onto}
-use Rattle.marks.specs.Sweep.Passing.{passed-below}
+use Rattle.marks.specs.Passes.Closing.{Closes-after}
+use Rattle.marks.specs.Sweep.Passing.{bit-passed, passed-below}
 use Rattle.marks.specs.Sweep.Swept.{
   passed,
   Nearly-closed,
@@ -99,12 +101,12 @@ module _ (a m : ℕ) (words ys : List ℕ) (lent : length ys ≡ m) (room : a + 
       ∙ getD-drop a words (m + (o - a - m)) 0
       ∙ ap (λ (k : ℕ). getD words k 0) (omega arith)
 
-module _ (reach runs stands tops : List ℕ) (k at : ℕ) (words : List ℕ) where
+module _ (reach codes runs stands tops : List ℕ) (k at : ℕ) (words : List ℕ) where
   -- where the next run begins
   abbrev next-run : ℕ
   next-run = at + getD runs (k + at) 0
 
-  module _ (x : Nested Leaf) (c : Child) (can : Visitable reach runs stands tops x c k at words)
+  module _ (x : Nested Leaf) (c : Child) (can : Visitable reach codes runs stands tops x c k at words)
       (given : ℕ) (given-is : given ≡ passed (getD words 0 0) (getD stands (k + at) 0) (getD words at 0) 0) where
     run-length : next-run - at ≡ 1 + run (c .tree)
     run-length = omega (arith, can .laid .piece .ran)
@@ -150,9 +152,9 @@ module _ (reach runs stands tops : List ℕ) (k at : ℕ) (words : List ℕ) whe
     started-later (suc o) l h = started-below c words o h
 
     -- the child's run can be swept
-    pub lent-sweepable : Sweepable reach runs stands tops (c .tree) (k + at)
+    pub lent-sweepable : Sweepable reach codes runs stands tops (c .tree) (k + at)
         (take (next-run - at) (drop at (set words at given)))
-    lent-sweepable = subst (Sweepable reach runs stands tops (c .tree) (k + at)) (sym lent-is) (record {
+    lent-sweepable = subst (Sweepable reach codes runs stands tops (c .tree) (k + at)) (sym lent-is) (record {
       laid = can .laid;
       whole-run = started-length;
       clean = started-clean;
@@ -170,15 +172,16 @@ module _ (reach runs stands tops : List ℕ) (k at : ℕ) (words : List ℕ) whe
     pub lent-shorter : length (take (next-run - at) (drop at (set words at given))) < length words
     lent-shorter = omega (arith, lent-length, can .room, can .after-own)
 
-    pub lent-ready : (from to : ℕ) → Tables-sized reach runs stands tops k words
+    pub lent-ready : (from to : ℕ) → Tables-sized reach codes runs stands tops k words
         → ((o : ℕ) → at ≤ o → o < length words → (k + o < from) ⊎ (to ≤ k + o) → getD words o 0 ≡ 0)
-        → Sweep-ready reach runs stands tops (k + at) from to (take (next-run - at) (drop at (set words at given)))
+        → Sweep-ready reach codes runs stands tops (k + at) from to (take (next-run - at) (drop at (set words at given)))
     lent-ready from to sized ahead = record {
       sized = record {
-        reach-sized = sized .reach-sized;
-        runs-sized = sized .runs-sized;
-        stands-sized = sized .stands-sized;
-        tops-sized = sized .tops-sized;
+        reach-sized = omega (arith, sized .reach-sized, lent-length, can .room);
+        codes-sized = omega (arith, sized .codes-sized, lent-length, can .room);
+        runs-sized = omega (arith, sized .runs-sized, lent-length, can .room);
+        stands-sized = omega (arith, sized .stands-sized, lent-length, can .room);
+        tops-sized = omega (arith, sized .tops-sized, lent-length, can .room);
         within = omega (arith, sized .within, lent-length, can .room);
       };
       tree = c .tree;
@@ -218,7 +221,7 @@ module _ (reach runs stands tops : List ℕ) (k at : ℕ) (words : List ℕ) whe
       -- what is closed has no bit past the last state
       module _ (raised-is : raised ≡ passed (getD back at 0) (getD tops (k + at) 0) (getD back 0 0)
           (getD stands (k + at) 0 + 1))
-          (closes : Closes-from reach k raised (getD stands (k + at) 0 + 1) closed) where
+          (closes : Closes-after reach codes k raised (getD back 0 0) closed) where
         raised-same : raised ≡ passed (getD back at 0) (width (c .tree) - 1) (getD words 0 0) (c .stand + 1)
         raised-same =
             raised-is ∙ ap (λ (i : ℕ). passed (getD back at 0) i (getD back 0 0) (getD stands (k + at) 0 + 1))
@@ -231,15 +234,13 @@ module _ (reach runs stands tops : List ℕ) (k at : ℕ) (words : List ℕ) whe
 
         own-closes : Closes x raised closed
         own-closes =
-            let (s, own-s, at-s) = number-onto x (c .stand + 1) (can .inside) in
-            closes .closes x s (can .narrow) (can .reaches)
+            closes .closes x (can .narrow) (can .lays)
             (subst (λ (v : ℕ). v < 2 ^ width x) (sym raised-same)
             (passed-below (getD back at 0) (width (c .tree) - 1) (getD words 0 0) (c .stand + 1) (width x)
             (can .own-clean) (can .inside)))
-            own-s (at-s ∙ ap (λ (n : ℕ). n + 1) (sym (can .stood)))
-            (subst (Nearly-closed x s)
-            (sym (raised-same ∙ ap (passed (getD back at 0) (width (c .tree) - 1) (getD words 0 0)) (sym at-s)))
-            (passed-nearly (getD back at 0) (width (c .tree) - 1) own-s (can .own-closed)))
+            (subst (λ (v : ℕ). Closes x v v) (sym back-own) (can .own-closed))
+            (λ i b. subst (λ (v : ℕ). Bit v i) (sym raised-is)
+            (bit-passed (getD back at 0) (getD tops (k + at) 0) (getD back 0 0) (getD stands (k + at) 0 + 1) i .1 (inl b)))
 
         pub after-part : part c (set back 0 closed) ≡ ys
         after-part =
@@ -277,33 +278,35 @@ still-settled lost kept came e =
 
 -- there is room for the child piece whose run begins at `at`, in the tables and in the words, and its numbers are those
 -- of bits
-pub record Sweep-room (reach runs stands tops : List ℕ) (k at : ℕ) (words : List ℕ) : Type 0 where
+pub record Sweep-room (reach codes runs stands tops : List ℕ) (k at : ℕ) (words : List ℕ) : Type 0 where
   pub own-before : 0 < at
   pub child-counted : 0 < getD runs (k + at) 0
   pub child-within : at + getD runs (k + at) 0 ≤ length words
   pub few-words : length words ≤ most-pieces
-  pub reach-room : row-size * k + row-size ≤ length reach
+  pub child-few : k + at < most-pieces
+  pub reach-room : mask-count * k + mask-count ≤ length reach
+  pub codes-room : row-size * k + row-size ≤ length codes
   pub runs-room : k + at < length runs
   pub stands-room : k + at < length stands
   pub tops-room : k + at < length tops
   pub stand-small : getD stands (k + at) 0 + 1 < word-bits
   pub top-small : getD tops (k + at) 0 < word-bits
 
-module _ (reach runs stands tops : List ℕ) (k : ℕ) where
+module _ (reach codes runs stands tops : List ℕ) (k : ℕ) where
   -- a sweep is under way, whatever tree the tables speak of
   pub record Sweeping (begun words : List ℕ) (at waiting : ℕ) (settled : Bool) : Type 0 where
     pub same-length : length words ≡ length begun
     pub ahead : (o : ℕ) → at ≤ o → getD words o 0 ≡ getD begun o 0
-    pub each : (x : Nested Leaf) → Sweepable reach runs stands tops x k begun
+    pub each : (x : Nested Leaf) → Sweepable reach codes runs stands tops x k begun
         → Closes x (getD begun 0 0) (getD begun 0 0)
-        → Under-way reach runs stands tops x k begun words at waiting settled
+        → Under-way reach codes runs stands tops x k begun words at waiting settled
 
   -- where it begins
   pub sweeping-begins : (begun : List ℕ) (settled : Bool) → Sweeping begun begun 1 0 settled
   sweeping-begins begun settled = record {
     same-length = refl;
     ahead = λ o l. refl;
-    each = λ x can closed. under-way reach runs stands tops x k begun can closed settled;
+    each = λ x can closed. under-way reach codes runs stands tops x k begun can closed settled;
   }
 
   -- ahead there are still only the marks that there were
@@ -317,10 +320,10 @@ module _ (reach runs stands tops : List ℕ) (k : ℕ) where
   module _ (begun words : List ℕ) (at waiting : ℕ) (settled : Bool) (sweeping : Sweeping begun words at waiting settled)
       (before-end : at < length words) where
     -- before the end a child piece waits for its visit
-    pub waits : (x : Nested Leaf) → Sweepable reach runs stands tops x k begun
+    pub waits : (x : Nested Leaf) → Sweepable reach codes runs stands tops x k begun
         → Closes x (getD begun 0 0) (getD begun 0 0)
-        → Waiting reach runs stands tops x k begun words at waiting settled
-    waits x can closed = waiting-child reach runs stands tops x k begun can words at waiting settled
+        → Waiting reach codes runs stands tops x k begun words at waiting settled
+    waits x can closed = waiting-child reach codes runs stands tops x k begun can words at waiting settled
         (sweeping .same-length) (sweeping .each x can closed) before-end
 
     -- what going through a child piece has to tell
@@ -333,7 +336,7 @@ module _ (reach runs stands tops : List ℕ) (k : ℕ) where
         → At-rest (getD words 0 0) (getD stands (k + at) 0) (getD words at 0) (k + at) (k + (at + getD runs (k + at) 0))
         from to
         → ((o : ℕ) → at ≤ o → o < length words → (k + o < from) ⊎ (to ≤ k + o) → getD words o 0 ≡ 0)
-        → (x : Nested Leaf) (c : Child) → Visitable reach runs stands tops x c k at words → Went words settled x c
+        → (x : Nested Leaf) (c : Child) → Visitable reach codes runs stands tops x c k at words → Went words settled x c
     passed-over from to rest quiet x c can = record {
       visited = visited-at-rest can unmarked zeros;
       rests = λ _. settled-at-rest can unmarked zeros;
@@ -351,9 +354,9 @@ module _ (reach runs stands tops : List ℕ) (k : ℕ) where
 
     -- after the visit the sweep is under way
     pub sweeping-on : (after : List ℕ) (waiting' : ℕ) (settled' : Bool) → (tree : Nested Leaf)
-        → Sweepable reach runs stands tops tree k begun → Closes tree (getD begun 0 0) (getD begun 0 0)
+        → Sweepable reach codes runs stands tops tree k begun → Closes tree (getD begun 0 0) (getD begun 0 0)
         → Missed (getD words 0 0) (getD stands (k + at) 0) waiting waiting' → (settled' ≡ true → settled ≡ true)
-        → ((x : Nested Leaf) (c : Child) → Visitable reach runs stands tops x c k at words → Went after settled' x c)
+        → ((x : Nested Leaf) (c : Child) → Visitable reach codes runs stands tops x c k at words → Went after settled' x c)
         → Sweeping begun after (at + getD runs (k + at) 0) waiting' settled'
     sweeping-on after waiting' settled' tree able shut missed rest went =
         let here = waits tree able shut in
@@ -368,7 +371,7 @@ module _ (reach runs stands tops : List ℕ) (k : ℕ) where
               let told = went x (w .child) (w .visitable) in
               let missed' = subst (λ (s : ℕ). Missed (getD words 0 0) s waiting waiting') (w .visitable .stood)
               missed in
-              subst (λ (r : ℕ). Under-way reach runs stands tops x k begun after (at + r) waiting' settled')
+              subst (λ (r : ℕ). Under-way reach codes runs stands tops x k begun after (at + r) waiting' settled')
               (sym (w .visitable .laid .piece .ran))
               (w .goes-on after waiting' settled' (told .visited)
               (further (w .visitable) after (told .visited) waiting waiting' missed' settled settled' rest)
@@ -376,15 +379,17 @@ module _ (reach runs stands tops : List ℕ) (k : ℕ) where
         }
 
     -- there is room for the child piece, in the tables and in the words
-    pub room-for : (x : Nested Leaf) → Sweepable reach runs stands tops x k begun
+    pub room-for : (x : Nested Leaf) → Sweepable reach codes runs stands tops x k begun
         → Closes x (getD begun 0 0) (getD begun 0 0)
-        → Tables-sized reach runs stands tops k words → Sweep-room reach runs stands tops k at words
+        → Tables-sized reach codes runs stands tops k words → Sweep-room reach codes runs stands tops k at words
     room-for x can closed sized = let w = waits x can closed in record {
       own-before = w .visitable .after-own;
       child-counted = omega (arith, w .visitable .laid .piece .ran);
       child-within = omega (arith, w .visitable .laid .piece .ran, w .visitable .room);
       few-words = omega (arith, sized .within);
+      child-few = omega (arith, sized .within);
       reach-room = omega (arith, sized .reach-sized, sized .within);
+      codes-room = omega (arith, sized .codes-sized, sized .within);
       runs-room = omega (arith, sized .runs-sized, sized .within);
       stands-room = omega (arith, sized .stands-sized, sized .within);
       tops-room = omega (arith, sized .tops-sized, sized .within);
@@ -392,56 +397,57 @@ module _ (reach runs stands tops : List ℕ) (k : ℕ) where
       top-small = omega (arith, w .visitable .laid .piece .topped, w .visitable .laid .narrow);
     }
 
-  module _ (entry : List ℕ) (closed : ℕ) (closes : Closes-from reach k (getD entry 0 0) 0 closed)
-      (x : Nested Leaf) (can : Sweepable reach runs stands tops x k entry) where
+  module _ (entry : List ℕ) (closed : ℕ) (closes : Closes-from reach codes k (getD entry 0 0) 0 closed)
+      (x : Nested Leaf) (can : Sweepable reach codes runs stands tops x k entry) where
     own-closed : Closes x (getD entry 0 0) closed
-    own-closed = closes .closes x start (can .laid .narrow) (can .laid .reaches) (can .clean .0) tt refl (can .nearly)
+    own-closed = closes .closes x start (can .laid .narrow) (can .laid .lays) (can .clean .0) tt refl (can .nearly)
 
     -- with the own word closed, the words are still a run to be swept
-    pub begun-sweepable : Sweepable reach runs stands tops x k (set entry 0 closed)
-    begun-sweepable = closed-sweepable reach runs stands tops x k entry closed can own-closed
+    pub begun-sweepable : Sweepable reach codes runs stands tops x k (set entry 0 closed)
+    begun-sweepable = closed-sweepable reach codes runs stands tops x k entry closed can own-closed
 
     pub own-begun : Closes x (getD (set entry 0 closed) 0 0) (getD (set entry 0 closed) 0 0)
-    own-begun = begun-closed reach runs stands tops x k entry closed can own-closed
+    own-begun = begun-closed reach codes runs stands tops x k entry closed can own-closed
 
     -- at the end the words are swept
     module _ (words : List ℕ) (at waiting : ℕ) (settled : Bool)
         (sweeping : Sweeping (set entry 0 closed) words at waiting settled) (past : length words ≤ at) where
       pub sweep-done : Swept x entry words
-      sweep-done = swept reach runs stands tops x k entry closed can own-closed words at waiting settled
+      sweep-done = swept reach codes runs stands tops x k entry closed can own-closed words at waiting settled
           (sweeping .each x begun-sweepable own-begun) past
 
       -- and settled, where no start waits that is marked now
       pub sweep-settled : settled ≡ true → Apart (getD words 0 0) waiting → Settled byteless x (Holds x words)
-      sweep-settled = all-settled reach runs stands tops x k (set entry 0 closed) begun-sweepable words at waiting
+      sweep-settled = all-settled reach codes runs stands tops x k (set entry 0 closed) begun-sweepable words at waiting
           settled (sweeping .each x begun-sweepable own-begun) past
 
     -- the same where the sweep ends before, with nothing marked in the own word nor ahead
     module _ (words : List ℕ) (at waiting : ℕ) (settled : Bool)
         (sweeping : Sweeping (set entry 0 closed) words at waiting settled)
         (unmarked : getD words 0 0 ≡ 0) (none : (o : ℕ) → at ≤ o → o < length words → getD words o 0 ≡ 0) where
-      ended : Ended reach runs stands tops x k (set entry 0 closed) begun-sweepable words settled
+      ended : Ended reach codes runs stands tops x k (set entry 0 closed) begun-sweepable words settled
           (sweeping .same-length) unmarked
-      ended = finished reach runs stands tops x k (set entry 0 closed) begun-sweepable words settled
+      ended = finished reach codes runs stands tops x k (set entry 0 closed) begun-sweepable words settled
           (sweeping .same-length) unmarked at waiting none
           (sweeping .each x begun-sweepable own-begun)
 
       pub idle-done : Swept x entry words
-      idle-done = swept reach runs stands tops x k entry closed can own-closed words (ended .at) (ended .waiting)
+      idle-done = swept reach codes runs stands tops x k entry closed can own-closed words (ended .at) (ended .waiting)
           settled (ended .way) (ended .past)
 
       pub idle-settled : settled ≡ true → Settled byteless x (Holds x words)
-      idle-settled e = all-settled reach runs stands tops x k (set entry 0 closed) begun-sweepable words (ended .at)
+      idle-settled e = all-settled reach codes runs stands tops x k (set entry 0 closed) begun-sweepable words (ended .at)
           (ended .waiting) settled (ended .way) (ended .past) e
           (λ i b. absurd (bit-zero i (subst (λ (w : ℕ). Bit w i) unmarked b)))
 
   -- the tables have room for words as many as before
-  pub sized-same : (before after : List ℕ) → length after ≡ length before → Tables-sized reach runs stands tops k before
-      → Tables-sized reach runs stands tops k after
+  pub sized-same : (before after : List ℕ) → length after ≡ length before → Tables-sized reach codes runs stands tops k before
+      → Tables-sized reach codes runs stands tops k after
   sized-same before after same sized = record {
-    reach-sized = sized .reach-sized;
-    runs-sized = sized .runs-sized;
-    stands-sized = sized .stands-sized;
-    tops-sized = sized .tops-sized;
+    reach-sized = omega (arith, sized .reach-sized, same);
+    codes-sized = omega (arith, sized .codes-sized, same);
+    runs-sized = omega (arith, sized .runs-sized, same);
+    stands-sized = omega (arith, sized .stands-sized, same);
+    tops-sized = omega (arith, sized .tops-sized, same);
     within = omega (arith, sized .within, same);
   }

@@ -8,10 +8,12 @@ use lib.Bits.{bitOr}
 use Rattle.language.specs.Automaton.{State, start, Path-of}
 use Rattle.language.specs.Nested.{Nested, leaf, catenation, union, star, below, Has, Sweep, Own-empty}
 use Rattle.tree.specs.Limits.{most-pieces, most-states}
+use Rattle.tables.specs.Tables.{mask-count}
 use Rattle.tree.specs.Leaf.{Leaf, byteless}
 use Rattle.tree.specs.Parts.{Every-below}
 use Rattle.tables.specs.Words.{Bit, width, run, Own, number, Holds, Clean}
-use Rattle.tables.specs.Plan.{Pieces, Piece-at, Children-at, row, Reaches, Each-below, Closes}
+use Rattle.tables.specs.Plan.{row-size, Pieces, Piece-at, Children-at, Closes}
+use Rattle.marks.specs.Passes.Laid.{Lays, Lays-below}
 use Rattle.marks.specs.ClosingPieces.EachPieceClosed.{Each-closed, Each-closed-below}
 
 -- the word with bit `to` set where bit `from` of the other is
@@ -51,15 +53,14 @@ Narrow-below x = Every-below (λ y. width y ≤ most-states) x
 abbrev pub tables : (codes runs stands tops : List ℕ) → Pieces
 tables codes runs stands tops = record { codes = codes; runs = runs; stands = stands; tops = tops }
 
-module _ (reach runs stands tops : List ℕ) where
+module _ (reach codes runs stands tops : List ℕ) where
   -- the tables speak of the piece k, which is the top piece of x, and of each piece below it; each has at most 62
   -- states
   pub record In-tables (x : Nested Leaf) (k : ℕ) : Type 0 where
-    pub codes : List ℕ
     pub piece : Piece-at (tables codes runs stands tops) x k
     pub children : Children-at (tables codes runs stands tops) x 0 (k + 1)
-    pub reaches : Reaches x (row reach k (width x))
-    pub reaches-below : Each-below Reaches reach x (k + 1)
+    pub lays : Lays reach codes x k
+    pub lays-below : Lays-below reach codes x (k + 1)
     pub narrow : width x ≤ most-states
     pub narrow-below : Narrow-below x
 
@@ -75,10 +76,11 @@ module _ (reach runs stands tops : List ℕ) where
 
   -- the tables have room for the pieces from k on, one for each word
   pub record Tables-sized (k : ℕ) (words : List ℕ) : Type 0 where
-    pub reach-sized : length reach ≡ 8192
-    pub runs-sized : length runs ≡ most-pieces
-    pub stands-sized : length stands ≡ most-pieces
-    pub tops-sized : length tops ≡ most-pieces
+    pub reach-sized : mask-count * (k + length words) ≤ length reach
+    pub codes-sized : row-size * (k + length words) ≤ length codes
+    pub runs-sized : k + length words ≤ length runs
+    pub stands-sized : k + length words ≤ length stands
+    pub tops-sized : k + length words ≤ length tops
     pub within : k + length words ≤ most-pieces
 
   -- there are pieces that the words are the run of, and marks below the first only from `from` up to `to`

@@ -53,11 +53,11 @@ front-clean x n words e = (
       (λ o l. below-power (getD-take n words o 0 (omega arith)) refl (clean-words x words .0 clean o l)),
 )
 
-module _ (reach runs stands tops : List ℕ) (count : ℕ) where
+module _ (reach codes runs stands tops : List ℕ) (count : ℕ) where
   -- the first words, one for each piece, hold marks of the tree that the tables speak of; each piece is closed in
   -- itself, but for the root's start
   pub record Run-of (x : Nested Leaf) (words : List ℕ) : Type 0 where
-    pub laid : In-tables reach runs stands tops x 0
+    pub laid : In-tables reach codes runs stands tops x 0
     pub counted : count ≡ 1 + run x
     pub clean : Clean x words
     pub nearly : Nearly-closed x start (getD words 0 0)
@@ -66,7 +66,7 @@ module _ (reach runs stands tops : List ℕ) (count : ℕ) where
   -- the tables have room for each piece that there may be, the words are enough, and below the first of them there are
   -- marks only from `from` up to `to`
   pub record Closable (from to : ℕ) (words : List ℕ) : Type 0 where
-    pub sized : Tables-sized reach runs stands tops 0 (take count words)
+    pub sized : Tables-sized reach codes runs stands tops 0 (take count words)
     pub enough : count ≤ length words
     pub tree : Nested Leaf
     pub on-run : Run-of tree words
@@ -81,7 +81,7 @@ module _ (reach runs stands tops : List ℕ) (count : ℕ) where
 
   module _ (words : List ℕ) (enough : count ≤ length words) where
     -- the first words can be swept
-    pub run-sweepable : (x : Nested Leaf) → Run-of x words → Sweepable reach runs stands tops x 0 (take count words)
+    pub run-sweepable : (x : Nested Leaf) → Run-of x words → Sweepable reach codes runs stands tops x 0 (take count words)
     run-sweepable x on = record {
       laid = on .laid;
       whole-run = length-take-le count words enough ∙ on .counted;
@@ -94,7 +94,7 @@ module _ (reach runs stands tops : List ℕ) (count : ℕ) where
     }
 
     module _ (ys : List ℕ) (same : length ys ≡ length (take count words))
-        (swept : (x : Nested Leaf) → Sweepable reach runs stands tops x 0 (take count words)
+        (swept : (x : Nested Leaf) → Sweepable reach codes runs stands tops x 0 (take count words)
         → Swept x (take count words) ys) where
       -- the words with the first words swept
       abbrev after : List ℕ
@@ -145,7 +145,7 @@ module _ (reach runs stands tops : List ℕ) (count : ℕ) where
 
   -- the first words are ready to be swept
   pub run-ready : (from to : ℕ) (words : List ℕ) → Closable from to words
-      → Sweep-ready reach runs stands tops 0 from to (take count words)
+      → Sweep-ready reach codes runs stands tops 0 from to (take count words)
   run-ready from to words can =
       record {
         sized = can .sized;
@@ -157,12 +157,12 @@ module _ (reach runs stands tops : List ℕ) (count : ℕ) where
 
   module _ (from to : ℕ) (words ys : List ℕ) (can : Closable from to words)
       (same : length ys ≡ length (take count words))
-      (swept : (x : Nested Leaf) → Sweepable reach runs stands tops x 0 (take count words)
+      (swept : (x : Nested Leaf) → Sweepable reach codes runs stands tops x 0 (take count words)
       → Swept x (take count words) ys) where
     -- once swept, the words can be swept again
     pub closable-again : Closable 0 count (ys ++ drop count words)
     closable-again = record {
-      sized = sized-same reach runs stands tops 0 (take count words) (take count (ys ++ drop count words))
+      sized = sized-same reach codes runs stands tops 0 (take count words) (take count (ys ++ drop count words))
           (length-take-le count (ys ++ drop count words)
           (omega (arith, can .enough, after-length words (can .enough) ys same swept))
           ∙ sym (length-take-le count words (can .enough)))
@@ -179,7 +179,7 @@ module _ (reach runs stands tops : List ℕ) (count : ℕ) where
     }
 
     -- where one sweep settles the words, a second would change nothing
-    pub closed-once : ((x : Nested Leaf) → Sweepable reach runs stands tops x 0 (take count words)
+    pub closed-once : ((x : Nested Leaf) → Sweepable reach codes runs stands tops x 0 (take count words)
         → Settled byteless x (Holds x ys)) → Closed-twice words (ys ++ drop count words)
     closed-once settled = record {
       marks = λ x on q h. Iff·trans (Iff·symm
@@ -195,7 +195,7 @@ module _ (reach runs stands tops : List ℕ) (count : ℕ) where
 
     -- twice swept, the words are closed
     pub closed-twice : (zs : List ℕ) → length zs ≡ length (take count (ys ++ drop count words))
-        → ((x : Nested Leaf) → Sweepable reach runs stands tops x 0 (take count (ys ++ drop count words))
+        → ((x : Nested Leaf) → Sweepable reach codes runs stands tops x 0 (take count (ys ++ drop count words))
         → Swept x (take count (ys ++ drop count words)) zs)
         → Closed-twice words (zs ++ drop count (ys ++ drop count words))
     closed-twice zs as-many again = record {

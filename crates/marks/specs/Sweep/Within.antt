@@ -22,7 +22,7 @@ use Rattle.language.specs.Nested.{
 use Rattle.language.specs.Same.{More-in, closed-more-in}
 use Rattle.tree.specs.Leaf.{Leaf, byteless}
 use Rattle.tables.specs.Words.{Own}
-use Rattle.marks.specs.ClosingTable.Transitions.{transition-own}
+use Rattle.marks.specs.Passes.Transitions.{transition-own}
 
 -- the top piece's own states are states
 pub own-has : {A : Type 0} (x : Nested A) (q : State) → Own x q → Has x q

@@ -38,7 +38,10 @@ close-twice-requires c κs =
     (c .before .marked-to .ensures)
 
 shared-slice-read-top : tie.Need-shared-slice-read-top
-shared-slice-read-top c = search needs
+shared-slice-read-top c =
+    let ready = entry (moved (c .before .before .before .before)) .pre .ready in
+    let tree = ready .of-tree in
+    omega (arith, all-words (tree .0), tree .1 .counted, ready .roomy .tops-room)
 
 cast-top : tie.Need-cast-top
 cast-top c = omega (arith, c .shared-slice-known7 .given 0)
@@ -68,7 +71,7 @@ returns : tie.Need-returns
 returns c = λ t prepared marks.
     let done = closed (c .before) in
     advanced prepared _ _ _ _ _ marks (moved (done .before) .move-all .ensures) (done .close-twice .ensures)
-    (done .close-twice .kept .1 .1 .1 .1 .1 .1 .1 .0) (c .has-bit .ensures)
+    (done .close-twice .kept .1 .1 .1 .1 .1 .1 .1 .1 .0) (c .has-bit .ensures)
 
 pub advance-spec : {M : Type 1} → statement M
 advance-spec =

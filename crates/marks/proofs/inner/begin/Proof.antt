@@ -40,7 +40,10 @@ copy-requires : tie.Need-copy-requires
 copy-requires c κs = search needs
 
 shared-slice-read-top : tie.Need-shared-slice-read-top
-shared-slice-read-top c = search needs
+shared-slice-read-top c =
+    let ready = entry (closed (c .before .before .before)) .pre .0 in
+    let tree = ready .of-tree in
+    omega (arith, all-words (tree .0), tree .1 .counted, ready .roomy .tops-room)
 
 cast-top : tie.Need-cast-top
 cast-top c = omega (arith, c .shared-slice-known6 .given 0)
@@ -59,7 +62,7 @@ returns c = λ classes t prepared.
     let put = copied (c .before) in
     let done = closed put in
     begun prepared classes begins _ _ _ _ (begins-marked (cut-up t)) (done .close-twice .ensures)
-    (omega (arith, done .close-twice .kept .1 .1 .1 .1 .1 .1 .1 .0, prepared .counted, prepared .few))
+    (omega (arith, done .close-twice .kept .1 .1 .1 .1 .1 .1 .1 .1 .0, prepared .counted, prepared .few))
     (entry done .pre .1) (put .copy .ensures) (c .has-bit .ensures)
 
 pub begin-spec : {M : Type 1} → statement M

@@ -22,8 +22,7 @@ slice-read-word-after : tie.Need-slice-read-word-after Inv-loop μ-loop
 slice-read-word-after c = omega arith
 
 word-after-requires : tie.Need-word-after-requires Inv-loop μ-loop
-word-after-requires c κs =
-    (omega arith, omega arith, c .before .before .before .before .before .before .before .pre .1 _ (omega arith))
+word-after-requires c κs = (omega arith, omega arith)
 
 mul-words : tie.Need-mul-words Inv-loop μ-loop
 mul-words c = omega arith

@@ -19,10 +19,13 @@ abbrev μ-loop : tie.MeasureT-loop
 mul-base : tie.Need-mul-base Inv-loop μ-loop
 mul-base c = omega arith
 
+mul-rest-index : tie.Need-mul-rest Inv-loop μ-loop
+mul-rest-index c = omega arith
+
 add-rest : tie.Need-add-rest Inv-loop μ-loop
 add-rest c = omega arith
 
-mul-rest : tie.Need-mul-rest Inv-loop μ-loop
+mul-rest : tie.Need-mul-rest-2 Inv-loop μ-loop
 mul-rest c = omega arith
 
 shared-slice-read-rest : tie.Need-shared-slice-read-rest Inv-loop μ-loop
@@ -68,7 +71,7 @@ loop-again c =
 returns : tie.Need-returns Inv-loop μ-loop
 returns c =
     let looped = c .before in
-    moves-by-leaves _ _ _ _ _ _ _ _ (looped .before .before .before .before .before .pre .2) (c .loop-test .left)
+    moves-by-leaves _ _ _ _ _ _ _ _ (c .loop-test .left)
     (looped .loop .inv)
 
 pub moved-spec : {M : Type 1} → statement M
@@ -78,6 +81,7 @@ moved-spec =
     Inv-loop
     μ-loop
     mul-base
+    mul-rest-index
     add-rest
     mul-rest
     shared-slice-read-rest

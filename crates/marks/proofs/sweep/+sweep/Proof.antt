@@ -44,6 +44,7 @@ use Rattle.marks.proofs.sweep.sweep.Kinds as sweep-kinds
 use Rattle.marks.proofs.sweep.+sweep.Lts-sweep as sweep-lts
 use Rattle.marks.proofs.sweep.apart.Reads as apart-reads
 use Rattle.marks.proofs.sweep.at_rest.Reads as at-rest-reads
+use Rattle.marks.proofs.close.close_after.Reads as close-after-reads
 use Rattle.marks.proofs.sweep.close_from.Reads as close-from-reads
 use Rattle.marks.proofs.sweep.idle.Reads as idle-reads
 use Rattle.marks.proofs.sweep.missed.Reads as missed-reads
@@ -51,15 +52,15 @@ use Rattle.marks.proofs.sweep.pass.Reads as pass-reads
 use Rattle.marks.proofs.sweep.+sweep.{statement}
 use Rattle.marks.proofs.sweep.+sweep.Tie.{close}
 
-abbrev μ-sweep : Measures 5 sweep-kinds.ps ℕ
-μ-sweep κs a = length (a .1 .1 .1 .1 .1 .1 .1 .0 .now)
+abbrev μ-sweep : Measures 6 sweep-kinds.ps ℕ
+μ-sweep κs a = length (a .1 .1 .1 .1 .1 .1 .1 .1 .0 .now)
 
 -- what a sweep is given at the measure t, and what a call of it asks below t
-abbrev sweep-at : ℕ → In 5 sweep-kinds.ps
-sweep-at t = and 5 sweep-kinds.ps (is 5 sweep-kinds.ps μ-sweep t) sweep.Pre
+abbrev sweep-at : ℕ → In 6 sweep-kinds.ps
+sweep-at t = and 6 sweep-kinds.ps (is 6 sweep-kinds.ps μ-sweep t) sweep.Pre
 
-abbrev sweep-below : ℕ → In 5 sweep-kinds.ps
-sweep-below t = and 5 sweep-kinds.ps (falls 5 sweep-kinds.ps _<_ μ-sweep t) sweep.Pre
+abbrev sweep-below : ℕ → In 6 sweep-kinds.ps
+sweep-below t = and 6 sweep-kinds.ps (falls 6 sweep-kinds.ps _<_ μ-sweep t) sweep.Pre
 
 abbrev sweep-claims : ℕ → sweep-lts.Claims
 sweep-claims t = (
@@ -75,16 +76,18 @@ sweep-claims t = (
   pass-reads.Learnt,
   sweep-below t,
   sweep.Post,
+  close-after-reads.Asked,
+  close-after-reads.Learnt,
   apart-reads.Asked,
   apart-reads.Learnt,
 )
 
 abbrev sweep-Inv-loop : sweep-lts.InvT-loop
-sweep-Inv-loop reach runs stands tops piece from to words₀ settled₀ waiting₀ at₀ words settled waiting at =
-    Sweeping reach runs stands tops piece words₀ words at waiting settled
+sweep-Inv-loop reach codes runs stands tops piece from to words₀ settled₀ waiting₀ at₀ words settled waiting at =
+    Sweeping reach codes runs stands tops piece words₀ words at waiting settled
 
 abbrev sweep-μ-loop : sweep-lts.MeasureT-loop
-sweep-μ-loop reach runs stands tops piece from to words₀ settled₀ waiting₀ at₀ words settled waiting at =
+sweep-μ-loop reach codes runs stands tops piece from to words₀ settled₀ waiting₀ at₀ words settled waiting at =
     length words - at
 
 -- where the own word of the run is closed
@@ -93,53 +96,53 @@ Own-closed t = sweep-lts.After-close-from (sweep-claims t) (sweep-at t) sweep.Po
 
 abbrev start-of : (t : ℕ) → Own-closed t
     → sweep-lts.Start (sweep-claims t) (sweep-at t) sweep.Post sweep-Inv-loop sweep-μ-loop
-start-of t c = c .before .before .before .before .before .before .before
+start-of t c = c .before .before .before .before .before .before .before .before
 
 -- there, with the own word closed, the words are a run to be swept
 begun : (t : ℕ) (c : Own-closed t) → let s = start-of t c in
-    Sweepable (s .args .reach .now) (s .args .runs .now) (s .args .stands .now) (s .args .tops .now) (s .pre .1 .tree)
+    Sweepable (s .args .reach .now) (s .args .codes .now) (s .args .runs .now) (s .args .stands .now) (s .args .tops .now) (s .pre .1 .tree)
     (s .args .piece) (set (s .args .words .now) 0 (c .close-from .result))
-begun t c = begun-sweepable _ _ _ _ _ _ _ (c .close-from .ensures) _ (start-of t c .pre .1 .sweepable)
+begun t c = begun-sweepable _ _ _ _ _ _ _ _ (c .close-from .ensures) _ (start-of t c .pre .1 .sweepable)
 
 -- and its own word is closed
 own : (t : ℕ) (c : Own-closed t) → let s = start-of t c in let words =
     set (s .args .words .now) 0 (c .close-from .result) in
     Closes (s .pre .1 .tree) (getD words 0 0) (getD words 0 0)
-own t c = own-begun _ _ _ _ _ _ _ (c .close-from .ensures) _ (start-of t c .pre .1 .sweepable)
+own t c = own-begun _ _ _ _ _ _ _ _ (c .close-from .ensures) _ (start-of t c .pre .1 .sweepable)
 
 -- where the loop goes on
 abbrev Going-on : ℕ → Type 0
 Going-on t = sweep-lts.In-loop (sweep-claims t) (sweep-at t) sweep.Post sweep-Inv-loop sweep-μ-loop
 
 sized : (t : ℕ) (c : Going-on t) → let s = start-of t (c .before .before) in
-    Tables-sized (s .args .reach .now) (s .args .runs .now) (s .args .stands .now) (s .args .tops .now) (s .args .piece)
+    Tables-sized (s .args .reach .now) (s .args .codes .now) (s .args .runs .now) (s .args .stands .now) (s .args .tops .now) (s .args .piece)
     (c .before .loop .words)
 sized t c =
     let s = start-of t (c .before .before) in
-    sized-same _ _ _ _ _ (s .args .words .now) _ (c .before .loop .inv .same-length
+    sized-same _ _ _ _ _ _ (s .args .words .now) _ (c .before .loop .inv .same-length
     ∙ length-set (s .args .words .now) 0 (c .before .before .close-from .result)) (s .pre .1 .sized)
 
 -- a child piece waits there for its visit
 child-waits : (t : ℕ) (c : Going-on t) → let s = start-of t (c .before .before) in
-    Waiting (s .args .reach .now) (s .args .runs .now) (s .args .stands .now) (s .args .tops .now) (s .pre .1 .tree)
+    Waiting (s .args .reach .now) (s .args .codes .now) (s .args .runs .now) (s .args .stands .now) (s .args .tops .now) (s .pre .1 .tree)
     (s .args .piece)
     (set (s .args .words .now) 0 (c .before .before .close-from .result)) (c .before .loop .words) (c .before .loop .at)
     (c .before .loop .waiting) (c .before .loop .settled)
-child-waits t c = waits _ _ _ _ _ _ _ _ _ _ (c .before .loop .inv) (c .loop-test .taken) _ (begun t (c .before .before))
+child-waits t c = waits _ _ _ _ _ _ _ _ _ _ _ (c .before .loop .inv) (c .loop-test .taken) _ (begun t (c .before .before))
     (own t (c .before .before))
 
 -- there is room for it
 room : (t : ℕ) (c : Going-on t) → let s = start-of t (c .before .before) in
-    Sweep-room (s .args .reach .now) (s .args .runs .now) (s .args .stands .now) (s .args .tops .now) (s .args .piece)
+    Sweep-room (s .args .reach .now) (s .args .codes .now) (s .args .runs .now) (s .args .stands .now) (s .args .tops .now) (s .args .piece)
     (c .before .loop .at) (c .before .loop .words)
-room t c = room-for _ _ _ _ _ _ _ _ _ _ (c .before .loop .inv) (c .loop-test .taken) _ (begun t (c .before .before))
+room t c = room-for _ _ _ _ _ _ _ _ _ _ _ (c .before .loop .inv) (c .loop-test .taken) _ (begun t (c .before .before))
     (own t (c .before .before)) (sized t c)
 
 -- and no mark ahead but from `from` up to `to`
 ahead : (t : ℕ) (c : Going-on t) → let s = start-of t (c .before .before) in
     (o : ℕ) → c .before .loop .at ≤ o → o < length (c .before .loop .words) → (s .args .piece + o < s .args .from)
     ⊎ (s .args .to ≤ s .args .piece + o) → getD (c .before .loop .words) o 0 ≡ 0
-ahead t c = quiet-ahead _ _ _ _ _ (start-of t (c .before .before) .args .words .now) _
+ahead t c = quiet-ahead _ _ _ _ _ _ (start-of t (c .before .before) .args .words .now) _
     (c .before .before .close-from .result) _ _ _ (c .before .loop .inv) _ _
     (start-of t (c .before .before) .pre .1 .quiet) (room t c .own-before)
 
@@ -199,7 +202,7 @@ sweep-slice-write-words t c = search needs
 
 sweep-loop-holds : (t : ℕ) → sweep-lts.Need-loop-holds (sweep-claims t) (sweep-at t) sweep.Post sweep-Inv-loop
     sweep-μ-loop
-sweep-loop-holds t c = sweeping-begins _ _ _ _ _ _ _
+sweep-loop-holds t c = sweeping-begins _ _ _ _ _ _ _ _
 
 sweep-add-child : (t : ℕ) → sweep-lts.Need-add-child (sweep-claims t) (sweep-at t) sweep.Post sweep-Inv-loop
     sweep-μ-loop
@@ -226,8 +229,8 @@ sweep-returns t c =
     let still = c .before .idle .ensures (c .if1 .taken) in
     let none : (o : ℕ) → g .before .loop .at ≤ o → o < length (g .before .loop .words)
     → getD (g .before .loop .words) o 0 ≡ 0 = λ o l h. ahead t g o l h (inr (omega (arith, still .1))) in (
-      λ x can. idle-done _ _ _ _ _ _ _ (a .close-from .ensures) x can _ _ _ _ (g .before .loop .inv) (still .0) none,
-      λ x can e. idle-settled _ _ _ _ _ _ _ (a .close-from .ensures) x can _ _ _ _ (g .before .loop .inv) (still .0)
+      λ x can. idle-done _ _ _ _ _ _ _ _ (a .close-from .ensures) x can _ _ _ _ (g .before .loop .inv) (still .0) none,
+      λ x can e. idle-settled _ _ _ _ _ _ _ _ (a .close-from .ensures) x can _ _ _ _ (g .before .loop .inv) (still .0)
           none e,
     )
 
@@ -279,11 +282,7 @@ sweep-at-rest-requires : (t : ℕ)
 sweep-at-rest-requires t c κs = let r =
     room t (missed-loop t (c .before .before)) in (
       omega (arith, r .stand-small),
-      omega (
-        arith,
-        r .runs-room,
-        start-of t (missed-loop t (c .before .before) .before .before) .pre .1 .sized .runs-sized,
-      ),
+      omega (arith, r .child-few),
     )
 
 sweep-shared-slice-read-top : (t : ℕ) → sweep-lts.Need-shared-slice-read-top (sweep-claims t) (sweep-at t) sweep.Post
@@ -341,11 +340,11 @@ sweep-sweep-requires t c κs =
       omega (
         arith,
         s .pre .0,
-        lent-shorter _ _ _ _ _ _ _ _ _ can _ (c .before .pass .ensures),
+        lent-shorter _ _ _ _ _ _ _ _ _ _ can _ (c .before .pass .ensures),
         g .before .loop .inv .same-length,
         length-set (s .args .words .now) 0 (g .before .before .close-from .result),
       ),
-      lent-ready _ _ _ _ _ _ _ _ _ can _ (c .before .pass .ensures) _ _ (sized t g) (ahead t g),
+      lent-ready _ _ _ _ _ _ _ _ _ _ can _ (c .before .pass .ensures) _ _ (sized t g) (ahead t g),
     )
 
 sweep-mul-pass-2 : (t : ℕ) → sweep-lts.Need-mul-pass-2 (sweep-claims t) (sweep-at t) sweep.Post sweep-Inv-loop
@@ -382,18 +381,25 @@ sweep-pass-requires-2 : (t : ℕ) → sweep-lts.Need-pass-requires-2 (sweep-clai
 sweep-pass-requires-2 t c κs =
     let r = room t (going-on t (c .before .before .before .before)) in (r .top-small, r .stand-small)
 
-sweep-add-close-from : (t : ℕ) → sweep-lts.Need-add-close-from (sweep-claims t) (sweep-at t) sweep.Post sweep-Inv-loop
-    sweep-μ-loop
-sweep-add-close-from t c = search (needs, room t (raised-loop t c))
+sweep-slice-read-close-after : (t : ℕ)
+    → sweep-lts.Need-slice-read-close-after (sweep-claims t) (sweep-at t) sweep.Post sweep-Inv-loop sweep-μ-loop
+sweep-slice-read-close-after t c = let w =
+    c .before .before .before .before .before .before in omega (
+      arith,
+      room t (going-on t w),
+      w .words .given .1,
+      length-set (going-on t w .before .loop .words) (going-on t w .before .loop .at)
+          (w .before .before .before .pass .result),
+    )
 
-sweep-close-from-requires-2 : (t : ℕ) → sweep-lts.Need-close-from-requires-2 (sweep-claims t) (sweep-at t) sweep.Post
+sweep-close-after-requires : (t : ℕ) → sweep-lts.Need-close-after-requires (sweep-claims t) (sweep-at t) sweep.Post
     sweep-Inv-loop sweep-μ-loop
-sweep-close-from-requires-2 t c κs = let r = room t (raised-loop t c) in (r .reach-room, r .stand-small)
+sweep-close-after-requires t c κs = let r = room t (raised-loop t (c .before)) in (r .reach-room, r .codes-room)
 
 sweep-slice-write-words-3 : (t : ℕ)
     → sweep-lts.Need-slice-write-words-3 (sweep-claims t) (sweep-at t) sweep.Post sweep-Inv-loop sweep-μ-loop
 sweep-slice-write-words-3 t c = let w =
-    c .before .before .before .before .before .before in omega (
+    c .before .before .before .before .before .before .before in omega (
       arith,
       room t (going-on t w),
       w .words .given .1,
@@ -404,32 +410,32 @@ sweep-slice-write-words-3 t c = let w =
 sweep-loop-less : (t : ℕ) → sweep-lts.Need-loop-less (sweep-claims t) (sweep-at t) sweep.Post sweep-Inv-loop
     sweep-μ-loop
 sweep-loop-less t c =
-    let w = c .before .before .before .before .before .before in
+    let w = c .before .before .before .before .before .before .before in
     simp length-set (omega (arith, room t (going-on t w), simp length-set at (w .words .given .1)))
 
 sweep-loop-again : (t : ℕ) → sweep-lts.Need-loop-again (sweep-claims t) (sweep-at t) sweep.Post sweep-Inv-loop
     sweep-μ-loop
 sweep-loop-again t c =
-    let w = c .before .before .before .before .before .before in
+    let w = c .before .before .before .before .before .before .before in
     let p = w .before .before .before in
     let g = going-on t w in
-    sweeping-on _ _ _ _ _ _ _ _ _ _ (g .before .loop .inv) (g .loop-test .taken) _ _ _ _ (begun t (g .before .before))
+    sweeping-on _ _ _ _ _ _ _ _ _ _ _ (g .before .loop .inv) (g .loop-test .taken) _ _ _ _ (begun t (g .before .before))
     (own t (g .before .before)) (missed-at t w .missed .ensures)
     (λ e. still-settled {child = w .before .sweep .result} (λ then. then .1)
-    (λ else. (not-false _ (else .0 .left), else .1)) (c .before .before .before .before .if3 .came) e .1)
+    (λ else. (not-false _ (else .0 .left), else .1)) (c .before .before .before .before .before .if3 .came) e .1)
     (λ x child can. record {
-      visited = visited _ _ _ _ _ _ _ x child can _ (p .pass .ensures) _
-          (w .before .sweep .kept .1 .1 .1 .1 .1 .1 .1 .0)
-          (w .before .sweep .ensures .0 (child .tree) (lent-sweepable _ _ _ _ _ _ _ x child can _ (p .pass .ensures))) _
-          _ (c .before .pass2 .ensures) (c .close-from2 .ensures);
+      visited = visited _ _ _ _ _ _ _ _ x child can _ (p .pass .ensures) _
+          (w .before .sweep .kept .1 .1 .1 .1 .1 .1 .1 .1 .0)
+          (w .before .sweep .ensures .0 (child .tree) (lent-sweepable _ _ _ _ _ _ _ _ x child can _ (p .pass .ensures))) _
+          _ (c .before .before .pass2 .ensures) (c .close-after .ensures);
       rests = λ e. subst (λ (l : List ℕ). Settled byteless (child .tree) (Holds (child .tree) l))
-          (sym (after-part _ _ _ _ _ _ _ x child can _ (p .pass .ensures) _
-          (w .before .sweep .kept .1 .1 .1 .1 .1 .1 .1 .0)
-          (w .before .sweep .ensures .0 (child .tree) (lent-sweepable _ _ _ _ _ _ _ x child can _ (p .pass .ensures))) _
-          _ (c .before .pass2 .ensures) (c .close-from2 .ensures)))
-          (w .before .sweep .ensures .1 (child .tree) (lent-sweepable _ _ _ _ _ _ _ x child can _ (p .pass .ensures))
+          (sym (after-part _ _ _ _ _ _ _ _ x child can _ (p .pass .ensures) _
+          (w .before .sweep .kept .1 .1 .1 .1 .1 .1 .1 .1 .0)
+          (w .before .sweep .ensures .0 (child .tree) (lent-sweepable _ _ _ _ _ _ _ _ x child can _ (p .pass .ensures))) _
+          _ (c .before .before .pass2 .ensures) (c .close-after .ensures)))
+          (w .before .sweep .ensures .1 (child .tree) (lent-sweepable _ _ _ _ _ _ _ _ x child can _ (p .pass .ensures))
           (still-settled {child = w .before .sweep .result} (λ then. then .1)
-          (λ else. (not-false _ (else .0 .left), else .1)) (c .before .before .before .before .if3 .came) e .0));
+          (λ else. (not-false _ (else .0 .left), else .1)) (c .before .before .before .before .before .if3 .came) e .0));
     })
 
 sweep-loop-less-2 : (t : ℕ) → sweep-lts.Need-loop-less-2 (sweep-claims t) (sweep-at t) sweep.Post sweep-Inv-loop
@@ -440,9 +446,9 @@ sweep-loop-again-2 : (t : ℕ) → sweep-lts.Need-loop-again-2 (sweep-claims t) 
     sweep-μ-loop
 sweep-loop-again-2 t c =
     let g = at-rest-loop t (c .before) in
-    sweeping-on _ _ _ _ _ _ _ _ _ _ (g .before .loop .inv) (g .loop-test .taken) _ _ _ _ (begun t (g .before .before))
+    sweeping-on _ _ _ _ _ _ _ _ _ _ _ (g .before .loop .inv) (g .loop-test .taken) _ _ _ _ (begun t (g .before .before))
     (own t (g .before .before)) (c .before .before .before .before .missed .ensures) (λ e. e)
-    (passed-over _ _ _ _ _ _ _ _ _ _ (g .before .loop .inv) (g .loop-test .taken) _ _
+    (passed-over _ _ _ _ _ _ _ _ _ _ _ (g .before .loop .inv) (g .loop-test .taken) _ _
     (c .before .at-rest .ensures (not-false _ (c .if2 .left))) (ahead t g))
 
 sweep-slice-read-apart : (t : ℕ)
@@ -470,9 +476,9 @@ sweep-returns-2 : (t : ℕ) → sweep-lts.Need-returns-2 (sweep-claims t) (sweep
 sweep-returns-2 t c =
     let l = c .before .before .before in
     let a = l .before .before in (
-      λ x can. sweep-done _ _ _ _ _ _ _ (a .close-from .ensures) x can _ _ _ _ (l .before .loop .inv)
+      λ x can. sweep-done _ _ _ _ _ _ _ _ (a .close-from .ensures) x can _ _ _ _ (l .before .loop .inv)
           (l .loop-test .left),
-      λ x can yes'. sweep-settled _ _ _ _ _ _ _ (a .close-from .ensures) x can _ _ _ _ (l .before .loop .inv)
+      λ x can yes'. sweep-settled _ _ _ _ _ _ _ _ (a .close-from .ensures) x can _ _ _ _ (l .before .loop .inv)
           (l .loop-test .left) (c .before .before .if4 .taken) (c .apart .ensures yes'),
     )
 
@@ -487,7 +493,7 @@ sweep-returns-3 : (t : ℕ) → sweep-lts.Need-returns-3 (sweep-claims t) (sweep
 sweep-returns-3 t c =
     let l = c .before in
     let a = l .before .before in (
-      λ x can. sweep-done _ _ _ _ _ _ _ (a .close-from .ensures) x can _ _ _ _ (l .before .loop .inv)
+      λ x can. sweep-done _ _ _ _ _ _ _ _ (a .close-from .ensures) x can _ _ _ _ (l .before .loop .inv)
           (l .loop-test .left),
       λ x can yes'. let z : _≡_ {A = ℕ} 0 1 = cc in absurd (omega arith),
     )
@@ -535,8 +541,8 @@ pub +sweep-spec : {M : Type 1} → statement M
     (sweep-slice-read-pass-4 t)
     (sweep-add-pass t)
     (sweep-pass-requires-2 t)
-    (sweep-add-close-from t)
-    (sweep-close-from-requires-2 t)
+    (sweep-slice-read-close-after t)
+    (sweep-close-after-requires t)
     (sweep-slice-write-words-3 t)
     (sweep-loop-less t)
     (sweep-loop-again t)

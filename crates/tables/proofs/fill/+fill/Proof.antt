@@ -7,12 +7,11 @@ use native.Mathlib.Omega.{arith}
 use borrow.Author.Needs.{needs}
 use borrow.Fn.Kinds.{In}
 use borrow.Fn.PlainCycle.{Measures, is, falls, and}
-use Rattle.tables.specs.Filling.{Tables-room, tables}
+use Rattle.tables.specs.Filling.{Same-lengths, tables}
 use Rattle.tables.specs.Walking.{
   bounds,
+  row-within,
   stand-few,
-  wide-enough,
-  room-kept,
   Of-piece,
   code-readable,
   visited-stand,
@@ -38,14 +37,14 @@ use Rattle.tables.proofs.fill.stand.Reads as stand-reads
 use Rattle.tables.proofs.fill.+fill.{statement}
 use Rattle.tables.proofs.fill.+fill.Tie.{close}
 
-abbrev μ-fill : Measures 5 fill-kinds.ps ℕ
+abbrev μ-fill : Measures 4 fill-kinds.ps ℕ
 μ-fill κs a = a .1 .0
 
-abbrev fill-at : ℕ → In 5 fill-kinds.ps
-fill-at t = and 5 fill-kinds.ps (is 5 fill-kinds.ps μ-fill t) fill.Pre
+abbrev fill-at : ℕ → In 4 fill-kinds.ps
+fill-at t = and 4 fill-kinds.ps (is 4 fill-kinds.ps μ-fill t) fill.Pre
 
-abbrev fill-below : ℕ → In 5 fill-kinds.ps
-fill-below t = and 5 fill-kinds.ps (falls 5 fill-kinds.ps _<_ μ-fill t) fill.Pre
+abbrev fill-below : ℕ → In 4 fill-kinds.ps
+fill-below t = and 4 fill-kinds.ps (falls 4 fill-kinds.ps _<_ μ-fill t) fill.Pre
 
 abbrev fill-claims : ℕ → fill-lts.Claims
 fill-claims t = (
@@ -72,11 +71,11 @@ fill-claims t = (
 -- the places that are gone back to: where the call began, where code and kind were read, and the calls for the children
 abbrev entry : (t : ℕ) → fill-lts.After-piece-at (fill-claims t) (fill-at t) fill.Post
     → fill-lts.Start (fill-claims t) (fill-at t) fill.Post
-entry t c = c .before .before .before .before .before .before
+entry t c = c .before .before .before .before .before
 
 abbrev code-read : (t : ℕ) → fill-lts.After-fill (fill-claims t) (fill-at t) fill.Post
     → fill-lts.After-code-at (fill-claims t) (fill-at t) fill.Post
-code-read t c = c .before .before .before .before .before .before .before
+code-read t c = c .before .before .before .before .before .before
 
 abbrev kind-read : (t : ℕ) → fill-lts.After-fill (fill-claims t) (fill-at t) fill.Post
     → fill-lts.After-kind-at (fill-claims t) (fill-at t) fill.Post
@@ -86,17 +85,17 @@ abbrev entry-by-kind : (t : ℕ) → fill-lts.After-kind-at (fill-claims t) (fil
     → fill-lts.Start (fill-claims t) (fill-at t) fill.Post
 entry-by-kind t c = entry t (c .before .before)
 
-abbrev left-filled : (t : ℕ) → fill-lts.After-slice-known14 (fill-claims t) (fill-at t) fill.Post
+abbrev left-filled : (t : ℕ) → fill-lts.After-slice-known10 (fill-claims t) (fill-at t) fill.Post
     → fill-lts.After-fill (fill-claims t) (fill-at t) fill.Post
-left-filled t c = c .before .before .before .before .before .before .before .before
+left-filled t c = c .before .before .before .before .before .before
 
-abbrev right-filled : (t : ℕ) → fill-lts.After-slice-known20 (fill-claims t) (fill-at t) fill.Post
+abbrev right-filled : (t : ℕ) → fill-lts.After-slice-known14 (fill-claims t) (fill-at t) fill.Post
     → fill-lts.After-fill2 (fill-claims t) (fill-at t) fill.Post
-right-filled t c = c .before .before .before .before .before .before .before .before
+right-filled t c = c .before .before .before .before .before .before
 
 abbrev not-star : (t : ℕ) → fill-lts.After-fill2 (fill-claims t) (fill-at t) fill.Post
     → fill-lts.Else3 (fill-claims t) (fill-at t) fill.Post
-not-star t c = c .before .before .before .before .before .before
+not-star t c = c .before .before .before .before .before
 
 -- the record is of the walk's piece, and its kind is known
 met : (t : ℕ) (c : fill-lts.After-kind-at (fill-claims t) (fill-at t) fill.Post)
@@ -109,17 +108,19 @@ met t c = record {
 }
 
 fill-piece-at-requires : (t : ℕ) → fill-lts.Need-piece-at-requires (fill-claims t) (fill-at t) fill.Post
-fill-piece-at-requires t c κs = let within = bounds (c .before .before .before .before .before .pre .1 .sitting) in omega
+fill-piece-at-requires t c κs = let within = bounds (c .before .before .before .before .pre .1 .sitting) in omega
     arith
 
 fill-stand-requires : (t : ℕ) → fill-lts.Need-stand-requires (fill-claims t) (fill-at t) fill.Post
 fill-stand-requires t c κs =
-    let read = c .before .before .before .before .before in
+    let read = c .before .before .before .before in
     let start = entry t read in
     let within = bounds (start .pre .1 .sitting) in
     let few = stand-few (start .pre .1 .sitting) in
     let shown = read .piece-at .ensures in
-    (omega arith, start .pre .1 .room)
+    let full = start .pre .1 .full in
+    let row = row-within (start .pre .1) in
+    (omega arith, omega arith)
 
 fill-same-length : (t : ℕ) → fill-lts.Need-same-length (fill-claims t) (fill-at t) fill.Post
 fill-same-length t c = search needs
@@ -130,43 +131,37 @@ fill-same-length-2 t c = search needs
 fill-same-length-3 : (t : ℕ) → fill-lts.Need-same-length-3 (fill-claims t) (fill-at t) fill.Post
 fill-same-length-3 t c = search needs
 
-fill-same-length-4 : (t : ℕ) → fill-lts.Need-same-length-4 (fill-claims t) (fill-at t) fill.Post
-fill-same-length-4 t c = search needs
-
 fill-returns : (t : ℕ) → fill-lts.Need-returns (fill-claims t) (fill-at t) fill.Post
 fill-returns t c =
-    let made = c .before .before .before .before .before .before .before .before in
-    let other = made .before .before .before .before .before in
-    visited-stand (entry t (other .before) .pre .1 .room) (other .before .piece-at .ensures) (other .if1 .taken)
-    (made .stand .ensures .0) (made .stand .ensures .1)
+    let made = c .before .before .before .before .before .before in
+    let other = made .before .before .before .before in
+    visited-stand (other .before .piece-at .ensures) (other .if1 .taken) (made .stand .ensures .0)
+    (made .stand .ensures .1)
 
 fill-kind-at-requires : (t : ℕ) → fill-lts.Need-kind-at-requires (fill-claims t) (fill-at t) fill.Post
 fill-kind-at-requires t c κs = let within =
-    bounds (c .before .before .before .before .before .before .before .pre .1 .sitting) in omega arith
+    bounds (c .before .before .before .before .before .before .pre .1 .sitting) in omega arith
 
 fill-code-at-requires : (t : ℕ) → fill-lts.Need-code-at-requires (fill-claims t) (fill-at t) fill.Post
 fill-code-at-requires t c κs = code-readable (met t c) (entry-by-kind t c .pre .1 .sitting)
 
 fill-leaf-requires : (t : ℕ) → fill-lts.Need-leaf-requires (fill-claims t) (fill-at t) fill.Post
 fill-leaf-requires t c κs =
-    let start = entry-by-kind t (c .before .before .before .before) in
+    let start = entry-by-kind t (c .before .before .before) in
     let within = bounds (start .pre .1 .sitting) in
-    (omega arith, wide-enough (start .pre .1 .room))
+    let row = row-within (start .pre .1) in
+    omega arith
 
-fill-same-length-5 : (t : ℕ) → fill-lts.Need-same-length-5 (fill-claims t) (fill-at t) fill.Post
-fill-same-length-5 t c = search needs
-
-fill-same-length-6 : (t : ℕ) → fill-lts.Need-same-length-6 (fill-claims t) (fill-at t) fill.Post
-fill-same-length-6 t c = search needs
+fill-same-length-4 : (t : ℕ) → fill-lts.Need-same-length-4 (fill-claims t) (fill-at t) fill.Post
+fill-same-length-4 t c = search needs
 
 fill-returns-2 : (t : ℕ) → fill-lts.Need-returns-2 (fill-claims t) (fill-at t) fill.Post
 fill-returns-2 t c =
-    let made = c .before .before .before .before in
-    let a-leaf = made .before .before .before in
+    let made = c .before .before in
+    let a-leaf = made .before .before in
     let code = a-leaf .before in
-    visited-leaf (met t (code .before)) (code .code-at .ensures) (entry-by-kind t (code .before) .pre .1 .room)
-    (a-leaf .if2 .taken)
-    (made .leaf .ensures .0) (made .leaf .ensures .1 .0) (made .leaf .ensures .1 .1)
+    visited-leaf (met t (code .before)) (code .code-at .ensures) (a-leaf .if2 .taken) (made .leaf .ensures .0)
+    (made .leaf .ensures .1)
 
 fill-left-at-requires : (t : ℕ) → fill-lts.Need-left-at-requires (fill-claims t) (fill-at t) fill.Post
 fill-left-at-requires t c κs = let within = bounds (entry-by-kind t (c .before .before) .pre .1 .sitting) in omega arith
@@ -176,33 +171,88 @@ fill-add-fill t c = let within = bounds (entry-by-kind t (c .before .before .bef
 
 fill-fill-requires : (t : ℕ) → fill-lts.Need-fill-requires (fill-claims t) (fill-at t) fill.Post
 fill-fill-requires t c κs =
-    let read = c .before .before .before .before in
+    let read = c .before .before .before in
     let code = read .before .before in
     let start = entry-by-kind t (code .before) in
-    let ready = left-ready (met t (code .before)) (code .code-at .ensures) (read .left-at .ensures) (read .before .if2 .left) (start .pre .1) in
+    let ready = left-ready (met t (code .before)) (code .code-at .ensures) (read .left-at .ensures)
+    (read .before .if2 .left) (start .pre .1) in
     (subst (λ (k : ℕ). read .left-at .result < k) (start .pre .0) (ready .0), ready .1)
 
--- the tables that the first call leaves have the same room
-room-left : (t : ℕ) (c : fill-lts.After-fill (fill-claims t) (fill-at t) fill.Post)
-    → Tables-room (tables (c .fill .last .1 .1 .1 .1 .0) (c .fill .last .1 .1 .1 .1 .1 .0) (c .fill .last .1 .1 .1 .1 .1 .1 .0)
-    (c .fill .last .1 .1 .1 .1 .1 .1 .1 .0))
-room-left t c =
-    room-kept _ _ _ _ (entry-by-kind t (kind-read t c) .pre .1 .room) (c .fill .kept .1 .1 .1 .1 .0)
-    (c .fill .kept .1 .1 .1 .1 .1 .0) (c .fill .kept .1 .1 .1 .1 .1 .1 .0) (c .fill .kept .1 .1 .1 .1 .1 .1 .1 .0)
+-- the tables that the first call leaves are as long as they were
+same-left : (t : ℕ) (c : fill-lts.After-fill (fill-claims t) (fill-at t) fill.Post)
+    → let args = entry-by-kind t (kind-read t c) .args in
+    Same-lengths (tables (args .codes .now) (args .stands .now) (args .roots .now))
+    (tables (c .fill .last .1 .1 .1 .1 .0) (c .fill .last .1 .1 .1 .1 .1 .0) (c .fill .last .1 .1 .1 .1 .1 .1 .0))
+same-left t c = record {
+  of-codes = c .fill .kept .1 .1 .1 .1 .0;
+  of-stands = c .fill .kept .1 .1 .1 .1 .1 .0;
+  of-roots = c .fill .kept .1 .1 .1 .1 .1 .1 .0;
+}
 
 fill-join-requires : (t : ℕ) → fill-lts.Need-join-requires (fill-claims t) (fill-at t) fill.Post
 fill-join-requires t c κs =
-    let made = left-filled t (c .before .before .before) in
-    let room = room-left t made in (
-      star-bounds (met t (kind-read t made)) (code-read t made .code-at .ensures) (made .before .before .before .before .before .left-at .ensures)
-          (made .before .before .before .before .before .before .if2 .left)
-          (entry-by-kind t (kind-read t made) .pre .1) room
-          (made .fill .ensures) (c .before .before .if3 .taken),
-      wide-enough room,
-    )
+    let made = left-filled t (c .before .before) in
+    star-bounds (met t (kind-read t made)) (code-read t made .code-at .ensures) (made .before .before .before .before .left-at .ensures)
+    (made .before .before .before .before .before .if2 .left)
+    (entry-by-kind t (kind-read t made) .pre .1) (same-left t made)
+    (made .fill .ensures) (c .before .if3 .taken)
+
+fill-same-length-5 : (t : ℕ) → fill-lts.Need-same-length-5 (fill-claims t) (fill-at t) fill.Post
+fill-same-length-5 t c = search needs
+
+fill-same-length-6 : (t : ℕ) → fill-lts.Need-same-length-6 (fill-claims t) (fill-at t) fill.Post
+fill-same-length-6 t c = search needs
 
 fill-same-length-7 : (t : ℕ) → fill-lts.Need-same-length-7 (fill-claims t) (fill-at t) fill.Post
 fill-same-length-7 t c = search needs
+
+fill-returns-3 : (t : ℕ) → fill-lts.Need-returns-3 (fill-claims t) (fill-at t) fill.Post
+fill-returns-3 t c =
+    let done = c .before .before in
+    let a-star = done .before .before in
+    let made = left-filled t (a-star .before) in
+    visited-star (met t (kind-read t made)) (code-read t made .code-at .ensures) (made .before .before .before .before .left-at .ensures)
+    (made .before .before .before .before .before .if2 .left)
+    (entry-by-kind t (kind-read t made) .pre .1) (same-left t made)
+    (made .fill .ensures) (a-star .if3 .taken) (done .join .ensures .0) (done .join .ensures .1)
+
+fill-right-at-requires : (t : ℕ) → fill-lts.Need-right-at-requires (fill-claims t) (fill-at t) fill.Post
+fill-right-at-requires t c κs =
+    let within = bounds (entry-by-kind t (kind-read t (left-filled t (c .before))) .pre .1 .sitting) in omega arith
+
+fill-fill-requires-2 : (t : ℕ) → fill-lts.Need-fill-requires-2 (fill-claims t) (fill-at t) fill.Post
+fill-fill-requires-2 t c κs =
+    let read = c .before .before .before in
+    let made = left-filled t (read .before .before) in
+    let start = entry-by-kind t (kind-read t made) in
+    let ready = right-ready (met t (kind-read t made)) (code-read t made .code-at .ensures) (made .before .before .before .before .left-at .ensures)
+    (made .before .before .before .before .before .if2 .left)
+    (entry-by-kind t (kind-read t made) .pre .1)
+    (same-left t made) (made .fill .ensures) (read .right-at .ensures) (read .before .if3 .left) in
+    (subst (λ (k : ℕ). read .right-at .result < k) (start .pre .0) (ready .0), ready .1)
+
+-- and so are those of the second call
+same-right : (t : ℕ) (c : fill-lts.After-fill2 (fill-claims t) (fill-at t) fill.Post)
+    → let made = left-filled t (not-star t c .before) in
+    Same-lengths
+    (tables (made .fill .last .1 .1 .1 .1 .0) (made .fill .last .1 .1 .1 .1 .1 .0)
+    (made .fill .last .1 .1 .1 .1 .1 .1 .0))
+    (tables (c .fill2 .last .1 .1 .1 .1 .0) (c .fill2 .last .1 .1 .1 .1 .1 .0) (c .fill2 .last .1 .1 .1 .1 .1 .1 .0))
+same-right t c = record {
+  of-codes = c .fill2 .kept .1 .1 .1 .1 .0;
+  of-stands = c .fill2 .kept .1 .1 .1 .1 .1 .0;
+  of-roots = c .fill2 .kept .1 .1 .1 .1 .1 .1 .0;
+}
+
+fill-join-requires-2 : (t : ℕ) → fill-lts.Need-join-requires-2 (fill-claims t) (fill-at t) fill.Post
+fill-join-requires-2 t c κs =
+    let last = right-filled t (c .before) in
+    let made = left-filled t (not-star t last .before) in
+    two-bounds (met t (kind-read t made)) (code-read t made .code-at .ensures) (made .before .before .before .before .left-at .ensures)
+    (made .before .before .before .before .before .if2 .left)
+    (entry-by-kind t (kind-read t made) .pre .1)
+    (same-left t made) (made .fill .ensures) (last .before .before .before .before .right-at .ensures)
+    (not-star t last .if3 .left) (same-right t last) (last .fill2 .ensures)
 
 fill-same-length-8 : (t : ℕ) → fill-lts.Need-same-length-8 (fill-claims t) (fill-at t) fill.Post
 fill-same-length-8 t c = search needs
@@ -213,76 +263,17 @@ fill-same-length-9 t c = search needs
 fill-same-length-10 : (t : ℕ) → fill-lts.Need-same-length-10 (fill-claims t) (fill-at t) fill.Post
 fill-same-length-10 t c = search needs
 
-fill-returns-3 : (t : ℕ) → fill-lts.Need-returns-3 (fill-claims t) (fill-at t) fill.Post
-fill-returns-3 t c =
-    let done = c .before .before .before .before in
-    let a-star = done .before .before .before in
-    let made = left-filled t (a-star .before) in
-    visited-star (met t (kind-read t made)) (code-read t made .code-at .ensures) (made .before .before .before .before .before .left-at .ensures)
-    (made .before .before .before .before .before .before .if2 .left)
-    (entry-by-kind t (kind-read t made) .pre .1) (room-left t made)
-    (made .fill .ensures) (a-star .if3 .taken) (done .join .ensures .0) (done .join .ensures .1 .0)
-    (done .join .ensures .1 .1)
-
-fill-right-at-requires : (t : ℕ) → fill-lts.Need-right-at-requires (fill-claims t) (fill-at t) fill.Post
-fill-right-at-requires t c κs =
-    let within = bounds (entry-by-kind t (kind-read t (left-filled t (c .before))) .pre .1 .sitting) in omega arith
-
-fill-fill-requires-2 : (t : ℕ) → fill-lts.Need-fill-requires-2 (fill-claims t) (fill-at t) fill.Post
-fill-fill-requires-2 t c κs =
-    let read = c .before .before .before .before in
-    let made = left-filled t (read .before .before) in
-    let start = entry-by-kind t (kind-read t made) in
-    let ready = right-ready (met t (kind-read t made)) (code-read t made .code-at .ensures) (made .before .before .before .before .before .left-at .ensures)
-    (made .before .before .before .before .before .before .if2 .left)
-    (entry-by-kind t (kind-read t made) .pre .1)
-    (room-left t made) (made .fill .ensures) (read .right-at .ensures) (read .before .if3 .left) in
-    (subst (λ (k : ℕ). read .right-at .result < k) (start .pre .0) (ready .0), ready .1)
-
--- and so have those of the second call
-room-right : (t : ℕ) (c : fill-lts.After-fill2 (fill-claims t) (fill-at t) fill.Post)
-    → Tables-room (tables (c .fill2 .last .1 .1 .1 .1 .0) (c .fill2 .last .1 .1 .1 .1 .1 .0)
-    (c .fill2 .last .1 .1 .1 .1 .1 .1 .0) (c .fill2 .last .1 .1 .1 .1 .1 .1 .1 .0))
-room-right t c =
-    room-kept _ _ _ _ (room-left t (left-filled t (not-star t c .before))) (c .fill2 .kept .1 .1 .1 .1 .0)
-    (c .fill2 .kept .1 .1 .1 .1 .1 .0) (c .fill2 .kept .1 .1 .1 .1 .1 .1 .0) (c .fill2 .kept .1 .1 .1 .1 .1 .1 .1 .0)
-
-fill-join-requires-2 : (t : ℕ) → fill-lts.Need-join-requires-2 (fill-claims t) (fill-at t) fill.Post
-fill-join-requires-2 t c κs =
-    let last = right-filled t (c .before .before) in
-    let made = left-filled t (not-star t last .before) in
-    let room = room-right t last in (
-      two-bounds (met t (kind-read t made)) (code-read t made .code-at .ensures) (made .before .before .before .before .before .left-at .ensures)
-          (made .before .before .before .before .before .before .if2 .left)
-          (entry-by-kind t (kind-read t made) .pre .1)
-          (room-left t made) (made .fill .ensures) (last .before .before .before .before .before .right-at .ensures)
-          (not-star t last .if3 .left) room (last .fill2 .ensures),
-      wide-enough room,
-    )
-
-fill-same-length-11 : (t : ℕ) → fill-lts.Need-same-length-11 (fill-claims t) (fill-at t) fill.Post
-fill-same-length-11 t c = search needs
-
-fill-same-length-12 : (t : ℕ) → fill-lts.Need-same-length-12 (fill-claims t) (fill-at t) fill.Post
-fill-same-length-12 t c = search needs
-
-fill-same-length-13 : (t : ℕ) → fill-lts.Need-same-length-13 (fill-claims t) (fill-at t) fill.Post
-fill-same-length-13 t c = search needs
-
-fill-same-length-14 : (t : ℕ) → fill-lts.Need-same-length-14 (fill-claims t) (fill-at t) fill.Post
-fill-same-length-14 t c = search needs
-
 fill-returns-4 : (t : ℕ) → fill-lts.Need-returns-4 (fill-claims t) (fill-at t) fill.Post
 fill-returns-4 t c =
-    let done = c .before .before .before .before in
-    let last = right-filled t (done .before .before .before) in
+    let done = c .before .before in
+    let last = right-filled t (done .before .before) in
     let made = left-filled t (not-star t last .before) in
-    visited-two (met t (kind-read t made)) (code-read t made .code-at .ensures) (made .before .before .before .before .before .left-at .ensures)
-    (made .before .before .before .before .before .before .if2 .left)
+    visited-two (met t (kind-read t made)) (code-read t made .code-at .ensures) (made .before .before .before .before .left-at .ensures)
+    (made .before .before .before .before .before .if2 .left)
     (entry-by-kind t (kind-read t made) .pre .1)
-    (room-left t made) (made .fill .ensures) (last .before .before .before .before .before .right-at .ensures)
-    (not-star t last .if3 .left) (room-right t last) (last .fill2 .ensures) (done .join2 .ensures .0)
-    (done .join2 .ensures .1 .0) (done .join2 .ensures .1 .1)
+    (same-left t made) (made .fill .ensures) (last .before .before .before .before .right-at .ensures)
+    (not-star t last .if3 .left) (same-right t last) (last .fill2 .ensures) (done .join2 .ensures .0)
+    (done .join2 .ensures .1)
 
 pub +fill-spec : {M : Type 1} → statement M
 +fill-spec =
@@ -292,28 +283,24 @@ pub +fill-spec : {M : Type 1} → statement M
     (fill-same-length t)
     (fill-same-length-2 t)
     (fill-same-length-3 t)
-    (fill-same-length-4 t)
     (fill-returns t)
     (fill-kind-at-requires t)
     (fill-code-at-requires t)
     (fill-leaf-requires t)
-    (fill-same-length-5 t)
-    (fill-same-length-6 t)
+    (fill-same-length-4 t)
     (fill-returns-2 t)
     (fill-left-at-requires t)
     (fill-add-fill t)
     (fill-fill-requires t)
     (fill-join-requires t)
+    (fill-same-length-5 t)
+    (fill-same-length-6 t)
     (fill-same-length-7 t)
-    (fill-same-length-8 t)
-    (fill-same-length-9 t)
-    (fill-same-length-10 t)
     (fill-returns-3 t)
     (fill-right-at-requires t)
     (fill-fill-requires-2 t)
     (fill-join-requires-2 t)
-    (fill-same-length-11 t)
-    (fill-same-length-12 t)
-    (fill-same-length-13 t)
-    (fill-same-length-14 t)
+    (fill-same-length-8 t)
+    (fill-same-length-9 t)
+    (fill-same-length-10 t)
     (fill-returns-4 t)

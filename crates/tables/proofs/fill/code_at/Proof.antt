@@ -16,7 +16,7 @@ character-code-requires c κs = search needs
 returns : tie.Need-returns
 returns c =
     let kind = c .before .before in
-    c .character-code .ensures ∙ ap (λ (d : ℕ). 2 * (d + 1)) (c .before .character-at .ensures)
+    c .character-code .ensures ∙ ap (λ (d : ℕ). 4 * (2 * (d + 1))) (c .before .character-at .ensures)
     ∙ sym (code-of-character (kind .before .before .pre) (kind .if1 .taken))
 
 left-at-requires : tie.Need-left-at-requires
@@ -31,7 +31,7 @@ class-code-requires c κs =
 returns-2 : tie.Need-returns-2
 returns-2 c =
     let kind = c .before .before in
-    c .class-code .ensures ∙ ap (λ (d : ℕ). 2 * d + 1) (c .before .left-at .ensures)
+    c .class-code .ensures ∙ ap (λ (d : ℕ). 4 * (2 * d + 1)) (c .before .left-at .ensures)
     ∙ sym (code-of-class (kind .before .before .before .pre) (kind .if2 .taken))
 
 returns-3 : tie.Need-returns-3

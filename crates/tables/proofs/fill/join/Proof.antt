@@ -1,4 +1,4 @@
--- `tables::fill::join` meets its contract: it sets the entries one after another.
+-- `tables::fill::join` meets its contract: it sets the codes one after another.
 use mathlib.Core.Path.{refl}
 use native.Mathlib.Omega.{arith}
 use lib.ListN.{length-set}
@@ -9,47 +9,14 @@ use Rattle.tables.proofs.fill.join.Tie as tie
 mul-base : tie.Need-mul-base
 mul-base c = search needs
 
-start-word-requires : tie.Need-start-word-requires
-start-word-requires c κs = search needs
+begin-code-requires : tie.Need-begin-code-requires
+begin-code-requires c κs = search needs
 
 left-exit-requires : tie.Need-left-exit-requires
 left-exit-requires c κs = search needs
 
 right-exit-requires : tie.Need-right-exit-requires
 right-exit-requires c κs = search needs
-
-add-nexts : tie.Need-add-nexts
-add-nexts c = search needs
-
-mul-nexts : tie.Need-mul-nexts
-mul-nexts c = search needs
-
-slice-write-nexts : tie.Need-slice-write-nexts
-slice-write-nexts c = search needs
-
-add-nexts-2 : tie.Need-add-nexts-2
-add-nexts-2 c = search needs
-
-sub-nexts : tie.Need-sub-nexts
-sub-nexts c = search needs
-
-mul-nexts-2 : tie.Need-mul-nexts-2
-mul-nexts-2 c = search needs
-
-slice-write-nexts-2 : tie.Need-slice-write-nexts-2
-slice-write-nexts-2 c = simp length-set (omega arith)
-
-add-nexts-3 : tie.Need-add-nexts-3
-add-nexts-3 c = search needs
-
-sub-nexts-2 : tie.Need-sub-nexts-2
-sub-nexts-2 c = search needs
-
-mul-nexts-3 : tie.Need-mul-nexts-3
-mul-nexts-3 c = search needs
-
-slice-write-nexts-3 : tie.Need-slice-write-nexts-3
-slice-write-nexts-3 c = simp length-set (omega arith)
 
 add-codes : tie.Need-add-codes
 add-codes c = search needs
@@ -63,11 +30,26 @@ slice-write-codes c = search needs
 add-codes-2 : tie.Need-add-codes-2
 add-codes-2 c = search needs
 
+sub-codes : tie.Need-sub-codes
+sub-codes c = search needs
+
 mul-codes-2 : tie.Need-mul-codes-2
 mul-codes-2 c = search needs
 
 slice-write-codes-2 : tie.Need-slice-write-codes-2
 slice-write-codes-2 c = simp length-set (omega arith)
+
+add-codes-3 : tie.Need-add-codes-3
+add-codes-3 c = search needs
+
+sub-codes-2 : tie.Need-sub-codes-2
+sub-codes-2 c = search needs
+
+mul-codes-3 : tie.Need-mul-codes-3
+mul-codes-3 c = search needs
+
+slice-write-codes-3 : tie.Need-slice-write-codes-3
+slice-write-codes-3 c = simp length-set (omega arith)
 
 add-result : tie.Need-add-result
 add-result c = search needs
@@ -75,16 +57,10 @@ add-result c = search needs
 same-length : tie.Need-same-length
 same-length c = search needs
 
-same-length-2 : tie.Need-same-length-2
-same-length-2 c = search needs
-
 returns : tie.Need-returns
 returns c = (
   refl,
-  (
-    cc (c .before .before .start-word .ensures, c .before .left-exit .ensures, c .right-exit .ensures),
-    refl,
-  ),
+  cc (c .before .before .begin-code .ensures, c .before .left-exit .ensures, c .right-exit .ensures),
 )
 
 pub join-spec : {M : Type 1} → statement M
@@ -92,27 +68,20 @@ join-spec =
     tie.close
     (tie.spec
     mul-base
-    start-word-requires
+    begin-code-requires
     left-exit-requires
     right-exit-requires
-    add-nexts
-    mul-nexts
-    slice-write-nexts
-    add-nexts-2
-    sub-nexts
-    mul-nexts-2
-    slice-write-nexts-2
-    add-nexts-3
-    sub-nexts-2
-    mul-nexts-3
-    slice-write-nexts-3
     add-codes
     mul-codes
     slice-write-codes
     add-codes-2
+    sub-codes
     mul-codes-2
     slice-write-codes-2
+    add-codes-3
+    sub-codes-2
+    mul-codes-3
+    slice-write-codes-3
     add-result
     same-length
-    same-length-2
     returns)

@@ -5,17 +5,14 @@ use borrow.Author.Needs.{needs}
 use Rattle.tables.proofs.fill.left_exit.Statement.{statement}
 use Rattle.tables.proofs.fill.left_exit.Tie as tie
 
-bit-requires : tie.Need-bit-requires
-bit-requires c κs = search needs
-
-right-exit-requires : tie.Need-right-exit-requires
-right-exit-requires c κs = search needs
+jumps-to-requires : tie.Need-jumps-to-requires
+jumps-to-requires c κs = search needs
 
 returns : tie.Need-returns
-returns c = c .bit .ensures ∙ sym (cond-equal _ _ _ _ (c .before .if1 .taken))
+returns c = sym (cond-equal _ _ _ _ (c .if1 .taken))
 
 returns-2 : tie.Need-returns-2
-returns-2 c = c .right-exit .ensures ∙ sym (cond-different _ _ _ _ (c .before .if1 .left))
+returns-2 c = c .jumps-to .ensures ∙ sym (cond-different _ _ _ _ (c .before .if1 .left))
 
 pub left-exit-spec : {M : Type 1} → statement M
-left-exit-spec = tie.close (tie.spec bit-requires right-exit-requires returns returns-2)
+left-exit-spec = tie.close (tie.spec jumps-to-requires returns returns-2)

@@ -3,55 +3,54 @@
 use Prim.Native.Nat.{_+_}
 use native.Mathlib.Omega.{arith}
 use lib.ListN.{getD}
-use Rattle.tables.specs.Filling.{Tables-room, tables}
-use Rattle.tables.specs.Walking.{room-kept}
-use Rattle.tables.specs.Making.{Storable, piece-few, piece-ready, piece-made, piece-storable}
+use Rattle.tables.specs.Filling.{Same-lengths, tables}
+use Rattle.tables.specs.Making.{Storable, root-within, piece-ready, piece-made, piece-storable}
 use borrow.Author.Needs.{needs}
 use Rattle.tables.proofs.plan.piece.Statement.{statement}
 use Rattle.tables.proofs.plan.piece.Tie as tie
 
--- where the walk has ended, where the piece's node was read before it, and where the call began
-abbrev walked : tie.After-slice-known11 → tie.After-fill
-walked c = c .before .before .before .before .before .before .before .before
-
-abbrev node-read : tie.After-fill-arg4 → tie.After-slice-known7
-node-read c = c .before .before .before .before
-
-abbrev start-of : tie.After-slice-known7 → tie.Start
-start-of c = c .before .before .before .before .before .before .before .before .before
+-- where the walk has ended, and where the call began
+abbrev walked : tie.After-slice-known9 → tie.After-fill
+walked c = c .before .before .before .before .before .before
 
 abbrev entry : tie.After-fill → tie.Start
-entry c = start-of (node-read (c .before))
+entry c = c .before .before .before .before .before .before .before .before .before .before .before .before
 
--- the tables that the walk leaves have the same room
-room : (c : tie.After-fill)
-    → Tables-room (tables (c .fill .last .1 .1 .1 .1 .0) (c .fill .last .1 .1 .1 .1 .1 .0) (c .fill .last .1 .1 .1 .1 .1 .1 .0)
-    (c .fill .last .1 .1 .1 .1 .1 .1 .1 .0))
-room c = room-kept _ _ _ _ (entry c .pre .0 .room) (c .fill .kept .1 .1 .1 .1 .0) (c .fill .kept .1 .1 .1 .1 .1 .0)
-    (c .fill .kept .1 .1 .1 .1 .1 .1 .0) (c .fill .kept .1 .1 .1 .1 .1 .1 .1 .0)
+-- the tables that the walk leaves are as long as they were
+same : (c : tie.After-fill) → let start = entry c .args in
+    Same-lengths (tables (start .codes .now) (start .stands .now) (start .roots .now))
+    (tables (c .fill .last .1 .1 .1 .1 .0) (c .fill .last .1 .1 .1 .1 .1 .0) (c .fill .last .1 .1 .1 .1 .1 .1 .0))
+same c = record {
+  of-codes = c .fill .kept .1 .1 .1 .1 .0;
+  of-stands = c .fill .kept .1 .1 .1 .1 .1 .0;
+  of-roots = c .fill .kept .1 .1 .1 .1 .1 .1 .0;
+}
 
 -- the numbers that are stored are small
 storable : (c : tie.After-fill) → let start = entry c .args in let node = getD (start .roots .now) (start .k) 0 in
-    Storable (start .k) (c .fill .result) node (getD (start .cuts .now) (node + 1) 0)
-storable c = piece-storable (entry c .pre .0) (entry c .pre .1) (c .fill .ensures)
+    Storable (start .k) (c .fill .result) node (getD (start .cuts .now) (node + 1) 0) (c .fill .last .1 .1 .1 .1 .0)
+    (start .runs .now) (start .tops .now) (start .cuts .now)
+storable c = piece-storable (entry c .pre .0) (entry c .pre .1) (c .fill .ensures) (same c)
 
 mul-node : tie.Need-mul-node
-mul-node c = let start = c .before .before .before .before .before .before .before .before in
-    omega (arith, piece-few (start .pre .0) (start .pre .1))
+mul-node c = let start = c .before .before .before .before .before .before .before in
+    omega (arith, root-within (start .pre .0) (start .pre .1))
 
 slice-read-node : tie.Need-slice-read-node
-slice-read-node c = let start = c .before .before .before .before .before .before .before .before .before in
-    omega (arith, piece-few (start .pre .0) (start .pre .1), start .pre .0 .room .of-roots)
+slice-read-node c = let start = c .before .before .before .before .before .before .before .before in
+    omega (arith, root-within (start .pre .0) (start .pre .1))
 
 cast-node : tie.Need-cast-node
 cast-node c =
     omega (
       arith,
-      c .slice-known7 .given (c .before .before .before .before .before .before .before .before .before .args .k),
+      c .slice-known6 .given (c .before .before .before .before .before .before .before .before .args .k),
     )
 
 fill-requires : tie.Need-fill-requires
-fill-requires c κs = let start = start-of (node-read c) in piece-ready (start .pre .0) (start .pre .1)
+fill-requires c κs = let start =
+    c .before .before .before .before .before .before .before .before .before .before .before in
+    piece-ready (start .pre .0) (start .pre .1)
 
 add-below : tie.Need-add-below
 add-below c = let small = storable (walked c) in omega arith
@@ -60,23 +59,22 @@ mul-below : tie.Need-mul-below
 mul-below c = let small = storable (walked c) in omega arith
 
 shared-slice-read-below : tie.Need-shared-slice-read-below
-shared-slice-read-below c = let small = storable (walked (c .before)) in omega
-    (arith, entry (walked (c .before)) .pre .0 .cuts-room)
+shared-slice-read-below c = let small = storable (walked (c .before)) in omega arith
 
-mul-nexts : tie.Need-mul-nexts
-mul-nexts c = let small = storable (walked (c .before)) in omega arith
+mul-codes : tie.Need-mul-codes
+mul-codes c = let small = storable (walked (c .before)) in omega arith
 
-add-nexts : tie.Need-add-nexts
-add-nexts c = let small = storable (walked (c .before)) in omega arith
+add-codes : tie.Need-add-codes
+add-codes c = let small = storable (walked (c .before)) in omega arith
 
-sub-nexts : tie.Need-sub-nexts
-sub-nexts c = let small = storable (walked (c .before)) in omega arith
+sub-codes : tie.Need-sub-codes
+sub-codes c = let small = storable (walked (c .before)) in omega arith
 
-mul-nexts-2 : tie.Need-mul-nexts-2
-mul-nexts-2 c = let small = storable (walked (c .before)) in omega arith
+mul-codes-2 : tie.Need-mul-codes-2
+mul-codes-2 c = let small = storable (walked (c .before)) in omega arith
 
-slice-write-nexts : tie.Need-slice-write-nexts
-slice-write-nexts c = let small = storable (walked (c .before)) in omega (arith, room (walked (c .before)) .of-nexts)
+slice-write-codes : tie.Need-slice-write-codes
+slice-write-codes c = let small = storable (walked (c .before)) in omega arith
 
 add-runs : tie.Need-add-runs
 add-runs c = let small = storable (walked (c .before)) in omega arith
@@ -85,8 +83,7 @@ cast-runs : tie.Need-cast-runs
 cast-runs c = let small = storable (walked (c .before)) in omega arith
 
 slice-write-runs : tie.Need-slice-write-runs
-slice-write-runs c = let small = storable (walked (c .before)) in omega
-    (arith, entry (walked (c .before)) .pre .0 .runs-room)
+slice-write-runs c = let small = storable (walked (c .before)) in omega arith
 
 sub-tops : tie.Need-sub-tops
 sub-tops c = let small = storable (walked (c .before)) in omega arith
@@ -95,8 +92,7 @@ cast-tops : tie.Need-cast-tops
 cast-tops c = let small = storable (walked (c .before)) in omega arith
 
 slice-write-tops : tie.Need-slice-write-tops
-slice-write-tops c = let small = storable (walked (c .before)) in omega
-    (arith, entry (walked (c .before)) .pre .0 .tops-room)
+slice-write-tops c = let small = storable (walked (c .before)) in omega arith
 
 same-length : tie.Need-same-length
 same-length c = search needs
@@ -113,12 +109,9 @@ same-length-4 c = search needs
 same-length-5 : tie.Need-same-length-5
 same-length-5 c = search needs
 
-same-length-6 : tie.Need-same-length-6
-same-length-6 c = search needs
-
 returns : tie.Need-returns
 returns c = let made = walked (c .before) in
-    piece-made (entry made .pre .0) (entry made .pre .1) (made .fill .ensures) (room made)
+    piece-made (entry made .pre .0) (entry made .pre .1) (made .fill .ensures) (same made)
 
 pub piece-spec : {M : Type 1} → statement M
 piece-spec =
@@ -131,11 +124,11 @@ piece-spec =
     add-below
     mul-below
     shared-slice-read-below
-    mul-nexts
-    add-nexts
-    sub-nexts
-    mul-nexts-2
-    slice-write-nexts
+    mul-codes
+    add-codes
+    sub-codes
+    mul-codes-2
+    slice-write-codes
     add-runs
     cast-runs
     slice-write-runs
@@ -147,5 +140,4 @@ piece-spec =
     same-length-3
     same-length-4
     same-length-5
-    same-length-6
     returns)

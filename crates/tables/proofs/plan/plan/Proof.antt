@@ -7,15 +7,11 @@ use Rattle.tables.proofs.plan.plan.Statement.{statement}
 use Rattle.tables.proofs.plan.plan.Tie as tie
 
 -- where the call began, from the first statement and from the call
-abbrev entry : tie.After-slice-known5 → tie.Start
-entry c = c .before .before .before .before .before .before .before
+abbrev entry : tie.After-slice-known4 → tie.Start
+entry c = c .before .before .before .before .before .before
 
 abbrev entry-at-call : tie.After-roots → tie.Start
-entry-at-call c = entry (c .before .before .before .before .before .before)
-
--- where the first two tables came back from it
-abbrev codes-back : tie.After-roots2 → tie.After-slice-known7
-codes-back c = c .before .before .before .before .before .before .before
+entry-at-call c = entry (c .before .before .before .before .before)
 
 sub-last : tie.Need-sub-last
 sub-last c = omega (arith, has-records (entry c .pre .0))
@@ -45,12 +41,9 @@ same-length-3 c = search needs
 same-length-4 : tie.Need-same-length-4
 same-length-4 c = search needs
 
-same-length-5 : tie.Need-same-length-5
-same-length-5 c = search needs
-
 returns : tie.Need-returns
 returns c =
-    let made = codes-back c .before .before .before .before in
+    let made = c .before .before .before .before .before .before .before .before .before in
     laid (made .pieces .ensures) (total-of (entry-at-call (made .before) .pre .0))
 
 pub plan-spec : {M : Type 1} → statement M
@@ -66,5 +59,4 @@ plan-spec =
     same-length-2
     same-length-3
     same-length-4
-    same-length-5
     returns)

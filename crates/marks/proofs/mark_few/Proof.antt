@@ -1,0 +1,59 @@
+-- `marks::mark_few` meets its contract: it is `mark_in`'s, and small tables have room for few pieces.
+use native.Mathlib.Omega.{arith}
+use borrow.Author.Needs.{needs}
+use Rattle.marks.proofs.mark_few.Statement.{statement}
+use Rattle.marks.proofs.mark_few.Tie as tie
+
+slice-aggregate-mark-in : tie.Need-slice-aggregate-mark-in
+slice-aggregate-mark-in c = search needs
+
+slice-aggregate-mark-in-2 : tie.Need-slice-aggregate-mark-in-2
+slice-aggregate-mark-in-2 c = search needs
+
+slice-aggregate-mark-in-3 : tie.Need-slice-aggregate-mark-in-3
+slice-aggregate-mark-in-3 c = search needs
+
+slice-aggregate-mark-in-4 : tie.Need-slice-aggregate-mark-in-4
+slice-aggregate-mark-in-4 c = search needs
+
+slice-aggregate-mark-in-5 : tie.Need-slice-aggregate-mark-in-5
+slice-aggregate-mark-in-5 c = search needs
+
+mark-in-requires : tie.Need-mark-in-requires
+mark-in-requires c κs =
+    let made = c .before .before .before .before .before .before in
+    let s = made .before .before .before .before in
+    let known = s .pre .0 in (
+      known,
+      (
+        s .pre .1 .0,
+        record {
+          reach-room = omega (arith, s .pre .1 .1);
+          codes-room = omega (arith, s .pre .1 .1);
+          runs-room = omega (arith, s .pre .1 .1);
+          stands-room = omega (arith, s .pre .1 .1);
+          tops-room = omega (arith, s .pre .1 .1);
+        },
+      ),
+    )
+
+same-length : tie.Need-same-length
+same-length c = search needs
+
+returns : tie.Need-returns
+returns c =
+    let back = c .before .before in
+    back .before .before .before .before .before .mark-in .ensures
+
+pub mark-few-spec : {M : Type 1} → statement M
+mark-few-spec =
+    tie.close
+    (tie.spec
+    slice-aggregate-mark-in
+    slice-aggregate-mark-in-2
+    slice-aggregate-mark-in-3
+    slice-aggregate-mark-in-4
+    slice-aggregate-mark-in-5
+    mark-in-requires
+    same-length
+    returns)
