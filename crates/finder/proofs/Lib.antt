@@ -1,2 +1,2 @@
--- What the answer of a search over the tables tells, by its cases.
+-- What the answer of a search tells, by its cases.
 mod Told

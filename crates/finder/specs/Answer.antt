@@ -40,6 +40,14 @@ match-numbers Match-not-good = refusing list-not-good
 match-numbers Match-too-few-classes = refusing class-buffer-too-short
 match-numbers Match-too-long = refusing text-too-long
 
+-- a match is a search of the whole text alone: yes where it is found
+abbrev pub as-match : Searched → Matched
+as-match (Found start end) = Yes
+as-match Nothing = No
+as-match Search-not-good = Match-not-good
+as-match Search-too-few-classes = Match-too-few-classes
+as-match Search-too-long = Match-too-long
+
 -- the numbers of each answer of a search
 abbrev pub search-numbers : Searched → Numbers
 search-numbers (Found start end) = finding start end

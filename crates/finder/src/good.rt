@@ -1,11 +1,16 @@
-// Match and search over a list that is known to be good: its tables are made once, on the stack, for either.
+// Match and search over a list that is known to be good: its tables are made once, on the stack, for either, in one of
+// two sizes.
 use crate::part::Span;
 use crate::part::first_part;
 use crate::text::text_matches;
 use marks::inner::prepare;
+use tables::FEW_CODES;
+use tables::FEW_MASKS;
+use tables::FEW_PIECES;
+use tables::MASK_TABLE_SIZE;
 use tables::TABLE_SIZE;
 use tree::limits::MOST_PIECES;
-ghost use Prim.Native.Nat.{ℕ};
+ghost use Prim.Native.Nat.{_≤_};
 ghost use mathlib.Core.Path.{_≡_};
 ghost use mathlib.Core.Bool.{true, false};
 ghost use mathlib.Core.Logic.{_↔_};
@@ -13,11 +18,84 @@ ghost use Rattle.language.specs.Tree.{Tree};
 ghost use Rattle.tree.specs.Leaf.{Leaf, Matches};
 ghost use Rattle.tree.specs.Records.{Good};
 ghost use Rattle.tables.specs.Given.{Decided-good};
+ghost use Rattle.tables.specs.Tables.{few-pieces, Roomy};
 ghost use Rattle.finder.specs.Found.{Answers};
 ghost use Rattle.finder.specs.Parts.{answer-of, is-part};
 
 // The part in the language that starts earliest and then ends furthest; of the whole text alone where `whole` says so.
-pub fn find_good(
+// The tables are made in those that are lent.
+fn find_in(
+    list: &[u8],
+    classes: &[u8],
+    cuts: &[u16],
+    count: usize,
+    reach: &mut [u64],
+    codes: &mut [u16],
+    runs: &mut [u8],
+    stands: &mut [u8],
+    tops: &mut [u8],
+    text: &[u8],
+    whole: bool,
+) -> Span
+    requires { ⌜ Decided-good (now list) (now cuts) count ⌝ }
+    requires { ⌜ Roomy count (now reach) (now codes) (now runs) (now stands) (now tops) ⌝ }
+    ensures { λ r. ⌜ (whole ≡ true → (t : Tree Leaf) → Good (now (list .entry)) t
+        → (is-part r ≡ true) ↔ Matches (now (classes .entry)) t (now (text .entry))) ⌝ }
+    ensures { λ r. ⌜ (whole ≡ false → (t : Tree Leaf) → Good (now (list .entry)) t
+        → Answers (Matches (now (classes .entry)) t) (now (text .entry)) (answer-of r)) ⌝ }
+{
+    prepare(list, cuts, count, reach, codes, runs, stands, tops);
+    if !whole {
+        return first_part(reach, codes, runs, stands, tops, count, classes, text);
+    }
+    if text_matches(reach, codes, runs, stands, tops, count, classes, text) {
+        Span::At {
+            start: 0,
+            end: text.len(),
+        }
+    } else {
+        Span::Nothing
+    }
+}
+
+// Of a list of few pieces, in small tables.
+fn find_few(
+    list: &[u8],
+    classes: &[u8],
+    cuts: &[u16],
+    count: usize,
+    text: &[u8],
+    whole: bool,
+) -> Span
+    requires { ⌜ Decided-good (now list) (now cuts) count ⌝ }
+    requires { ⌜ count ≤ few-pieces ⌝ }
+    ensures { λ r. ⌜ (whole ≡ true → (t : Tree Leaf) → Good (now (list .entry)) t
+        → (is-part r ≡ true) ↔ Matches (now (classes .entry)) t (now (text .entry))) ⌝ }
+    ensures { λ r. ⌜ (whole ≡ false → (t : Tree Leaf) → Good (now (list .entry)) t
+        → Answers (Matches (now (classes .entry)) t) (now (text .entry)) (answer-of r)) ⌝ }
+{
+    let mut reach = [0u64; FEW_MASKS];
+    let mut codes = [0u16; FEW_CODES];
+    let mut runs = [0u8; FEW_PIECES];
+    let mut stands = [0u8; FEW_PIECES];
+    let mut tops = [0u8; FEW_PIECES];
+    find_in(
+        list,
+        classes,
+        cuts,
+        count,
+        &mut reach,
+        &mut codes,
+        &mut runs,
+        &mut stands,
+        &mut tops,
+        text,
+        whole,
+    )
+}
+
+// Of one of as many pieces as there can be.
+fn find_many(
     list: &[u8],
     classes: &[u8],
     cuts: &[u16],
@@ -31,13 +109,14 @@ pub fn find_good(
     ensures { λ r. ⌜ (whole ≡ false → (t : Tree Leaf) → Good (now (list .entry)) t
         → Answers (Matches (now (classes .entry)) t) (now (text .entry)) (answer-of r)) ⌝ }
 {
-    let mut reach = [0u64; TABLE_SIZE];
+    let mut reach = [0u64; MASK_TABLE_SIZE];
     let mut codes = [0u16; TABLE_SIZE];
     let mut runs = [0u8; MOST_PIECES];
     let mut stands = [0u8; MOST_PIECES];
     let mut tops = [0u8; MOST_PIECES];
-    prepare(
+    find_in(
         list,
+        classes,
         cuts,
         count,
         &mut reach,
@@ -45,16 +124,33 @@ pub fn find_good(
         &mut runs,
         &mut stands,
         &mut tops,
-    );
-    if !whole {
-        return first_part(&reach, &codes, &runs, &stands, &tops, count, classes, text);
+        text,
+        whole,
+    )
+}
+
+// In the smallest tables that have room. It calls itself with more room, so that each size has a stack frame of its own.
+pub fn find_good(
+    list: &[u8],
+    classes: &[u8],
+    cuts: &[u16],
+    count: usize,
+    room: usize,
+    text: &[u8],
+    whole: bool,
+) -> Span
+    requires { ⌜ Decided-good (now list) (now cuts) count ⌝ }
+    requires { ⌜ 1 ≤ room ⌝ }
+    ensures { λ r. ⌜ (whole ≡ true → (t : Tree Leaf) → Good (now (list .entry)) t
+        → (is-part r ≡ true) ↔ Matches (now (classes .entry)) t (now (text .entry))) ⌝ }
+    ensures { λ r. ⌜ (whole ≡ false → (t : Tree Leaf) → Good (now (list .entry)) t
+        → Answers (Matches (now (classes .entry)) t) (now (text .entry)) (answer-of r)) ⌝ }
+{
+    if room < count {
+        return find_good(list, classes, cuts, count, 4 * room, text, whole);
     }
-    if text_matches(&reach, &codes, &runs, &stands, &tops, count, classes, text) {
-        Span::At {
-            start: 0,
-            end: text.len(),
-        }
-    } else {
-        Span::Nothing
+    if room <= FEW_PIECES {
+        return find_few(list, classes, cuts, count, text, whole);
     }
+    find_many(list, classes, cuts, count, text, whole)
 }

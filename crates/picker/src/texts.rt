@@ -6,6 +6,7 @@ use crate::report::text_line;
 use crate::report::total_line;
 use finder::text_matches;
 use marks::inner::prepare;
+use tables::MASK_TABLE_SIZE;
 use tables::TABLE_SIZE;
 use tree::good::Decided;
 use tree::good::decide_with;
@@ -87,7 +88,7 @@ fn good_texts(
         → Prints (now (out .entry)) 0 (text-lines (matches []) t 0 0 (lines (drop start (now (input .entry)))))
         (now (out .exit)) r) ⌝ }
 {
-    let mut reach = [0u64; TABLE_SIZE];
+    let mut reach = [0u64; MASK_TABLE_SIZE];
     let mut codes = [0u16; TABLE_SIZE];
     let mut runs = [0u8; MOST_PIECES];
     let mut stands = [0u8; MOST_PIECES];

@@ -1,77 +1,34 @@
--- `finder::is_match` meets its contract: each answer is that of the list's tree.
-use mathlib.Core.Path.{refl}
-use native.Mathlib.Omega.{arith}
-use Rattle.language.specs.Tree.{Tree}
-use Rattle.tree.specs.Leaf.{Leaf}
-use Rattle.tree.specs.Records.{Good}
-use Rattle.marks.specs.Promise.{Classed}
-use Rattle.finder.specs.Promise.{not-good, too-few-classes, too-long, match-refused, match-answered}
-use Rattle.marks.proofs.Told.{told-good, told-classed, told-too-few-classes, told-not-good}
-use Rattle.finder.proofs.Told.{told-part, told-nothing}
+-- `finder::is_match` meets its contract: each case of the search gives that answer of the match.
+use Prim.Native.Nat.{ℕ}
+use mathlib.Core.Path.{_≡_, refl, subst}
+use denote.Enum.Declared.{tagOf}
+use Rattle.finder.specs.declared.Matched.{Matched}
+use Rattle.finder.specs.Answer.{match-numbers}
+use Rattle.finder.specs.Promise.{Match-answers}
+use Rattle.finder.proofs.Searched.{the-type}
+use Rattle.finder.proofs.Told.{match-at, told-match}
 use borrow.Author.Needs.{needs}
 use Rattle.finder.proofs.is_match.Statement.{statement}
 use Rattle.finder.proofs.is_match.Tie as tie
 
--- where the list was decided on
-abbrev decision : tie.After-known-told → tie.After-decide-with
-decision c = c .before .before .before .before
-
 -- where the call began
-abbrev entry : tie.After-decide-with → tie.Start
-entry c = c .before .before .before .before .before
+abbrev entry : tie.After-find → tie.Start
+entry c = c .before .before .before .before
 
--- there are class records enough
-classed : (c : tie.Else1) (t : Tree Leaf) → Good (entry (decision (c .before)) .args .list .now) t
-    → Classed (entry (decision (c .before)) .args .classes .now) t
-classed c =
-    let of-list = decision (c .before) in
-    told-classed (entry of-list .args .classes .now) (c .before .before .decided .given .1)
-    (of-list .decide-with .ensures .0) (omega (arith, c .if1 .left))
+-- the answer for a case
+answered : (c : tie.After-find) (case : ℕ) → tagOf the-type (c .find .result) ≡ case
+    → let args = entry c .args in
+    Match-answers (args .list .now) (args .classes .now) (args .text .now) (match-numbers (match-at case))
+answered c case tag =
+    let args = entry c .args in
+    subst (λ (m : Matched). Match-answers (args .list .now) (args .classes .now) (args .text .now) (match-numbers m))
+    (told-match (c .find .result) case tag) (c .find .ensures .0 refl)
 
-slice-aggregate-decide-with : tie.Need-slice-aggregate-decide-with
-slice-aggregate-decide-with c = search needs
-
-decide-with-requires : tie.Need-decide-with-requires
-decide-with-requires c κs = search needs
-
-enum-known-decided : tie.Need-enum-known-decided
-enum-known-decided c = search needs
+find-requires : tie.Need-find-requires
+find-requires c κs = search needs
 
 enum-told : tie.Need-enum-told
 enum-told c = search needs
-
-returns : tie.Need-returns
-returns c =
-    match-refused
-    (not-good (told-not-good _ (c .before .match .keys2) (c .before .before .before .decide-with .ensures .0)))
-
-returns-2 : tie.Need-returns-2
-returns-2 c =
-    let of-list = decision (c .before) in
-    match-refused (too-few-classes (told-too-few-classes (entry of-list .args .classes .now)
-    (c .before .before .decided .given .1) (of-list .decide-with .ensures .0) (omega (arith, c .if1 .taken))))
-
-returns-3 : tie.Need-returns-3
-returns-3 c =
-    let told = c .before .before in
-    let of-list = decision told .decide-with in
-    let known = told-good (told .before .decided .given .1) (of-list .ensures) (of-list .kept .1 .0) in
-    match-refused
-    (too-long (record {
-      t = known .some;
-      good = known .good;
-      classed = classed (c .before) (known .some) (known .good);
-      long = omega (arith, c .if2 .taken);
-    }))
-
-slice-aggregate-find-good : tie.Need-slice-aggregate-find-good
-slice-aggregate-find-good c = search needs
-
-find-good-requires : tie.Need-find-good-requires
-find-good-requires c κs =
-    let told = c .before .before .before in
-    let of-list = decision told .decide-with in
-    told-good (told .before .decided .given .1) (of-list .ensures) (of-list .kept .1 .0)
 
 enum-told-2 : tie.Need-enum-told-2
 enum-told-2 c = search needs
@@ -79,54 +36,39 @@ enum-told-2 c = search needs
 enum-told-3 : tie.Need-enum-told-3
 enum-told-3 c = search needs
 
+enum-told-4 : tie.Need-enum-told-4
+enum-told-4 c = search needs
+
+enum-told-5 : tie.Need-enum-told-5
+enum-told-5 c = search needs
+
+returns : tie.Need-returns
+returns c = answered (c .before .before) 0 (c .before .match .keys1)
+
+returns-2 : tie.Need-returns-2
+returns-2 c = answered (c .before .before) 1 (c .before .match .keys2)
+
+returns-3 : tie.Need-returns-3
+returns-3 c = answered (c .before .before) 2 (c .before .match .keys3)
+
 returns-4 : tie.Need-returns-4
-returns-4 c =
-    let answered = c .before .before in
-    let short = answered .before .before in
-    let told = short .before .before in
-    let of-list = decision told .decide-with in
-    let known = told-good (told .before .decided .given .1) (of-list .ensures) (of-list .kept .1 .0) in
-    match-answered (record {
-      t = known .some;
-      good = known .good;
-      classed = classed (short .before) (known .some) (known .good);
-      short = omega (arith, short .if2 .left);
-      holds =
-          rw (told-part _ (c .before .match2 .keys1)) at
-          (answered .find-good .ensures .0 refl (known .some) (known .good));
-    })
+returns-4 c = answered (c .before .before) 3 (c .before .match .keys4)
 
 returns-5 : tie.Need-returns-5
-returns-5 c =
-    let answered = c .before .before in
-    let short = answered .before .before in
-    let told = short .before .before in
-    let of-list = decision told .decide-with in
-    let known = told-good (told .before .decided .given .1) (of-list .ensures) (of-list .kept .1 .0) in
-    match-answered (record {
-      t = known .some;
-      good = known .good;
-      classed = classed (short .before) (known .some) (known .good);
-      short = omega (arith, short .if2 .left);
-      holds =
-          rw (told-nothing (answered .find-good .result) (c .before .match2 .keys2)) at
-          (answered .find-good .ensures .0 refl (known .some) (known .good));
-    })
+returns-5 c = answered (c .before .before) 4 (c .before .match .keys5)
 
 pub is-match-spec : {M : Type 1} → statement M
 is-match-spec =
     tie.close
     (tie.spec
-    slice-aggregate-decide-with
-    decide-with-requires
-    enum-known-decided
+    find-requires
     enum-told
+    enum-told-2
+    enum-told-3
+    enum-told-4
+    enum-told-5
     returns
     returns-2
     returns-3
-    slice-aggregate-find-good
-    find-good-requires
-    enum-told-2
-    enum-told-3
     returns-4
     returns-5)

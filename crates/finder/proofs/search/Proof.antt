@@ -1,132 +1,14 @@
--- `finder::search` meets its contract: each answer is that of the list's tree.
+-- `finder::search` meets its contract: it is that of `find` for parts.
 use mathlib.Core.Path.{refl}
-use native.Mathlib.Omega.{arith}
-use Rattle.language.specs.Tree.{Tree}
-use Rattle.tree.specs.Leaf.{Leaf}
-use Rattle.tree.specs.Records.{Good}
-use Rattle.marks.specs.Promise.{Classed}
-use Rattle.finder.specs.Promise.{not-good, too-few-classes, too-long, search-refused, search-found, search-nothing}
-use Rattle.marks.proofs.Told.{told-good, told-classed, told-too-few-classes, told-not-good}
-use Rattle.finder.proofs.Told.{told-nothing}
 use borrow.Author.Needs.{needs}
 use Rattle.finder.proofs.search.Statement.{statement}
 use Rattle.finder.proofs.search.Tie as tie
 
--- where the list was decided on
-abbrev decision : tie.After-known-told → tie.After-decide-with
-decision c = c .before .before .before .before
-
--- where the call began
-abbrev entry : tie.After-decide-with → tie.Start
-entry c = c .before .before .before .before .before
-
--- there are class records enough
-classed : (c : tie.Else1) (t : Tree Leaf) → Good (entry (decision (c .before)) .args .list .now) t
-    → Classed (entry (decision (c .before)) .args .classes .now) t
-classed c =
-    let of-list = decision (c .before) in
-    told-classed (entry of-list .args .classes .now) (c .before .before .decided .given .1)
-    (of-list .decide-with .ensures .0) (omega (arith, c .if1 .left))
-
-slice-aggregate-decide-with : tie.Need-slice-aggregate-decide-with
-slice-aggregate-decide-with c = search needs
-
-decide-with-requires : tie.Need-decide-with-requires
-decide-with-requires c κs = search needs
-
-enum-known-decided : tie.Need-enum-known-decided
-enum-known-decided c = search needs
-
-enum-told : tie.Need-enum-told
-enum-told c = search needs
+find-requires : tie.Need-find-requires
+find-requires c κs = search needs
 
 returns : tie.Need-returns
-returns c =
-    search-refused
-    (not-good (told-not-good _ (c .before .match .keys2) (c .before .before .before .decide-with .ensures .0)))
-
-returns-2 : tie.Need-returns-2
-returns-2 c =
-    let of-list = decision (c .before) in
-    search-refused (too-few-classes (told-too-few-classes (entry of-list .args .classes .now)
-    (c .before .before .decided .given .1) (of-list .decide-with .ensures .0) (omega (arith, c .if1 .taken))))
-
-returns-3 : tie.Need-returns-3
-returns-3 c =
-    let told = c .before .before in
-    let of-list = decision told .decide-with in
-    let known = told-good (told .before .decided .given .1) (of-list .ensures) (of-list .kept .1 .0) in
-    search-refused
-    (too-long (record {
-      t = known .some;
-      good = known .good;
-      classed = classed (c .before) (known .some) (known .good);
-      long = omega (arith, c .if2 .taken);
-    }))
-
-slice-aggregate-find-good : tie.Need-slice-aggregate-find-good
-slice-aggregate-find-good c = search needs
-
-find-good-requires : tie.Need-find-good-requires
-find-good-requires c κs =
-    let told = c .before .before .before in
-    let of-list = decision told .decide-with in
-    told-good (told .before .decided .given .1) (of-list .ensures) (of-list .kept .1 .0)
-
-enum-known-part : tie.Need-enum-known-part
-enum-known-part c = search needs
-
-enum-told-2 : tie.Need-enum-told-2
-enum-told-2 c = search needs
-
-returns-4 : tie.Need-returns-4
-returns-4 c =
-    let answered = c .before .before .before in
-    let short = answered .before .before in
-    let told = short .before .before in
-    let of-list = decision told .decide-with in
-    let known = told-good (told .before .decided .given .1) (of-list .ensures) (of-list .kept .1 .0) in
-    search-found (record {
-      t = known .some;
-      good = known .good;
-      classed = classed (short .before) (known .some) (known .good);
-      short = omega (arith, short .if2 .left);
-      holds =
-          rw (c .before .part .given .1) at
-          (answered .find-good .ensures .1 refl (known .some) (known .good));
-    })
-
-returns-5 : tie.Need-returns-5
-returns-5 c =
-    let answered = c .before .before in
-    let short = answered .before .before in
-    let told = short .before .before in
-    let of-list = decision told .decide-with in
-    let known = told-good (told .before .decided .given .1) (of-list .ensures) (of-list .kept .1 .0) in
-    search-nothing (record {
-      t = known .some;
-      good = known .good;
-      classed = classed (short .before) (known .some) (known .good);
-      short = omega (arith, short .if2 .left);
-      holds =
-          rw (told-nothing (answered .find-good .result) (c .before .match2 .keys2)) at
-          (answered .find-good .ensures .1 refl (known .some) (known .good));
-    })
+returns c = c .find .ensures .1 refl
 
 pub search-spec : {M : Type 1} → statement M
-search-spec =
-    tie.close
-    (tie.spec
-    slice-aggregate-decide-with
-    decide-with-requires
-    enum-known-decided
-    enum-told
-    returns
-    returns-2
-    returns-3
-    slice-aggregate-find-good
-    find-good-requires
-    enum-known-part
-    enum-told-2
-    returns-4
-    returns-5)
+search-spec = tie.close (tie.spec find-requires returns)

@@ -1,5 +1,6 @@
 -- `picker::texts::good_texts` meets its contract: the tables are those of the list's tree, and the texts are printed by
 -- them.
+use native.Mathlib.Omega.{arith}
 use borrow.Author.Needs.{needs}
 use Rattle.picker.proofs.texts.good_texts.Statement.{statement}
 use Rattle.picker.proofs.texts.good_texts.Tie as tie
@@ -27,7 +28,18 @@ slice-aggregate-prepare-5 : tie.Need-slice-aggregate-prepare-5
 slice-aggregate-prepare-5 c = search needs
 
 prepare-requires : tie.Need-prepare-requires
-prepare-requires c κs = search needs
+prepare-requires c κs =
+    let no-tables = c .before .before .before .before .before in
+    let list = no-tables .before .before .before .before .pre .0 in (
+      list,
+      record {
+        reach-room = omega (arith, list .pieces-are, list .good .few);
+        codes-room = omega (arith, list .pieces-are, list .good .few);
+        runs-room = omega (arith, list .pieces-are, list .good .few);
+        stands-room = omega (arith, list .pieces-are, list .good .few);
+        tops-room = omega (arith, list .pieces-are, list .good .few);
+      },
+    )
 
 slice-aggregate-texts : tie.Need-slice-aggregate-texts
 slice-aggregate-texts c = search needs

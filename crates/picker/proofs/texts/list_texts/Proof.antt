@@ -1,5 +1,9 @@
 -- `picker::texts::list_texts` meets its contract: the list is good, so it is decided to be, and the texts are printed by
 -- its tables.
+use mathlib.Core.Path.{_≡_, refl}
+use native.Mathlib.Omega.{arith}
+use lib.ListN.{length}
+use Rattle.tree.specs.Limits.{slot-count}
 use Rattle.marks.proofs.Told.{told-good, told-not-good}
 use borrow.Author.Needs.{needs}
 use Rattle.picker.proofs.texts.list_texts.Statement.{statement}
@@ -27,8 +31,11 @@ slice-aggregate-good-texts c = search needs
 good-texts-requires : tie.Need-good-texts-requires
 good-texts-requires c κs =
     let known = c .before .before .before in
-    let decided = known .before .before .before in (
-      told-good (known .decided .given .1) (decided .decide-with .ensures) (decided .decide-with .kept .1 .0),
+    let decided = known .before .before .before in
+    let cuts = decided .decide-with .last .1 .0 in
+    let long : length cuts ≡ slot-count = decided .decide-with .kept .1 .0 in (
+      told-good {before = cuts} (known .decided .given .1) (decided .decide-with .ensures)
+          (record { for-slots = λ few. omega (arith, few, long) }) refl,
       decided .before .before .before .before .before .pre .1,
     )
 

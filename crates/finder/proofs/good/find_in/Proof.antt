@@ -1,0 +1,143 @@
+-- `finder::good::find_in` meets its contract: the tables that are made are those of the list's tree, for a search and
+-- for a match.
+use mathlib.Core.Path.{sym, _∙_}
+use mathlib.Core.Bool.{false≢true}
+use borrow.Author.Tests.{not-true, not-false}
+use borrow.Author.Needs.{needs}
+use Rattle.finder.proofs.good.find_in.Statement.{statement}
+use Rattle.finder.proofs.good.find_in.Tie as tie
+use Rattle.finder.proofs.good.find_in.Reads as reads
+use Rattle.finder.proofs.good.find_in.Lts as lts
+use Rattle.finder.proofs.part.first_part.Reads as first-part-reads
+use Rattle.finder.proofs.text.text_matches.Reads as text-matches-reads
+use Rattle.marks.proofs.inner.prepare.Reads as prepare-reads
+
+-- where the tables were made, where they were about to be lent, and where the call began
+abbrev tables-made : tie.After-slice-known10 → tie.After-prepare
+tables-made c = c .before .before .before .before .before .before .before .before .before .before
+
+abbrev not-lent : tie.After-prepare → tie.After-shared-slice-known4
+not-lent c = c .before .before .before .before .before .before
+
+abbrev entry : tie.After-prepare → tie.Start
+entry c = not-lent c .before .before .before .before .before .before .before .before .before
+
+-- before the parts are looked at, and before the whole text is
+abbrev searching : tie.After-first-part-arg5 → tie.Then1
+searching c = c .before .before .before .before .before
+
+abbrev matching : tie.After-text-matches-arg5 → tie.Else1
+matching c = c .before .before .before .before .before
+
+prepare-requires : tie.Need-prepare-requires
+prepare-requires c κs = search needs
+
+first-part-requires : tie.Need-first-part-requires
+first-part-requires c κs =
+    let made = tables-made (searching c .before) in
+    let known = entry made .pre .0 in
+    record {
+      roomy = made .prepare .ensures .0;
+      of-tree = (known .some, made .prepare .ensures .1 (known .some) (known .good));
+    }
+
+returns : tie.Need-returns
+returns c =
+    let made = tables-made (searching (c .before) .before) in (
+      λ whole. absurd (false≢true (sym (not-true _ (searching (c .before) .if1 .taken)) ∙ whole)),
+      λ parts t good. c .first-part .ensures t (made .prepare .ensures .1 t good),
+    )
+
+text-matches-requires : tie.Need-text-matches-requires
+text-matches-requires c κs =
+    let made = tables-made (matching c .before) in
+    let known = entry made .pre .0 in
+    record {
+      roomy = made .prepare .ensures .0;
+      of-tree = (known .some, made .prepare .ensures .1 (known .some) (known .good));
+    }
+
+returns-2 : tie.Need-returns-2
+returns-2 c =
+    let made = tables-made (matching (c .before .before) .before) in (
+      λ whole t good. rw (c .if2 .taken) at (c .before .text-matches .ensures t (made .prepare .ensures .1 t good)),
+      λ parts. absurd (false≢true (sym parts ∙ not-false _ (matching (c .before .before) .if1 .left))),
+    )
+
+returns-3 : tie.Need-returns-3
+returns-3 c =
+    let made = tables-made (matching (c .before .before) .before) in (
+      λ whole t good. rw (c .if2 .left) at (c .before .text-matches .ensures t (made .prepare .ensures .1 t good)),
+      λ parts. absurd (false≢true (sym parts ∙ not-false _ (matching (c .before .before) .if1 .left))),
+    )
+
+same-length : tie.Need-same-length
+same-length c = search needs
+
+same-length-2 : tie.Need-same-length-2
+same-length-2 c = search needs
+
+same-length-3 : tie.Need-same-length-3
+same-length-3 c = search needs
+
+same-length-4 : tie.Need-same-length-4
+same-length-4 c = search needs
+
+same-length-5 : tie.Need-same-length-5
+same-length-5 c = search needs
+
+same-length-6 : tie.Need-same-length-6
+same-length-6 c = search needs
+
+same-length-7 : tie.Need-same-length-7
+same-length-7 c = search needs
+
+same-length-8 : tie.Need-same-length-8
+same-length-8 c = search needs
+
+same-length-9 : tie.Need-same-length-9
+same-length-9 c = search needs
+
+same-length-10 : tie.Need-same-length-10
+same-length-10 c = search needs
+
+same-length-11 : tie.Need-same-length-11
+same-length-11 c = search needs
+
+same-length-12 : tie.Need-same-length-12
+same-length-12 c = search needs
+
+same-length-13 : tie.Need-same-length-13
+same-length-13 c = search needs
+
+same-length-14 : tie.Need-same-length-14
+same-length-14 c = search needs
+
+same-length-15 : tie.Need-same-length-15
+same-length-15 c = search needs
+
+pub find-in-spec : {M : Type 1} → statement M
+find-in-spec =
+    tie.close
+    (tie.spec
+    prepare-requires
+    first-part-requires
+    same-length
+    same-length-2
+    same-length-3
+    same-length-4
+    same-length-5
+    returns
+    text-matches-requires
+    same-length-6
+    same-length-7
+    same-length-8
+    same-length-9
+    same-length-10
+    returns-2
+    same-length-11
+    same-length-12
+    same-length-13
+    same-length-14
+    same-length-15
+    returns-3)
