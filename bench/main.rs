@@ -1,6 +1,7 @@
-//! Measures match and search, in nanoseconds for each byte, beside other matchers and on growing sizes, and the stack that
-//! each call needs.
+//! Measures match and search, in nanoseconds for each byte, beside other matchers and on growing sizes, what each call costs
+//! by itself, and the stack that it needs.
 
+mod calls;
 mod engines;
 #[path = "../tests/compare/expected.rs"]
 #[allow(dead_code)]
@@ -172,6 +173,7 @@ fn main() {
     for load in workloads::all() {
         compare(&load);
     }
+    calls::print();
     sizes::print();
     stack::print();
 }

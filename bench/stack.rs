@@ -1,4 +1,4 @@
-//! The stack that each call of the library needs: the most over expressions that are large or deep.
+//! The stack that each call of the library needs: the most over expressions that are large or deep, and over short lists.
 
 use crate::foamlattice::{self, MOST_CLASS_BYTES, MOST_OUTPUT, MOST_RECORD_BYTES, MOST_WORDS};
 use crate::generate::{self, Random};
@@ -48,13 +48,46 @@ fn lists() -> Vec<(Vec<u8>, Vec<u8>)> {
     [read, vec![chain]].concat()
 }
 
+/// How many records a short list has at most.
+const SHORT: usize = 120;
+
+/// Short lists: a line of characters, branches, stars, classes and nested groups; and a list of pieces below one another.
+fn short_lists() -> Vec<(Vec<u8>, Vec<u8>)> {
+    let nested = ["(".repeat(30), "[^a-z]".into(), "b)*".repeat(30)].concat().into_bytes();
+    let branches = [&b"a|".repeat(59)[..], b"b"].concat();
+    let written = [b"ab".to_vec(), vec![b'a'; 60], branches, b"(a|b)*c".repeat(13), b"[a-c]x*".repeat(20), nested];
+    let list = |e: &Vec<u8>| written::read(e).ok().map(|read| read.laid_out());
+    let read = written.iter().filter_map(list).map(|l| (expected::records(&l.tree), l.class_records()));
+    let chain = (expected::records(&generate::chain(SHORT - 1)), vec![]);
+    read.chain([chain]).filter(|(list, _)| list.len() <= 8 * SHORT).collect()
+}
+
 fn ignore<T>(_: T) {}
+
+const TEXT: &[u8] = b"02-29 and a longer text aaaaaaaaaaaaaaaa";
+
+/// The most that each call over a list needs.
+fn of_lists(lists: &[(Vec<u8>, Vec<u8>)]) -> [(&'static str, usize); 4] {
+    let mut words = vec![0; MOST_WORDS];
+    let most = |call: &mut dyn FnMut(&[u8], &[u8])| lists.iter().map(|(l, c)| used(|| call(l, c))).max().unwrap_or(0);
+    [
+        ("match", most(&mut |list, classes| ignore(foamlattice::is_match(list, classes, TEXT)))),
+        ("search", most(&mut |list, classes| ignore(foamlattice::find(list, classes, TEXT)))),
+        ("start", most(&mut |list, classes| ignore(foamlattice::start(list, classes, &mut words)))),
+        ("step", most(&mut |list, classes| ignore(foamlattice::step(list, classes, &mut words, b'a')))),
+    ]
+}
+
+fn print_rows(name: &str, rows: &[(&str, usize)]) {
+    println!("\nbytes of stack that a call needs at most, over {name}");
+    for (name, bytes) in rows {
+        println!("  {name:<16}{bytes:>12}");
+    }
+}
 
 pub fn print() {
     let mut buffer = vec![0; MOST_RECORD_BYTES];
     let mut class_buffer = vec![0; MOST_CLASS_BYTES];
-    let mut words = vec![0; MOST_WORDS];
-    let text = b"02-29 and a longer text aaaaaaaaaaaaaaaa";
     let reads = expressions().iter().map(|e| used(|| ignore(foamlattice::read(e, &mut buffer)))).max();
     let mut second = |e: &[u8]| used(|| ignore(foamlattice::read_second(e, &mut buffer, &mut class_buffer)));
     let second_reads = expressions_with_classes().iter().map(|e| second(e)).max();
@@ -62,25 +95,12 @@ pub fn print() {
     let second_checks = expressions_with_classes().iter().map(|e| used(|| ignore(foamlattice::check_second(e)))).max();
     let mut output = vec![0; MOST_OUTPUT];
     let mut pick = |e: &[u8]| {
-        let input = [e, b"\n", text].concat();
+        let input = [e, b"\n", TEXT].concat();
         used(|| ignore(foamlattice::pick(&input, &mut output)))
     };
     let picks = expressions().iter().map(|e| pick(e)).max();
-    let lists = lists();
-    let of_lists = |call: &mut dyn FnMut(&[u8], &[u8])| lists.iter().map(|(list, classes)| used(|| call(list, classes))).max();
-    let rows = [
-        ("read", reads),
-        ("read2", second_reads),
-        ("check", checks),
-        ("check2", second_checks),
-        ("match", of_lists(&mut |list, classes| ignore(foamlattice::is_match(list, classes, text)))),
-        ("search", of_lists(&mut |list, classes| ignore(foamlattice::find(list, classes, text)))),
-        ("start", of_lists(&mut |list, classes| ignore(foamlattice::start(list, classes, &mut words)))),
-        ("step", of_lists(&mut |list, classes| ignore(foamlattice::step(list, classes, &mut words, b'a')))),
-        ("pick", picks),
-    ];
-    println!("\nbytes of stack that a call needs at most, over large and deep lists");
-    for (name, bytes) in rows {
-        println!("  {name:<16}{:>12}", bytes.unwrap_or(0));
-    }
+    let reading = [("read", reads), ("read2", second_reads), ("check", checks), ("check2", second_checks), ("pick", picks)]
+        .map(|(name, most)| (name, most.unwrap_or(0)));
+    print_rows("large and deep lists", &[&reading[..], &of_lists(&lists())[..]].concat());
+    print_rows("lists of up to 120 records", &of_lists(&short_lists()));
 }
