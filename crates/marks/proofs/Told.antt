@@ -71,7 +71,7 @@ refusals = list-not-good ∷ class-buffer-too-short ∷ too-few-words ∷ words-
 -- a case past the first is a refusal
 pub told-refusal : (answer : MarksAnswer) (place : ℕ) → tagOf answer-type answer ≡ suc place
     → numbers answer ≡ refusing (getD refusals place 0)
-told-refusal (Marked accepting) place tag = absurd (omega arith)
+told-refusal (Marked accepting nothing) place tag = absurd (omega arith)
 told-refusal NotGood place tag = let at : 0 ≡ place = omega arith in rw (sym at)
 told-refusal TooFewClasses place tag = let at : 1 ≡ place = omega arith in rw (sym at)
 told-refusal TooFewWords place tag = let at : 2 ≡ place = omega arith in rw (sym at)

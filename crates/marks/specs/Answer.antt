@@ -10,20 +10,21 @@ use Rattle.marks.specs.declared.MarksAnswer.the-variants.{
   TooFewWords,
   NotMarks,
 }
--- the refusal's number, 0 for none, and its place; whether the root's accepting state is now marked
+-- the refusal's number, 0 for none, and its place; whether the root's accepting state is now marked, and whether nothing
+-- is left
 pub use Rattle.marks.specs.declared.numbers.Numbers.{Numbers}
 
--- a refusal gives back its number, place 0, and that the accepting state is not marked
+-- a refusal gives back its number, place 0, and neither flag
 abbrev pub refusing : (number : ℕ) → Numbers
-refusing number = record { refusal = number; place = 0; accepting = false }
+refusing number = record { refusal = number; place = 0; accepting = false; nothing = false }
 
--- where nothing is refused, the marks say whether the accepting state is among them
-abbrev pub marking : (accepting : Bool) → Numbers
-marking accepting = record { refusal = 0; place = 0; accepting = accepting }
+-- where nothing is refused, the marks say whether the accepting state is among them, and whether there are none
+abbrev pub marking : (accepting nothing : Bool) → Numbers
+marking accepting nothing = record { refusal = 0; place = 0; accepting = accepting; nothing = nothing }
 
 -- the numbers that each case of an answer gives back
 abbrev pub numbers : MarksAnswer → Numbers
-numbers (Marked accepting) = marking accepting
+numbers (Marked accepting nothing) = marking accepting nothing
 numbers NotGood = refusing list-not-good
 numbers TooFewClasses = refusing class-buffer-too-short
 numbers TooFewWords = refusing too-few-words

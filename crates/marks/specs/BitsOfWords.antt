@@ -4,6 +4,7 @@ pub mod LowestBit
 pub mod Parts
 pub mod Numbers
 pub mod Spots
+pub mod Zero
 pub mod AllZero
 pub mod Alike
 pub mod Low

@@ -10,6 +10,7 @@ use Rattle.tree.specs.Leaf.{Leaf, Matches}
 use Rattle.tree.specs.Records.{piece-count}
 use Rattle.tables.specs.Tables.{Holding}
 use Rattle.marks.specs.Answer.{Numbers, marking}
+use Rattle.marks.specs.BitsOfWords.Zero.{All-zero}
 use Rattle.marks.specs.Promise.{Starts, Steps}
 
 -- from the words `before`, over the bytes of w: the last call gave back n and left the words `after`
@@ -18,11 +19,12 @@ pub data Chain (list classes before : List ℕ) : (w after : List ℕ) → Numbe
   further : {w after later : List ℕ} {n m : Numbers} {byte : ℕ} → Chain list classes before w after n
       → Steps list classes byte after later m → Chain list classes before (w ++ (byte ∷ [])) later m
 
--- the last call of a chain over w was not refused: it says whether w is in the language, the words hold the marks after
--- w, and those past the pieces are as before
+-- the last call of a chain over w was not refused: it says whether w is in the language and whether nothing is left,
+-- the words hold the marks after w, and those past the pieces are as before
 pub record Follows (classes : List ℕ) (t : Tree Leaf) (w before after : List ℕ) (n : Numbers) : Type 0 where
-  pub marks : n ≡ marking (n .accepting)
+  pub marks : n ≡ marking (n .accepting) (n .nothing)
   pub answer : (n .accepting ≡ true) ↔ Matches classes t w
+  pub left : (n .nothing ≡ true) ↔ All-zero (piece-count t) after
   pub holding : Holding classes t w after
   pub others : drop (piece-count t) after ≡ drop (piece-count t) before
   pub same-length : length after ≡ length before

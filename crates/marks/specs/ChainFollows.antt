@@ -15,6 +15,7 @@ use Rattle.tree.specs.Readback.{good-unique}
 use Rattle.tree.specs.Pieces.{cut-up}
 use Rattle.tables.specs.Words.{Set-of}
 use Rattle.marks.specs.Answer.{Numbers}
+use Rattle.marks.specs.BitsOfWords.Zero.{All-zero}
 use Rattle.marks.specs.Promise.{
   Hold,
   Made,
@@ -33,16 +34,18 @@ use Rattle.marks.specs.Promise.{
   step-not-marks,
   stepped,
 }
-use Rattle.marks.specs.Inner.{Begun, Advanced, holding-marks, answered-first, answered-next}
+use Rattle.marks.specs.Inner.{Begun, Advanced, some-started, holding-marks, answered-first, answered-next}
 use Rattle.marks.specs.Chain.{Chain, begun, further, Follows}
 
 module _ {list : List ℕ} {t : Tree Leaf} (good : Good list t) where
   -- marks that are made are those of the list's tree
   made-hold : {classes : List ℕ} {X : Tree Leaf → States} {words after : List ℕ} {n : Numbers} (made : Made list classes X words after n)
       → Hold t (X t) words after × ((n .accepting ≡ true) ↔ X t accepting)
+      × ((n .nothing ≡ true) ↔ All-zero (piece-count t) after)
   made-hold {classes} {X} {words} {after} {n} made =
-      subst (λ (s : Tree Leaf). Hold s (X s) words after × ((n .accepting ≡ true) ↔ X s accepting))
-      (good-unique list (made .t) t (made .good) good) (made .hold, made .answer)
+      subst (λ (s : Tree Leaf). Hold s (X s) words after × ((n .accepting ≡ true) ↔ X s accepting)
+      × ((n .nothing ≡ true) ↔ All-zero (piece-count s) after))
+      (good-unique list (made .t) t (made .good) good) (made .hold, made .answer, made .left)
 
   -- class records enough are never too few
   not-few-classes : (classes : List ℕ) → Classed classes t → Too-few-classes list classes → ⊥
@@ -67,12 +70,14 @@ module _ {list : List ℕ} {t : Tree Leaf} (good : Good list t) where
   start-follows : {classes before after : List ℕ} {n : Numbers} → Made list classes (λ s. Started (meaning classes) s) before after n
       → Follows classes t [] before after n
   start-follows {classes} {before} {after} {n} made =
-      let (hold, answer) = made-hold made in
-      let begins : Begun classes t before after (n .accepting) = record { hold = hold; answer = answer } in
+      let (hold, answer, left) = made-hold made in
+      let begins : Begun classes t before after (n .accepting) =
+      record { hold = hold; answer = answer; some = some-started classes t after (hold .marks) } in
       let first = answered-first begins in
       record {
         marks = made .marks;
         answer = first .answer;
+        left = left;
         holding = first .holding;
         others = hold .others;
         same-length = hold .same-length;
@@ -83,12 +88,14 @@ module _ {list : List ℕ} {t : Tree Leaf} (good : Good list t) where
       → Made list classes (λ s. Stepped (meaning classes) s byte (Set-of (cut-up s) after)) after later m
       → Follows classes t (w ++ (byte ∷ [])) before later m
   step-follows {classes} {after = after} {later = later} {m = m} {byte = byte} follows made =
-      let (hold, answer) = made-hold made in
-      let went : Advanced classes t byte after later (m .accepting) = record { hold = hold; answer = answer } in
+      let (hold, answer, left) = made-hold made in
+      let went : Advanced classes t byte after later (m .accepting) (m .nothing) =
+      record { hold = hold; answer = answer; left = left } in
       let next = answered-next (follows .holding) went in
       record {
         marks = made .marks;
         answer = next .answer;
+        left = left;
         holding = next .holding;
         others = hold .others ∙ follows .others;
         same-length = hold .same-length ∙ follows .same-length;

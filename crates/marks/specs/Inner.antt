@@ -2,29 +2,35 @@
 use Prim.Native.Nat.{ℕ, zero, suc, _+_, _-_, _≤_, _<_}
 use native.Mathlib.Omega.{arith}
 use mathlib.Core.Path.{_≡_, refl, sym, ap, _∙_, subst}
-use mathlib.Core.Bool.{Bool, true, false}
+use mathlib.Core.Bool.{Bool, true, false, false≢true}
 use mathlib.Core.Logic.{_↔_, ⊎-elim, Iff·trans, Iff·symm}
 use mathlib.Core.List.{List, [], _∷_, _++_}
 use native.Mathlib.Numerals.{add-one}
 use lib.ListN.{length, getD, take, drop, set, replicate, length-append, length-drop, length-set}
 use lib.Seq.{getD-take, getD-drop, ext-getD, length-take-le, take-at, drop-at, drop-cons, set-at, append-snoc, take-suc}
 use Rattle.language.specs.Tree.{Tree}
-use Rattle.language.specs.Automaton.{State, States, accepting, start, Started, Stepped, After}
-use Rattle.language.specs.Nested.{Nested, leaf, catenation, union, star, below, whole, origin, Models}
+use Rattle.language.specs.Automaton.{State, States, accepting, start, Started, Stepped, After, here}
+use Rattle.language.specs.Nested.{Nested, leaf, catenation, union, star, below, whole, origin, Models, Has, Sweep}
 use Rattle.language.specs.Same.{Agree, models-same}
 use Rattle.language.specs.Simulation.{_⊆_, stepped-more}
 use Rattle.language.specs.Acceptance.{accepts-exactly}
 use Rattle.language.specs.Models.{State-of, alike-models, models-alike, models-origins}
 use Rattle.language.specs.Along.{reached-state}
 use Rattle.tree.specs.Limits.{most-pieces, most-states}
-use Rattle.tree.specs.Leaf.{Leaf, meaning}
-use Rattle.tree.specs.Records.{Good}
+use Rattle.tree.specs.Leaf.{Leaf, meaning, byteless}
+use Rattle.tree.specs.Records.{Good, piece-count}
 use Rattle.tree.specs.Nesting.{every-below}
 use Rattle.tree.specs.Pieces.{cut-up, stated}
 use Rattle.tables.specs.Words.{word-bits, Bit, width, run, Holds, Clean, Agreeing, Set-of}
 use Rattle.tables.specs.Plan.{Pieces, Planned}
-use Rattle.marks.specs.BitsOfWords.Bits.{Tells}
+use Rattle.marks.specs.BitsOfWords.Bits.{Tells, bit-zero, told-no}
 use Rattle.tables.specs.Tables.{Prepared, Roomy, Ready, Holding, Answered}
+use Rattle.language.specs.Unmoved.{sweep-none}
+use Rattle.marks.specs.BitsOfWords.Zero.{All-zero}
+use Rattle.marks.specs.BitsOfWords.AllZero.{zero-holds}
+use Rattle.marks.specs.BitsOfWords.Alike.{zero-alike}
+use Rattle.marks.specs.Moving.Spans.{Spans}
+use Rattle.marks.specs.Sweep.Within.{sweep-extends}
 use Rattle.marks.specs.Promise.{Hold, Marks-of}
 use Rattle.marks.specs.ClosingPieces.EachPieceClosed.{Each-closed-below}
 use Rattle.marks.specs.Sweep.Swept.{Nearly-closed, Quiet, Narrow-below, In-tables}
@@ -90,15 +96,25 @@ all-narrow t = every-below small-narrow (cut-up t) (stated t .every-small .1)
 pub narrow : (t : Tree Leaf) → width (cut-up t) ≤ most-states
 narrow t = small-narrow (cut-up t) (stated t .every-small .0)
 
--- the marks to start with, and whether the accepting state is among them
+-- the start is among the marks to start with, so that their words are not all 0
+pub some-started : (classes : List ℕ) (t : Tree Leaf) (after : List ℕ)
+    → Models (cut-up t) (Holds (cut-up t) after) (Started (meaning classes) t) → All-zero (piece-count t) after → ⊥
+some-started classes t after models zeros =
+    zero-holds (cut-up t) after (rw (all-words t) zeros) start tt (models start tt .1 (start, refl, here))
+
+-- the marks to start with, and whether the accepting state is among them; the start always is
 pub record Begun (classes : List ℕ) (t : Tree Leaf) (before after : List ℕ) (yes' : Bool) : Type 0 where
   pub hold : Hold t (Started (meaning classes) t) before after
   pub answer : (yes' ≡ true) ↔ Started (meaning classes) t accepting
+  pub some : All-zero (piece-count t) after → ⊥
 
--- the marks after one more byte, from the set that the words held before, and whether the accepting state is among them
-pub record Advanced (classes : List ℕ) (t : Tree Leaf) (byte : ℕ) (before after : List ℕ) (yes' : Bool) : Type 0 where
-  pub hold : Hold t (Stepped (meaning classes) t byte (Set-of (cut-up t) before)) before after
-  pub answer : (yes' ≡ true) ↔ Stepped (meaning classes) t byte (Set-of (cut-up t) before) accepting
+-- the marks after one more byte, from the set that the words held before, whether the accepting state is among them, and
+-- whether nothing is left
+pub record Advanced (classes : List ℕ) (t : Tree Leaf) (byte : ℕ) (before after : List ℕ) (yes' nothing : Bool) : Type 0
+  where
+    pub hold : Hold t (Stepped (meaning classes) t byte (Set-of (cut-up t) before)) before after
+    pub answer : (yes' ≡ true) ↔ Stepped (meaning classes) t byte (Set-of (cut-up t) before) accepting
+    pub left : (nothing ≡ true) ↔ All-zero (piece-count t) after
 
 -- the tables are those of a tree of which the words are marks, but for agreement
 pub record Running (reach codes runs stands tops : List ℕ) (count : ℕ) (words : List ℕ) : Type 0 where
@@ -226,6 +242,7 @@ module _ {t : Tree Leaf} {reach codes runs stands tops : List ℕ} {count : ℕ}
               ∙ omega (arith, front, length-drop count lent);
         };
         answer = answer-told after (Started (meaning classes) t) yes' models told;
+        some = some-started classes t after models;
       }
 
   -- words that were moved are the run of the pieces
@@ -241,9 +258,9 @@ module _ {t : Tree Leaf} {reach codes runs stands tops : List ℕ} {count : ℕ}
   -- from words moved along the byte, and closed twice
   pub advanced : {classes : List ℕ} (byte : ℕ) (before moved after : List ℕ) (yes' : Bool) → Marks-of t before
       → Moved-closed reach classes codes before moved byte count → Closed-twice reach codes runs stands tops count moved after
-      → length after ≡ length moved → Tells (Bit (getD after 0 0) (getD tops 0 0)) yes'
-      → Advanced classes t byte before after yes'
-  advanced {classes} byte before moved after yes' marks went twice long told =
+      → length after ≡ length moved → Tells (Bit (getD after 0 0) (getD tops 0 0)) yes' → {nothing : Bool}
+      → (nothing ≡ true) ↔ All-zero (piece-count t) after → Advanced classes t byte before after yes' nothing
+  advanced {classes} byte before moved after yes' marks went twice long told left =
       let x = cut-up t in
       let room : 1 + run x ≤ count = omega (arith, prepared-count) in
       let on = moved-run went (marks .clean) in
@@ -264,7 +281,53 @@ module _ {t : Tree Leaf} {reach codes runs stands tops : List ℕ} {count : ℕ}
           same-length = long ∙ moved-length went;
         };
         answer = answer-told after (Stepped (meaning classes) t byte (Set-of x before)) yes' models told;
+        left = left;
       }
+
+  module _ {classes : List ℕ} {byte from to : ℕ} {before moved : List ℕ} (marks : Marks-of t before)
+      (went : Moved-closed reach classes codes before moved byte count) (spans : Spans moved count from to)
+      (enough : count ≤ length before) where
+    -- where no word has a mark after the move, closing makes none
+    pub advanced-none : to ≡ 0 → Advanced classes t byte before moved false true
+    advanced-none none =
+        let zeros : All-zero count moved = λ k h. spans .none-after k (omega arith) h in
+        let empty : (x : Nested Leaf) → Run-of reach codes runs stands tops count x moved → (q : State) → Has x q
+        → Holds x moved q → ⊥ =
+        λ x on. zero-holds x moved (subst (λ (n : ℕ). All-zero n moved) (on .counted) zeros) in
+        advanced byte before moved moved false marks went
+        record {
+          marks = λ x on q h. (
+            λ held. absurd (empty x on q h held),
+            λ m. absurd (sweep-none byteless x (Sweep byteless x (Holds x moved))
+                (sweep-none byteless x (Holds x moved) (empty x on)) q h m),
+          );
+          clean = λ x on. on .clean;
+          others = refl;
+        }
+        refl
+        (told-no (λ b. bit-zero (getD tops 0 0)
+        (subst (λ (v : ℕ). Bit v (getD tops 0 0)) (zeros 0 (omega (arith, prepared-count))) b)))
+        (λ e. subst (λ (n : ℕ). All-zero n moved) (prepared .counted) zeros, λ all. refl)
+
+    -- where one has, closing keeps it
+    pub advanced-some : (after : List ℕ) (yes' : Bool) → 0 < to
+        → Closed-twice reach codes runs stands tops count moved after → length after ≡ length moved
+        → Tells (Bit (getD after 0 0) (getD tops 0 0)) yes' → Advanced classes t byte before after yes' false
+    advanced-some after yes' some twice long told =
+        advanced byte before moved after yes' marks went twice long told
+        (λ e. absurd (false≢true e), λ zeros. absurd (spans .some-last some (gone zeros)))
+      where
+        gone : All-zero (piece-count t) after → getD moved (to - 1) 0 ≡ 0
+        gone zeros =
+            let x = cut-up t in
+            let on = moved-run went (marks .clean) in
+            let all : All-zero (1 + run x) after = rw (all-words t) zeros in
+            zero-alike x moved after (on .clean) (twice .clean x on)
+            (λ q has held. zero-holds x after all q has (twice .marks x on q has .1
+            (sweep-extends x (Sweep byteless x (Holds x moved)) q (sweep-extends x (Holds x moved) q held))))
+            (omega (arith, prepared-count, moved-length went, enough))
+            (omega (arith, prepared-count, moved-length went, long, enough)) all (to - 1)
+            (omega (arith, prepared-count, spans .within))
 
 -- words that hold the marks after a text are marks
 pub holding-marks : {classes : List ℕ} {t : Tree Leaf} {w words : List ℕ} → Holding classes t w words → Marks-of t words
@@ -303,9 +366,9 @@ answered-copy {classes} {t} {w = w} {after = after} {count = count} from to prep
     }
 
 -- after one more byte they hold the marks after one more byte
-pub answered-next : {classes : List ℕ} {t : Tree Leaf} {w before after : List ℕ} {b : ℕ} {yes' : Bool} → Holding classes t w before
-    → Advanced classes t b before after yes' → Answered classes t (w ++ (b ∷ [])) after yes'
-answered-next {classes} {t} {w} {before} {after} {b} {yes'} holding went =
+pub answered-next : {classes : List ℕ} {t : Tree Leaf} {w before after : List ℕ} {b : ℕ} {yes' nothing : Bool} → Holding classes t w before
+    → Advanced classes t b before after yes' nothing → Answered classes t (w ++ (b ∷ [])) after yes'
+answered-next {classes} {t} {w} {before} {after} {b} {yes'} {nothing} holding went =
     let x = cut-up t in
     let X = After (meaning classes) t w (Started (meaning classes) t) in
     let states : X ⊆ State-of (whole x) = subst (λ (s : Tree Leaf). X ⊆ State-of s) (sym (stated t .same-tree))
@@ -326,16 +389,15 @@ answered-next {classes} {t} {w} {before} {after} {b} {yes'} holding went =
 -- words that were moved can be closed, where the marks are from `from` up to `to`
 pub moved-closable : {reach classes codes runs stands tops : List ℕ} {count byte from to : ℕ} {before moved : List ℕ}
     → Running reach codes runs stands tops count before
-    → Moved-closed reach classes codes before moved byte count → ((o : ℕ) → o < from → getD moved o 0 ≡ 0)
-    → ((o : ℕ) → to ≤ o → o < count → getD moved o 0 ≡ 0)
+    → Moved-closed reach classes codes before moved byte count → Spans moved count from to
     → Closable reach codes runs stands tops count from to moved
-moved-closable {count = count} {moved = moved} running went none-before none-after =
+moved-closable {count = count} {moved = moved} running went spans =
     let prepared = running .ready .of-tree .1 in
     let enough : count ≤ length moved = omega (arith, moved-length went, running .enough) in
     prepared-closable prepared (running .ready .roomy) enough (moved-run prepared went (running .clean))
     (λ o l h out. let inside : o < count = omega (arith, length-take-le count moved enough) in
     getD-take count moved o 0 inside
-    ∙ ⊎-elim (λ g. none-before o (omega arith)) (λ g. none-after o (omega arith) inside) out)
+    ∙ ⊎-elim (λ g. spans .none-before o (omega arith)) (λ g. spans .none-after o (omega arith) inside) out)
 
 -- 128 words of zero, then the root's start marked
 abbrev pub begins : List ℕ

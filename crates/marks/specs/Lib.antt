@@ -9,6 +9,8 @@ pub mod States
 -- The layer inside, for callers that make a list's tables once: its start and step, and the words after a text.
 pub mod Inner
 pub mod Texts
+-- where nothing is left, nothing comes back
+pub mod NothingLeft
 -- How the code comes to its answer, a folder for each part of it.
 pub mod BitsOfWords
 pub mod Passes

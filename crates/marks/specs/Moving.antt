@@ -4,3 +4,4 @@ pub mod LeafCodes
 pub mod WordMoved
 pub mod WordsMoved
 pub mod WordsMovedClosed
+pub mod Spans

@@ -16,6 +16,7 @@ use Rattle.tree.specs.Records.{Good, piece-count, class-count}
 use Rattle.tables.specs.Words.{Holds, Clean, Agreeing, Set-of}
 use Rattle.tree.specs.Pieces.{cut-up}
 use Rattle.marks.specs.Answer.{Numbers, refusing, marking}
+use Rattle.marks.specs.BitsOfWords.Zero.{All-zero}
 
 -- the words hold the set X of states of t's automaton: one word for each piece, no bit past a last state; the words
 -- past the pieces are as before
@@ -40,15 +41,17 @@ pub record Refused (number : ℕ) (why : Type 0) (before after : List ℕ) (n : 
   pub refuses : n ≡ refusing number
   pub unchanged : after ≡ before
 
--- the marks X of the list's tree are made, and the accepting state is among them or not
+-- the marks X of the list's tree are made; the accepting state is among them or not, and nothing is left exactly when
+-- the word of each piece is 0
 pub record Made (list classes : List ℕ) (X : Tree Leaf → States) (before after : List ℕ) (n : Numbers) : Type 0 where
   pub t : Tree Leaf
   pub good : Good list t
   pub classed : Classed classes t
   pub enough : piece-count t ≤ length before
   pub hold : Hold t (X t) before after
-  pub marks : n ≡ marking (n .accepting)
+  pub marks : n ≡ marking (n .accepting) (n .nothing)
   pub answer : (n .accepting ≡ true) ↔ X t accepting
+  pub left : (n .nothing ≡ true) ↔ All-zero (piece-count t) after
 
 -- the list is not good
 abbrev pub Not-good : List ℕ → Type 0

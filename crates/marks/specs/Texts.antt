@@ -19,7 +19,8 @@ use Rattle.tree.specs.Pieces.{cut-up, stated}
 use Rattle.tables.specs.Words.{Bit, width, run, Holds, Clean}
 use Rattle.tables.specs.Tables.{Holding}
 use Rattle.marks.specs.BitsOfWords.Numbers.{number-accepting}
-use Rattle.marks.specs.BitsOfWords.AllZero.{All-zero, zero-holds}
+use Rattle.marks.specs.BitsOfWords.Zero.{All-zero}
+use Rattle.marks.specs.BitsOfWords.AllZero.{zero-holds}
 use Rattle.marks.specs.BitsOfWords.Spots.{bit-at, held-at, holds-held, own-spot}
 
 -- there is a word for each piece of a tree

@@ -18,6 +18,7 @@ use Rattle.tree.specs.Readback.{good-unique}
 use Rattle.tables.specs.Words.{run, Set-of}
 use Rattle.tree.specs.Pieces.{cut-up}
 use Rattle.marks.specs.Texts.{all-words}
+use Rattle.marks.specs.BitsOfWords.Zero.{All-zero}
 use Rattle.marks.specs.BitsOfWords.Alike.{same-words}
 use Rattle.marks.specs.Answer.{Numbers, refusing, marking, numbers}
 use Rattle.marks.specs.Promise.{
@@ -73,6 +74,10 @@ same-answer : (a b : Bool) → (a ≡ true) ↔ (b ≡ true) → a ≡ b
 same-answer true b h = sym (h .0 refl)
 same-answer false true h = h .1 refl
 same-answer false false h = refl
+
+-- the same flags give the same numbers
+both-flags : {a a' b b' : Bool} → a ≡ a' → b ≡ b' → marking a b ≡ marking a' b'
+both-flags e f = cc
 
 -- a refusal has its own number
 same-refusal : {k j : ℕ} {why : Type 0} {before after : List ℕ} {n : Numbers} → Refused k why before after n
@@ -229,12 +234,18 @@ module _ (list classes before : List ℕ) where
     made-unique {after} {after'} {n} {n'} one other =
         let same : other .t ≡ one .t = good-unique list (other .t) (one .t) (other .good) (one .good) in
         let says : (n' .accepting ≡ true) ↔ X (one .t) accepting =
-        subst (λ (t : Tree Leaf). (n' .accepting ≡ true) ↔ X t accepting) same (other .answer) in (
+        subst (λ (t : Tree Leaf). (n' .accepting ≡ true) ↔ X t accepting) same (other .answer) in
+        let words : after ≡ after' =
+        hold-unique (one .t) (X (one .t)) before after after' (one .enough) (one .hold)
+        (subst (λ (t : Tree Leaf). Hold t (X t) before after') same (other .hold)) in
+        let left : (n' .nothing ≡ true) ↔ All-zero (piece-count (one .t)) after =
+        subst (λ (l : List ℕ). (n' .nothing ≡ true) ↔ All-zero (piece-count (one .t)) l) (sym words)
+        (subst (λ (t : Tree Leaf). (n' .nothing ≡ true) ↔ All-zero (piece-count t) after') same (other .left)) in (
           one .marks
-              ∙ ap marking (same-answer (n .accepting) (n' .accepting) (Iff·trans (one .answer) (Iff·symm says)))
+              ∙ both-flags (same-answer (n .accepting) (n' .accepting) (Iff·trans (one .answer) (Iff·symm says)))
+              (same-answer (n .nothing) (n' .nothing) (Iff·trans (one .left) (Iff·symm left)))
               ∙ sym (other .marks),
-          hold-unique (one .t) (X (one .t)) before after after' (one .enough) (one .hold)
-              (subst (λ (t : Tree Leaf). Hold t (X t) before after') same (other .hold)),
+          words,
         )
 
     -- the reason of one refusal gives the other its number
@@ -354,10 +365,10 @@ abbrev answer-by : Numbers → MarksAnswer
 answer-by n =
     cond (eqb (n .refusal) list-not-good) NotGood
     (cond (eqb (n .refusal) class-buffer-too-short) TooFewClasses
-    (cond (eqb (n .refusal) too-few-words) TooFewWords (cond (eqb (n .refusal) words-not-marks) NotMarks (Marked (n .accepting)))))
+    (cond (eqb (n .refusal) too-few-words) TooFewWords (cond (eqb (n .refusal) words-not-marks) NotMarks (Marked (n .accepting) (n .nothing)))))
 
 answer-back : (r : MarksAnswer) → answer-by (numbers r) ≡ r
-answer-back (Marked marked) = refl
+answer-back (Marked marked nothing) = refl
 answer-back NotGood = refl
 answer-back TooFewClasses = refl
 answer-back TooFewWords = refl

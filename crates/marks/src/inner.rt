@@ -15,7 +15,6 @@ ghost use Rattle.marks.specs.BitsOfWords.Bits.{Tells};
 ghost use Rattle.tables.specs.Given.{Decided-good};
 ghost use Rattle.marks.specs.Promise.{Marks-of};
 ghost use Rattle.tables.specs.Tables.{Prepared, Roomy, Ready};
-ghost use Rattle.marks.specs.BitsOfWords.AllZero.{All-zero};
 ghost use Rattle.marks.specs.Inner.{Running, Begun, Advanced};
 
 // Makes the tables of a good list of `count` pieces, with the pieces below each record's node as deciding on the list
@@ -54,6 +53,12 @@ pub fn copy(from: &[u64], count: usize, to: &mut [u64])
     }
 }
 
+// What is told of the marks: whether the root's accepting state is among them, and whether nothing is left.
+pub struct Told {
+    pub accepting: bool,
+    pub nothing: bool,
+}
+
 // Marks the root's start alone and closes, which is the same by all class records. Answers whether the root's accepting
 // state is now marked.
 pub fn begin(
@@ -80,37 +85,8 @@ pub fn begin(
     has_bit(words[0], top)
 }
 
-// The first of the words that has a mark, or `count`.
-fn marked_from(words: &[u64], count: usize) -> usize
-    requires { ⌜ count ≤ length (now words) ⌝ }
-    ensures { λ r. ⌜ ((o : ℕ) → o < r → getD (now (words .entry)) o 0 ≡ 0) ⌝ }
-{
-    let mut i = 0;
-    while i < count {
-        if words[i] != 0 {
-            return i;
-        }
-        i += 1;
-    }
-    count
-}
-
-// One more than the last of the words that has a mark, or 0.
-fn marked_to(words: &[u64], count: usize) -> usize
-    requires { ⌜ count ≤ length (now words) ⌝ }
-    ensures { λ r. ⌜ ((o : ℕ) → r ≤ o → o < count → getD (now (words .entry)) o 0 ≡ 0) ⌝ }
-{
-    let mut i = count;
-    while 0 < i {
-        if words[i - 1] != 0 {
-            return i;
-        }
-        i -= 1;
-    }
-    0
-}
-
-// Moves the marks along the byte and closes. Answers whether the root's accepting state is now marked.
+// Moves the marks along the byte and closes. Where nothing is left after the move, there is nothing to close. Answers
+// whether the root's accepting state is now marked, and whether nothing is left.
 pub fn advance(
     reach: &[u64],
     codes: &[u16],
@@ -121,33 +97,35 @@ pub fn advance(
     classes: &[u8],
     words: &mut [u64],
     byte: u8,
-) -> bool
+) -> Told
     requires { ⌜ Running (now reach) (now codes) (now runs) (now stands) (now tops) count (now words) ⌝ }
     ensures { λ r.
         ⌜ ((t : Tree Leaf)
         → Prepared t (now (reach .entry)) (now (codes .entry)) (now (runs .entry)) (now (stands .entry))
         (now (tops .entry)) count → Marks-of t (now (words .entry))
-        → Advanced (now (classes .entry)) t byte (now (words .entry)) (now (words .exit)) r) ⌝ }
+        → Advanced (now (classes .entry)) t byte (now (words .entry)) (now (words .exit)) (r .accepting) (r .nothing)) ⌝ }
 {
-    move_all(reach, codes, classes, words, byte, count);
-    let from = marked_from(words, count);
-    let to = marked_to(words, count);
-    close_twice(reach, codes, runs, stands, tops, count, from, to, words);
-    let top = tops[0] as usize;
-    has_bit(words[0], top)
-}
-
-// Whether no state is marked.
-pub fn nothing_left(words: &[u64], count: usize) -> bool
-    requires { ⌜ count ≤ length (now words) ⌝ }
-    ensures { λ r. ⌜ Tells (All-zero count (now (words .entry))) r ⌝ }
-{
-    let mut i = 0;
-    while i < count {
-        if words[i] != 0 {
-            return false;
-        }
-        i += 1;
+    let span = move_all(reach, codes, classes, words, byte, count);
+    if span.to == 0 {
+        return Told {
+            accepting: false,
+            nothing: true,
+        };
     }
-    true
+    close_twice(
+        reach,
+        codes,
+        runs,
+        stands,
+        tops,
+        count,
+        span.from,
+        span.to,
+        words,
+    );
+    let top = tops[0] as usize;
+    Told {
+        accepting: has_bit(words[0], top),
+        nothing: false,
+    }
 }

@@ -42,8 +42,9 @@ ghost use Rattle.marks.specs.Promise.{Classed, Starts, Steps};
 
 // What a start or a step answers.
 pub enum MarksAnswer {
-    // The marks are made; whether the root's accepting state is now marked.
-    Marked { accepting: bool },
+    // The marks are made; whether the root's accepting state is now marked, and whether nothing is left: no state is
+    // marked.
+    Marked { accepting: bool, nothing: bool },
     // The list is not good.
     NotGood,
     // Some class leaf has no record in the class buffer.
@@ -86,7 +87,7 @@ fn mark_in(
         if !agreeing(runs, stands, tops, words, count) {
             return MarksAnswer::NotMarks;
         }
-        let accepting = advance(
+        let told = advance(
             reach,
             codes,
             runs,
@@ -97,10 +98,16 @@ fn mark_in(
             words,
             byte,
         );
-        return MarksAnswer::Marked { accepting };
+        return MarksAnswer::Marked {
+            accepting: told.accepting,
+            nothing: told.nothing,
+        };
     }
     let accepting = begin(reach, codes, runs, stands, tops, count, words);
-    MarksAnswer::Marked { accepting }
+    MarksAnswer::Marked {
+        accepting,
+        nothing: false,
+    }
 }
 
 // On one of few pieces, in small tables.

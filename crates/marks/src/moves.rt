@@ -10,13 +10,14 @@ ghost use mathlib.Core.Path.{_≡_};
 ghost use Prim.Native.Nat.{ℕ, _+_, _*_, _^_, _≤_, _<_};
 ghost use lib.ListN.{length};
 ghost use Rattle.language.specs.Nested.{Nested};
-ghost use Rattle.tree.specs.Limits.{most-states};
+ghost use Rattle.tree.specs.Limits.{most-pieces, most-states};
 ghost use Rattle.tree.specs.Leaf.{Leaf};
 ghost use Rattle.tables.specs.Words.{width};
 ghost use Rattle.tables.specs.Plan.{row-size, Moves};
 ghost use Rattle.tables.specs.Tables.{mask-count};
 ghost use Rattle.marks.specs.Passes.Laid.{Lays};
 ghost use Rattle.marks.specs.Moving.WordsMovedClosed.{Word-after, Moved-closed};
+ghost use Rattle.marks.specs.Moving.Spans.{Widened, Spans};
 
 // The word of a piece, moved along the byte: a leaf's start whose number takes it goes over to the next state. Only starts
 // of leaves are looked at.
@@ -60,7 +61,34 @@ fn word_after(
     close(reach, codes, piece, moved)
 }
 
-// Moves the words of all pieces along the byte, and closes each piece in itself.
+// Where marks are: in no word before `from` and in none from `to` on. Where there are none, `to` is 0.
+pub struct Span {
+    pub from: usize,
+    pub to: usize,
+}
+
+// The span with the closed word of one piece more.
+fn widened(span: Span, piece: usize, word: u64) -> Span
+    requires { ⌜ piece < most-pieces ⌝ }
+    ensures { λ r. ⌜ Widened (span .from) (span .to) piece word (r .from) (r .to) ⌝ }
+{
+    if word == 0 {
+        return span;
+    }
+    if span.to == 0 {
+        return Span {
+            from: piece,
+            to: piece + 1,
+        };
+    }
+    Span {
+        from: span.from,
+        to: piece + 1,
+    }
+}
+
+// Moves the words of all pieces along the byte, and closes each piece in itself. Answers where marks are left, as the
+// closing of each piece says whether its word has any.
 pub fn move_all(
     reach: &[u64],
     codes: &[u16],
@@ -68,15 +96,20 @@ pub fn move_all(
     words: &mut [u64],
     byte: u8,
     pieces: usize,
-)
+) -> Span
     requires { ⌜ (mask-count * pieces ≤ length (now reach)) × (row-size * pieces ≤ length (now codes))
-        × (pieces ≤ length (now words)) ⌝ }
+        × (pieces ≤ length (now words)) × (pieces ≤ most-pieces) ⌝ }
     ensures { λ _. ⌜ Moved-closed (now (reach .entry)) (now (classes .entry)) (now (codes .entry)) (now (words .entry)) (now (words .exit))
         byte pieces ⌝ }
+    ensures { λ r. ⌜ Spans (now (words .exit)) pieces (r .from) (r .to) ⌝ }
 {
+    let mut span = Span { from: 0, to: 0 };
     let mut piece = 0;
     while piece < pieces {
-        words[piece] = word_after(reach, codes, classes, piece, words[piece], byte);
+        let word = word_after(reach, codes, classes, piece, words[piece], byte);
+        words[piece] = word;
+        span = widened(span, piece, word);
         piece += 1;
     }
+    span
 }

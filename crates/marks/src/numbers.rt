@@ -15,6 +15,8 @@ pub struct Numbers {
     pub place: usize,
     // Whether the root's accepting state is now marked.
     pub accepting: bool,
+    // Whether nothing is left: no state is marked.
+    pub nothing: bool,
 }
 
 // The numbers of an answer.
@@ -22,10 +24,11 @@ pub fn numbers_of(answer: MarksAnswer) -> Numbers
     ensures { λ r. ⌜ r ≡ numbers answer ⌝ }
 {
     match answer {
-        MarksAnswer::Marked { accepting } => Numbers {
+        MarksAnswer::Marked { accepting, nothing } => Numbers {
             refusal: 0,
             place: 0,
             accepting,
+            nothing,
         },
         MarksAnswer::NotGood => refusing(LIST_NOT_GOOD),
         MarksAnswer::TooFewClasses => refusing(CLASS_BUFFER_TOO_SHORT),
@@ -42,5 +45,6 @@ fn refusing(number: u8) -> Numbers
         refusal: number,
         place: 0,
         accepting: false,
+        nothing: false,
     }
 }

@@ -2,7 +2,7 @@
 -- step refuses words that are no marks and moves on from others.
 use Prim.Native.Nat.{ℕ}
 use mathlib.Core.Path.{_≡_, refl}
-use mathlib.Core.Bool.{Bool, true, false}
+use mathlib.Core.Bool.{Bool, true, false, false≢true}
 use native.Mathlib.Omega.{arith}
 use borrow.Author.Tests.{not-true, not-false}
 use borrow.Author.Needs.{needs}
@@ -130,6 +130,7 @@ returns-3 c =
           hold = on .hold;
           marks = refl;
           answer = on .answer;
+          left = on .left;
         };
         from-marks = marks;
       }),
@@ -163,6 +164,7 @@ returns-4 c =
         hold = marked .hold;
         marks = refl;
         answer = marked .answer;
+        left = (λ e. absurd (false≢true e), λ zeros. absurd (marked .some zeros));
       }),
       λ stepping. not-both stepping (begun .before .before .before .before .before .before .before .if2 .left),
     )

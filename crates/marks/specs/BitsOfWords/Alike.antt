@@ -11,6 +11,8 @@ use lib.Seq.{ext-getD, getD-take, length-take-le}
 use Rattle.language.specs.Automaton.{State, left, right}
 use Rattle.language.specs.Nested.{Nested, leaf, catenation, union, star, below, Has}
 use Rattle.tables.specs.Words.{Bit, width, run, Holds, Clean}
+use Rattle.marks.specs.BitsOfWords.Zero.{All-zero}
+use Rattle.marks.specs.BitsOfWords.AllZero.{zero-holds}
 use Rattle.marks.specs.BitsOfWords.Bits.{bit-below, same-bits}
 use Rattle.marks.specs.BitsOfWords.Numbers.{number-onto}
 use Rattle.marks.specs.BitsOfWords.Spots.{
@@ -115,3 +117,13 @@ module _ {A : Type 0} (x : Nested A) where
             bit-follows v w clean (λ q has. same q has .0) k b h,
             bit-follows w v clean' (λ q has. same q has .1) k b h,
           )))
+
+  -- so words that hold no mark are 0, where others are
+  pub zero-alike : (v w : List ℕ) → Clean x v → Clean x w → ((q : State) → Has x q → Holds x v q → ⊥)
+      → 1 + run x ≤ length v → 1 + run x ≤ length w → All-zero (1 + run x) w → All-zero (1 + run x) v
+  zero-alike v w clean clean' none long long' zeros k h =
+      sym (getD-take (1 + run x) v k 0 h)
+      ∙ ap (λ (l : List ℕ). getD l k 0)
+      (same-words v w clean clean'
+      (λ q has. (λ held. absurd (none q has held), λ held. absurd (zero-holds x w zeros q has held))) long long')
+      ∙ getD-take (1 + run x) w k 0 h ∙ zeros k h

@@ -7,12 +7,9 @@ use lib.ListN.{getD}
 use Rattle.language.specs.Automaton.{State}
 use Rattle.language.specs.Nested.{Nested, Has}
 use Rattle.tables.specs.Words.{Bit, width, run, Holds}
+use Rattle.marks.specs.BitsOfWords.Zero.{All-zero}
 use Rattle.marks.specs.BitsOfWords.Bits.{bit-zero}
 use Rattle.marks.specs.BitsOfWords.Spots.{Spot, own, under, spot, Set-at, holds-held, Spot-within, spot-within}
-
--- the first so many words are 0
-abbrev pub All-zero : ℕ → List ℕ → Type 0
-All-zero count words = (k : ℕ) → k < count → getD words k 0 ≡ 0
 
 -- no bit is set in words that are 0
 unlit : (s : Spot) (k m : ℕ) (words : List ℕ) → All-zero (1 + m) words → Spot-within k m s → Set-at s words → ⊥

@@ -1,24 +1,18 @@
--- `marks::inner::advance` meets its contract: the words are moved along the byte and closed by two sweeps, which is a
--- step of the plain
--- simulation.
+-- `marks::inner::advance` meets its contract: the words are moved along the byte; where no mark is left they are closed
+-- as they are, else two sweeps close them, which is a step of the plain simulation.
 use native.Mathlib.Omega.{arith}
-use Rattle.marks.specs.Inner.{moved-closable, top-low, advanced}
+use Rattle.marks.specs.Inner.{moved-closable, top-low, advanced-none, advanced-some}
 use Rattle.marks.specs.Texts.{all-words}
 use borrow.Author.Needs.{needs}
 use Rattle.marks.proofs.inner.advance.Statement.{statement}
 use Rattle.marks.proofs.inner.advance.Tie as tie
-use Rattle.marks.proofs.inner.advance.Reads as reads
-use Rattle.marks.proofs.inner.advance.Lts as lts
-use Rattle.marks.proofs.bits.has_bit.Reads as has-bit-reads
-use Rattle.marks.proofs.moves.move_all.Reads as move-all-reads
-use Rattle.marks.proofs.sweep.close_twice.Reads as close-twice-reads
 
 -- where the marks were closed, where they had been moved along the byte, and where the call began
 abbrev closed : tie.After-slice-known4 → tie.After-close-twice
 closed c = c .before .before .before .before
 
 abbrev moved : tie.After-close-twice-arg → tie.After-move-all
-moved c = c .before .before .before .before .before .before .before
+moved c = c .before .before .before .before .before
 
 abbrev entry : tie.After-move-all → tie.Start
 entry c = c .before .before .before .before .before .before .before .before .before
@@ -26,16 +20,18 @@ entry c = c .before .before .before .before .before .before .before .before .bef
 move-all-requires : tie.Need-move-all-requires
 move-all-requires c κs = search needs
 
-marked-from-requires : tie.Need-marked-from-requires
-marked-from-requires c κs = search needs
+same-length : tie.Need-same-length
+same-length c = search needs
 
-marked-to-requires : tie.Need-marked-to-requires
-marked-to-requires c κs = search needs
+returns : tie.Need-returns
+returns c = λ t prepared marks.
+    let went = c .before .before .before .before in
+    advanced-none prepared marks (went .move-all .ensures .0) (went .move-all .ensures .1) (entry went .pre .enough)
+    (c .if1 .taken)
 
 close-twice-requires : tie.Need-close-twice-requires
 close-twice-requires c κs =
-    moved-closable (entry (moved c) .pre) (moved c .move-all .ensures) (c .before .before .before .marked-from .ensures)
-    (c .before .marked-to .ensures)
+    moved-closable (entry (moved c) .pre) (moved c .move-all .ensures .0) (moved c .move-all .ensures .1)
 
 shared-slice-read-top : tie.Need-shared-slice-read-top
 shared-slice-read-top c =
@@ -58,19 +54,21 @@ slice-read-has-bit c =
       tree .1 .counted,
       running .enough,
       went .move-all .kept .1 .1 .1 .0,
-      done .close-twice .kept .1 .1 .1 .1 .1 .1 .1 .0,
+      done .close-twice .kept .1 .1 .1 .1 .1 .1 .1 .1 .0,
     )
 
 has-bit-requires : tie.Need-has-bit-requires
 has-bit-requires c κs = top-low (entry (moved (closed c .before)) .pre .ready .of-tree .1)
 
-same-length : tie.Need-same-length
-same-length c = search needs
+same-length-2 : tie.Need-same-length-2
+same-length-2 c = search needs
 
-returns : tie.Need-returns
-returns c = λ t prepared marks.
+returns-2 : tie.Need-returns-2
+returns-2 c = λ t prepared marks.
     let done = closed (c .before) in
-    advanced prepared _ _ _ _ _ marks (moved (done .before) .move-all .ensures) (done .close-twice .ensures)
+    let went = moved (done .before) in
+    advanced-some prepared marks (went .move-all .ensures .0) (went .move-all .ensures .1) (entry went .pre .enough) _ _
+    (omega (arith, done .before .before .if1 .left)) (done .close-twice .ensures)
     (done .close-twice .kept .1 .1 .1 .1 .1 .1 .1 .1 .0) (c .has-bit .ensures)
 
 pub advance-spec : {M : Type 1} → statement M
@@ -78,12 +76,12 @@ advance-spec =
     tie.close
     (tie.spec
     move-all-requires
-    marked-from-requires
-    marked-to-requires
+    same-length
+    returns
     close-twice-requires
     shared-slice-read-top
     cast-top
     slice-read-has-bit
     has-bit-requires
-    same-length
-    returns)
+    same-length-2
+    returns-2)

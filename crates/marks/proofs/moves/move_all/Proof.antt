@@ -1,19 +1,22 @@
--- `marks::moves::move_all` meets its contract. The loop's invariant: the words passed are moved and closed.
+-- `marks::moves::move_all` meets its contract. The loop's invariant: the words passed are moved and closed, and their
+-- marks are gathered in the span.
 use Prim.Native.Nat.{_≤_, _-_}
 use native.Mathlib.Omega.{arith}
+use borrow.Author.Needs.{needs}
 use Rattle.marks.specs.Moving.WordsMovedClosed.{Moving-closing, moving-none, moving-more, moving-all}
+use Rattle.marks.specs.Moving.Spans.{Spans, spans-none, spans-more, spans-all}
 use Rattle.marks.proofs.moves.move_all.Statement.{statement}
 use Rattle.marks.proofs.moves.move_all.Tie as tie
 
 abbrev Inv-loop : tie.InvT-loop
-Inv-loop reach codes classes words₀ byte pieces piece₀ words piece = (piece ≤ pieces)
-    × Moving-closing reach classes codes words₀ words byte piece
+Inv-loop reach codes classes words₀ byte pieces span₀ piece₀ words span piece = (piece ≤ pieces)
+    × Moving-closing reach classes codes words₀ words byte piece × Spans words piece (span .from) (span .to)
 
 abbrev μ-loop : tie.MeasureT-loop
-μ-loop reach codes classes words₀ byte pieces piece₀ words piece = pieces - piece
+μ-loop reach codes classes words₀ byte pieces span₀ piece₀ words span piece = pieces - piece
 
 loop-holds : tie.Need-loop-holds Inv-loop μ-loop
-loop-holds c = (omega arith, moving-none _ _ _ _ _)
+loop-holds c = (omega arith, moving-none _ _ _ _ _, spans-none _)
 
 mul-word-after : tie.Need-mul-word-after Inv-loop μ-loop
 mul-word-after c = omega arith
@@ -30,6 +33,9 @@ mul-words c = omega arith
 slice-write-words : tie.Need-slice-write-words Inv-loop μ-loop
 slice-write-words c = omega arith
 
+widened-requires : tie.Need-widened-requires Inv-loop μ-loop
+widened-requires c κs = omega arith
+
 add-piece : tie.Need-add-piece Inv-loop μ-loop
 add-piece c = omega arith
 
@@ -38,13 +44,20 @@ loop-less c = omega arith
 
 loop-again : tie.Need-loop-again Inv-loop μ-loop
 loop-again c =
-    (omega arith, moving-more (omega arith) (c .before .before .before .loop .inv .1) (c .word-after .ensures))
+    let word = c .before in
+    let at = word .before .before .before .loop .inv in (
+      omega arith,
+      moving-more (omega arith) (at .1) (word .word-after .ensures),
+      spans-more _ (at .2) (omega (arith, at .1 .moves .same-length, at .1 .closes .same-length)) (c .widened .ensures),
+    )
 
 same-length : tie.Need-same-length Inv-loop μ-loop
 same-length c = omega arith
 
 returns : tie.Need-returns Inv-loop μ-loop
-returns c = moving-all (omega arith) (c .before .loop .inv .1)
+returns c =
+    let done = c .before .loop .inv in
+    (moving-all (omega arith) (done .1), spans-all (omega arith) (done .2))
 
 pub move-all-spec : {M : Type 1} → statement M
 move-all-spec =
@@ -58,6 +71,7 @@ move-all-spec =
     word-after-requires
     mul-words
     slice-write-words
+    widened-requires
     add-piece
     loop-less
     loop-again

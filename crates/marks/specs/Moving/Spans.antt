@@ -1,0 +1,72 @@
+-- Where marks are left after a move: gathered word by word, as each piece is moved and closed.
+use Prim.Native.Nat.{ℕ, _+_, _-_, _≤_, _<_}
+use mathlib.Core.Path.{_≡_, refl, sym, ap, _∙_, subst}
+use mathlib.Core.List.{List}
+use native.Mathlib.Omega.{arith}
+use native.Mathlib.Decide.{ℕ-discrete, decLt}
+use lib.ListN.{length, getD, set}
+use lib.Seq.{getD-set-same, getD-set-other}
+
+-- of the first n words those before `from` are 0 and those from `to` on; where there is a mark, the word before `to` has
+-- one
+pub record Spans (words : List ℕ) (n from to : ℕ) : Type 0 where
+  pub none-before : (o : ℕ) → o < from → getD words o 0 ≡ 0
+  pub none-after : (o : ℕ) → to ≤ o → o < n → getD words o 0 ≡ 0
+  pub some-last : 0 < to → getD words (to - 1) 0 ≡ 0 → ⊥
+  pub within : to ≤ n
+  pub ordered : from ≤ to
+
+-- what the word of one piece more makes of `from` and `to`
+pub data Widened (from to piece word : ℕ) : (from′ to′ : ℕ) → Type 0 where
+  no-mark : word ≡ 0 → Widened from to piece word from to
+  first-mark : (word ≡ 0 → ⊥) → to ≡ 0 → Widened from to piece word piece (piece + 1)
+  later-mark : (word ≡ 0 → ⊥) → (to ≡ 0 → ⊥) → Widened from to piece word from (piece + 1)
+
+-- at first there are none
+pub spans-none : (words : List ℕ) → Spans words 0 0 0
+spans-none words = record {
+  none-before = λ o l. absurd (omega arith);
+  none-after = λ o l h. absurd (omega arith);
+  some-last = λ some e. omega arith;
+  within = omega arith;
+  ordered = omega arith;
+}
+
+module _ {words : List ℕ} {n from to : ℕ} (word : ℕ) (spans : Spans words n from to) (inside : n < length words) where
+  -- a word before the new one is as it was
+  kept : (o : ℕ) → o < n → getD (set words n word) o 0 ≡ getD words o 0
+  kept o low = getD-set-other words n o word 0 (λ e. omega arith)
+
+  put : getD (set words n word) n 0 ≡ word
+  put = getD-set-same words n word 0 inside
+
+  -- so one word more is gathered
+  pub spans-more : {from′ to′ : ℕ} → Widened from to n word from′ to′ → Spans (set words n word) (n + 1) from′ to′
+  spans-more (no-mark none) = record {
+    none-before = λ o l. kept o (omega (arith, spans .ordered, spans .within)) ∙ spans .none-before o l;
+    none-after = λ o l h. elim (ℕ-discrete o n) [
+      | yes e ↦ ap (λ (j : ℕ). getD (set words n word) j 0) e ∙ put ∙ none
+      | no other ↦ kept o (omega arith) ∙ spans .none-after o l (omega arith)
+    ];
+    some-last = λ some e. spans .some-last some (sym (kept (to - 1) (omega (arith, spans .within))) ∙ e);
+    within = omega (arith, spans .within);
+    ordered = spans .ordered;
+  }
+  spans-more (first-mark mark none) = record {
+    none-before = λ o l. kept o l ∙ spans .none-after o (omega arith) l;
+    none-after = λ o l h. absurd (omega arith);
+    some-last = λ some e. mark (sym put ∙ ap (λ (j : ℕ). getD (set words n word) j 0) (omega arith) ∙ e);
+    within = omega arith;
+    ordered = omega arith;
+  }
+  spans-more (later-mark mark some-before) = record {
+    none-before = λ o l. kept o (omega (arith, spans .ordered, spans .within)) ∙ spans .none-before o l;
+    none-after = λ o l h. absurd (omega arith);
+    some-last = λ some e. mark (sym put ∙ ap (λ (j : ℕ). getD (set words n word) j 0) (omega arith) ∙ e);
+    within = omega arith;
+    ordered = omega (arith, spans .ordered, spans .within);
+  }
+
+-- all are gathered
+pub spans-all : {words : List ℕ} {n m from to : ℕ} → m ≡ n → Spans words m from to → Spans words n from to
+spans-all {words} {from = from} {to = to} e spans = subst (λ (k : ℕ). Spans words k from to) e spans
