@@ -23,8 +23,9 @@
  *   foam_check2   0                                         as foam_read                 pieces + 256 * classes
  *   foam_match    1 yes, 0 no                               0                            0
  *   foam_search   1 found, 0 nothing                        start                        end, the first byte after
- *   foam_start    1 where the accepting state is marked     0                            0
- *   foam_step     1 where the accepting state is marked     0                            0
+ *   foam_start    1 where the accepting state is marked     0; of a refusal its place    0
+ *   foam_step     1 where the accepting state is marked     1 where nothing is left,     0
+ *                                                           else 0
  *   foam_pick     1 written, 0 too short a buffer           bytes written                0
  *
  * A refusal changes no byte and no word that was lent.
@@ -91,8 +92,9 @@ uint64_t foam_start(const uint8_t *records, size_t records_length, const uint8_t
 
 /* Turns the marks into those after one more byte: a state is marked exactly when a path leads to it from a state that was
  * marked, by this one byte and then any number of empty transitions. After a start and a step for each byte of a text the
- * flag is 1 where that text is in the language. Words past the pieces are neither read nor written. Refusals: 10; 15; 12; 13
- * a bit past the last state is set, or the two bits of a shared state differ. */
+ * flag is 1 where that text is in the language. x is 1 where no state is marked any more: then no later byte marks one, so
+ * that a caller may stop there with the answer no. Words past the pieces are neither read nor written. Refusals: 10; 15; 12;
+ * 13 a bit past the last state is set, or the two bits of a shared state differ. */
 uint64_t foam_step(const uint8_t *records, size_t records_length, const uint8_t *classes, size_t classes_length,
                    uint64_t *words, size_t words_length, uint8_t byte);
 

@@ -68,6 +68,14 @@ pub struct Counts {
     pub classes: usize,
 }
 
+/// What a start or a step tells: whether the root's accepting state is marked, and whether no state is. Where nothing is left no
+/// later byte marks a state, so that a caller may stop with the answer no.
+#[derive(Clone, Copy, Debug, PartialEq, Eq)]
+pub struct Told {
+    pub accepting: bool,
+    pub nothing_left: bool,
+}
+
 /// Bytes of a record.
 pub const RECORD_SIZE: usize = 8;
 
@@ -103,6 +111,9 @@ impl Packed {
     }
     fn counts(&self) -> Counts {
         Counts { records: self.x(), pieces: self.y() % 256, classes: self.y() / 256 }
+    }
+    fn told(&self) -> Told {
+        Told { accepting: self.flag(), nothing_left: self.x() == 1 }
     }
     fn checked(self) -> Result<Packed, Refusal> {
         match self.number() {
@@ -164,12 +175,12 @@ impl Expression {
     }
 
     /// The marks to start with, and whether the empty text is in its language: [`start`].
-    pub fn start(&self, words: &mut [u64]) -> Result<bool, Refusal> {
+    pub fn start(&self, words: &mut [u64]) -> Result<Told, Refusal> {
         start(&self.records, &self.classes, words)
     }
 
     /// The marks after one more byte, and whether the text so far is in its language: [`step`].
-    pub fn step(&self, words: &mut [u64], byte: u8) -> Result<bool, Refusal> {
+    pub fn step(&self, words: &mut [u64], byte: u8) -> Result<Told, Refusal> {
         step(&self.records, &self.classes, words, byte)
     }
 }
@@ -223,25 +234,25 @@ pub fn find(records: &[u8], classes: &[u8], text: &[u8]) -> Result<Option<Range<
     packed.checked().map(|p| p.flag().then(|| p.x()..p.y()))
 }
 
-/// Writes the marks to start with into `words`, one for each piece, and answers whether the root's accepting state is marked:
-/// whether the empty text is in the language. Words past the pieces are neither read nor written.
-pub fn start(records: &[u8], classes: &[u8], words: &mut [u64]) -> Result<bool, Refusal> {
+/// Writes the marks to start with into `words`, one for each piece. The root's accepting state is marked where the empty text
+/// is in the language, and something is always left. Words past the pieces are neither read nor written.
+pub fn start(records: &[u8], classes: &[u8], words: &mut [u64]) -> Result<Told, Refusal> {
     // SAFETY: the slices are valid for their lengths for the call, and `words` is lent to it alone.
     let packed = Packed(unsafe {
         foam_start(records.as_ptr(), records.len(), classes.as_ptr(), classes.len(), words.as_mut_ptr(), words.len())
     });
-    packed.checked().map(|p| p.flag())
+    packed.checked().map(|p| p.told())
 }
 
-/// Moves the marks in `words` along one byte, and answers whether the root's accepting state is marked then. Any marks are
-/// taken that are not refused; only after a [`start`] and a step for each byte of a text does that say whether the text is in
-/// the language. Words past the pieces are neither read nor written.
-pub fn step(records: &[u8], classes: &[u8], words: &mut [u64], byte: u8) -> Result<bool, Refusal> {
+/// Moves the marks in `words` along one byte, and tells whether the root's accepting state is marked then, and whether no state
+/// is. Any marks are taken that are not refused; only after a [`start`] and a step for each byte of a text does the first say whether the
+/// text is in the language. Words past the pieces are neither read nor written.
+pub fn step(records: &[u8], classes: &[u8], words: &mut [u64], byte: u8) -> Result<Told, Refusal> {
     // SAFETY: the slices are valid for their lengths for the call, and `words` is lent to it alone.
     let packed = Packed(unsafe {
         foam_step(records.as_ptr(), records.len(), classes.as_ptr(), classes.len(), words.as_mut_ptr(), words.len(), byte)
     });
-    packed.checked().map(|p| p.flag())
+    packed.checked().map(|p| p.told())
 }
 
 /// Which later lines of an input match its first one: the lines that the program `pick` prints, at the front of `output`.

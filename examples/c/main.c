@@ -55,12 +55,20 @@ int main(void) {
     if (flag(answer))
         printf("found %.*s from %zu to %zu\n", (int)(y(answer) - x(answer)), text + x(answer), x(answer), y(answer));
 
-    /* Step: the marks are yours to keep, and after a start each step says whether the bytes so far match. */
+    /* Step: the marks are yours to keep, and after a start each step says whether the bytes so far match, and whether nothing
+     * is left: then no text that begins so matches, and the rest need not be read. */
     uint64_t words[FOAM_MOST_WORDS];
-    foam_start(records, records_length, classes, classes_length, words, FOAM_MOST_WORDS);
-    for (const char *at = "02-29"; *at != 0; at++) {
-        answer = foam_step(records, records_length, classes, classes_length, words, FOAM_MOST_WORDS, (uint8_t)*at);
-        printf("after %c: %s\n", *at, flag(answer) ? "yes" : "no");
+    const char *texts[] = {"02-29", "03-01"};
+    for (size_t i = 0; i < sizeof texts / sizeof *texts; i++) {
+        foam_start(records, records_length, classes, classes_length, words, FOAM_MOST_WORDS);
+        for (const char *at = texts[i]; *at != 0; at++) {
+            answer = foam_step(records, records_length, classes, classes_length, words, FOAM_MOST_WORDS, (uint8_t)*at);
+            printf("after %c: %s\n", *at, flag(answer) ? "yes" : "no");
+            if (x(answer) == 1) {
+                printf("nothing is left\n");
+                break;
+            }
+        }
     }
 
     /* The first syntax has no classes: its lists take a class buffer of length 0. */

@@ -34,11 +34,19 @@ fn main() -> Result<(), Refusal> {
         println!("found {} from {} to {}", &text[part.clone()], part.start, part.end);
     }
 
-    // Step: the marks are yours to keep, and after a start each step says whether the bytes so far match.
+    // Step: the marks are yours to keep, and after a start each step says whether the bytes so far match, and whether nothing is
+    // left: then no text that begins so matches, and the rest need not be read.
     let mut words = [0; MOST_WORDS];
-    february.start(&mut words)?;
-    for byte in "02-29".bytes() {
-        println!("after {}: {}", byte as char, yes_or_no(february.step(&mut words, byte)?));
+    for text in ["02-29", "03-01"] {
+        february.start(&mut words)?;
+        for byte in text.bytes() {
+            let told = february.step(&mut words, byte)?;
+            println!("after {}: {}", byte as char, yes_or_no(told.accepting));
+            if told.nothing_left {
+                println!("nothing is left");
+                break;
+            }
+        }
     }
 
     // The first syntax has no classes.

@@ -1,12 +1,14 @@
 -- Words that hold the marks after a text are what a start or a step leaves: so what these promise is shown by a test on
 -- words.
-use Prim.Native.Nat.{ℕ}
+use Prim.Native.Nat.{ℕ, zero, suc, _<_}
 use native.Mathlib.Omega.{arith}
 use mathlib.Core.Path.{_≡_, refl, sym, _∙_, subst}
-use mathlib.Core.Bool.{Bool}
+use mathlib.Core.Bool.{Bool, true, false, _&&_, false≢true}
 use mathlib.Core.Logic.{_↔_, Iff·trans, Iff·symm}
 use mathlib.Core.List.{List, [], _∷_, _++_}
-use lib.ListN.{length, drop, drop-of-length-le}
+use lib.ListN.{length, getD, drop, drop-of-length-le}
+use lib.Dec.{eqb}
+use borrow.Author.Tests.{eqb-true, eq-eqb}
 use Rattle.language.specs.Tree.{Tree}
 use Rattle.language.specs.Automaton.{State, States, accepting, Started, Stepped, After}
 use Rattle.language.specs.Nested.{Nested, whole, origin}
@@ -21,11 +23,39 @@ use Rattle.tables.specs.Words.{Holds, Set-of}
 use Rattle.tables.specs.Tables.{Holding, Answered}
 use Rattle.marks.specs.Answer.{marking}
 use Rattle.marks.specs.Promise.{Hold, Classed, Starts, started, Steps, stepped}
-use Rattle.marks.specs.Inner.{holding-marks}
+use Rattle.marks.specs.BitsOfWords.Zero.{All-zero}
+use Rattle.marks.specs.Inner.{some-started, holding-marks}
 
 -- a word for each piece and no more
 abbrev pub As-many : Tree Leaf → List ℕ → Type 0
 As-many t words = length words ≡ piece-count t
+
+-- whether all words are 0
+abbrev pub all-zero : List ℕ → Bool
+all-zero [] = true
+all-zero (word ∷ words) = eqb word 0 && all-zero words
+
+-- it is what the words of the pieces are
+zero-first : (word : ℕ) (words : List ℕ) (test rest : Bool) → (test ≡ true) ↔ (word ≡ 0)
+    → (rest ≡ true) ↔ All-zero (length words) words
+    → (test && rest ≡ true) ↔ All-zero (suc (length words)) (word ∷ words)
+zero-first word words true rest first others = (
+  λ e. λ k h. at k (first .0 refl) (others .0 e) h,
+  λ zeros. others .1 (λ k h. zeros (suc k) (omega arith)),
+)
+  where
+    at : (k : ℕ) → word ≡ 0 → All-zero (length words) words → k < suc (length words) → getD (word ∷ words) k 0 ≡ 0
+    at zero e zeros h = e
+    at (suc k) e zeros h = zeros k (omega arith)
+zero-first word words false rest first others = (
+  λ e. absurd (false≢true e),
+  λ zeros. absurd (false≢true (first .1 (zeros 0 (omega arith)))),
+)
+
+all-zero-exactly : (words : List ℕ) → (all-zero words ≡ true) ↔ All-zero (length words) words
+all-zero-exactly [] = (λ e. λ k h. absurd (omega arith), λ zeros. refl)
+all-zero-exactly (word ∷ words) =
+    zero-first word words (eqb word 0) (all-zero words) (eqb-true word 0, eq-eqb word 0) (all-zero-exactly words)
 
 -- words past the pieces are as before where there are none
 no-others : (t : Tree Leaf) (before after : List ℕ) → As-many t before → As-many t after
@@ -49,7 +79,7 @@ same-set classes t w b before holding p =
 module _ {list classes : List ℕ} {t : Tree Leaf} (good : Good list t) (classed : Classed classes t) (before after : List ℕ) (accepts : Bool)
     (lent : As-many t before) (left : As-many t after) where
   -- the words that hold the marks before the first byte are what a start leaves
-  pub starts-by : Answered classes t [] after accepts → Starts list classes before after (marking accepts)
+  pub starts-by : Answered classes t [] after accepts → Starts list classes before after (marking accepts false)
   starts-by a =
       started (record {
         t = t;
@@ -64,11 +94,12 @@ module _ {list classes : List ℕ} {t : Tree Leaf} (good : Good list t) (classed
         };
         marks = refl;
         answer = Iff·trans (a .answer) (Iff·symm (accepts-exactly (meaning classes) t []));
+        left = (λ e. absurd (false≢true e), λ zeros. absurd (some-started classes t after (a .holding .modelled) zeros));
       })
 
   -- those that hold the marks after one more byte are what a step leaves
   pub steps-by : (w : List ℕ) (b : ℕ) → Holding classes t w before → Answered classes t (w ++ (b ∷ [])) after accepts
-      → Steps list classes b before after (marking accepts)
+      → Steps list classes b before after (marking accepts (all-zero after))
   steps-by w b from a =
       let same = same-set classes t w b before from in
       stepped (record {
@@ -86,6 +117,7 @@ module _ {list classes : List ℕ} {t : Tree Leaf} (good : Good list t) (classed
           marks = refl;
           answer =
               Iff·trans (a .answer) (Iff·trans (Iff·symm (accepts-exactly (meaning classes) t (w ++ (b ∷ [])))) (same accepting));
+          left = rw left at (all-zero-exactly after);
         };
         from-marks = holding-marks from;
       })

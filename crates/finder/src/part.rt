@@ -2,7 +2,6 @@
 use marks::inner::advance;
 use marks::inner::begin;
 use marks::inner::copy;
-use marks::inner::nothing_left;
 use tree::limits::MOST_PIECES;
 ghost use Prim.Native.Nat.{ℕ, _≤_};
 ghost use mathlib.Core.Path.{_≡_};
@@ -65,10 +64,7 @@ fn furthest_end(
     let mut best = with_end(empty, start, End::Nowhere);
     let mut end = start;
     while end < text.len() {
-        if nothing_left(&words, count) {
-            return best;
-        }
-        let yes = advance(
+        let told = advance(
             reach,
             codes,
             runs,
@@ -79,8 +75,13 @@ fn furthest_end(
             &mut words,
             text[end],
         );
+        let yes = told.accepting;
+        let over = told.nothing;
         end += 1;
         best = with_end(yes, end, best);
+        if over {
+            return best;
+        }
     }
     best
 }

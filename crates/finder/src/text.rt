@@ -1,7 +1,6 @@
 // Whole-text match over the tables of a list.
 use marks::inner::advance;
 use marks::inner::begin;
-use marks::inner::nothing_left;
 use tree::limits::MOST_PIECES;
 ghost use Prim.Native.Nat.{ℕ};
 ghost use mathlib.Core.Path.{_≡_};
@@ -33,10 +32,7 @@ pub fn text_matches(
     let mut yes = begin(reach, codes, runs, stands, tops, count, &mut words);
     let mut i = 0;
     while i < text.len() {
-        if nothing_left(&words, count) {
-            return false;
-        }
-        yes = advance(
+        let told = advance(
             reach,
             codes,
             runs,
@@ -47,6 +43,10 @@ pub fn text_matches(
             &mut words,
             text[i],
         );
+        if told.nothing {
+            return false;
+        }
+        yes = told.accepting;
         i += 1;
     }
     yes

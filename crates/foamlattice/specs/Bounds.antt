@@ -391,18 +391,20 @@ pub searching-unpacks : (list classes text : List ℕ) (r : ℕ) (m : Searching 
 searching-unpacks list classes text r m = found-unpacks r (m .numbers) (search-ranges (m .right)) (m .as-number)
 
 marks-unpacks : (r : ℕ) (n : Marks-numbers) → Marks-ranges n → r ≡ marks-packed n
-    → Unpacks r (n .refusal) (cond (n .accepting) 1 0) (n .place) 0
+    → Unpacks r (n .refusal) (cond (n .accepting) 1 0) (n .place + cond (n .nothing) 1 0) 0
 marks-unpacks r n known e =
     case-unpacks r _ _ _ 0 (small _ _ (known .refusal-small) (flag-small (n .accepting)))
-    (omega (arith, known .front)) (omega arith) e
+    (omega (arith, known .front, flag-small (n .nothing))) (omega arith) e
 
 pub starting-unpacks : (list classes before after : List ℕ) (r : ℕ) (m : Starting list classes before after r)
-    → Unpacks r (m .numbers .refusal) (cond (m .numbers .accepting) 1 0) (m .numbers .place) 0
+    → Unpacks r (m .numbers .refusal) (cond (m .numbers .accepting) 1 0)
+    (m .numbers .place + cond (m .numbers .nothing) 1 0) 0
 starting-unpacks list classes before after r m = marks-unpacks r (m .numbers) (start-ranges (m .right)) (m .as-number)
 
 pub stepping-unpacks : (list classes : List ℕ) (byte : ℕ) (before after : List ℕ) (r : ℕ)
     (m : Stepping list classes byte before after r)
-    → Unpacks r (m .numbers .refusal) (cond (m .numbers .accepting) 1 0) (m .numbers .place) 0
+    → Unpacks r (m .numbers .refusal) (cond (m .numbers .accepting) 1 0)
+    (m .numbers .place + cond (m .numbers .nothing) 1 0) 0
 stepping-unpacks list classes byte before after r m =
     marks-unpacks r (m .numbers) (step-ranges (m .right)) (m .as-number)
 

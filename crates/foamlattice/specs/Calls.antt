@@ -1,7 +1,7 @@
 -- A caller's chain: `foam_start`, then `foam_step` for each byte of a text, each from the words that the call before
 -- left. By a good list, with class records and words enough, no call is refused, and the flag says whether the text is
 -- in the language.
-use Prim.Native.Nat.{ℕ, _≤_}
+use Prim.Native.Nat.{ℕ, _+_, _≤_}
 use native.Mathlib.Omega.{arith}
 use mathlib.Core.Path.{_≡_, refl, ap, _∙_}
 use mathlib.Core.Bool.{Bool, true, false, cond, false≢true}
@@ -15,7 +15,8 @@ use Rattle.marks.specs.declared.numbers.Numbers.{Numbers}
 use Rattle.marks.specs.Promise.{Classed}
 use Rattle.marks.specs.Chain.{Chain, begun, further, Follows}
 use Rattle.marks.specs.ChainFollows.{chain-follows}
-use Rattle.foamlattice.specs.Packed.{number-in, flag-in, Unpacks}
+use Rattle.marks.specs.NothingLeft.{nothing-follows}
+use Rattle.foamlattice.specs.Packed.{x-in, number-in, flag-in, Unpacks}
 use Rattle.foamlattice.specs.Promise.{Starting, Stepping}
 use Rattle.foamlattice.specs.Bounds.{starting-unpacks, stepping-unpacks}
 
@@ -29,7 +30,8 @@ pub data Calls (list classes before : List ℕ) : (w after : List ℕ) → ℕ �
 record Last (list classes before w after : List ℕ) (r : ℕ) : Type 0 where
   pub numbers : Numbers
   pub chain : Chain list classes before w after numbers
-  pub unpacked : Unpacks r (numbers .refusal) (cond (numbers .accepting) 1 0) (numbers .place) 0
+  pub unpacked : Unpacks r (numbers .refusal) (cond (numbers .accepting) 1 0)
+      (numbers .place + cond (numbers .nothing) 1 0) 0
 
 last-call : {list classes before w after : List ℕ} {r : ℕ} → Calls list classes before w after r
     → Last list classes before w after r
@@ -47,10 +49,12 @@ flag-set : (flag : Bool) → (_≡_ {A = ℕ} (cond flag 1 0) 1) ↔ (flag ≡ t
 flag-set true = (λ e. refl, λ e. refl)
 flag-set false = (λ e. absurd (omega arith), λ e. absurd (false≢true e))
 
--- no call was refused, and the last one's flag says whether the bytes so far are in the language
+-- no call was refused, the last one's flag says whether the bytes so far are in the language, and where its x is 1 no
+-- text that begins with them is
 pub record Says-of (classes : List ℕ) (t : Tree Leaf) (w : List ℕ) (r : ℕ) : Type 0 where
   pub not-refused : number-in r ≡ 0
   pub flag : (flag-in r ≡ 1) ↔ Matches classes t w
+  pub stops : x-in r ≡ 1 → (v : List ℕ) → Matches classes t (w ++ v) → ⊥
 
 pub calls-follow : {list classes before w after : List ℕ} {r : ℕ} (t : Tree Leaf) → Good list t → Classed classes t
     → piece-count t ≤ length before → Calls list classes before w after r → Says-of classes t w r
@@ -61,4 +65,7 @@ calls-follow {r = r} t good classed enough calls =
       not-refused = last .unpacked .number-back ∙ ap (λ (n : Numbers). n .refusal) (follows .marks);
       flag =
           Iff·trans (rw (last .unpacked .flag-back) (flag-set (last .numbers .accepting))) (follows .answer);
+      stops = λ e. nothing-follows follows
+          (flag-set (last .numbers .nothing) .0
+          (omega (arith, last .unpacked .x-back, ap (λ (n : Numbers). n .place) (follows .marks))));
     }

@@ -144,7 +144,12 @@ fn pack_marked(numbers: marks::numbers::Numbers) -> u64
     requires { ⌜ Marks-ranges numbers ⌝ }
     ensures { λ r. ⌜ r ≡ marks-packed numbers ⌝ }
 {
-    pack(numbers.refusal, numbers.accepting, numbers.place, 0)
+    pack(
+        numbers.refusal,
+        numbers.accepting,
+        numbers.place + numbers.nothing as usize,
+        0,
+    )
 }
 
 // Writes the marks to start with.

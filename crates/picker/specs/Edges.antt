@@ -36,7 +36,7 @@ use Rattle.finder.specs.Decide.{any-split, any-repeat, leaf-text, matched, matc
 use Rattle.finder.specs.DecideExactly.{matches-exactly}
 use Rattle.finder.specs.Searched.{latest-end, answer-from, searched, searched-exactly}
 use Rattle.finder.specs.Computed.{walked, moved}
-use Rattle.finder.specs.Leaving.{As-many, starts-by, steps-by}
+use Rattle.finder.specs.Leaving.{As-many, all-zero, starts-by, steps-by}
 use Rattle.finder.specs.Held.{
   held-after,
   same-answer as same-test,
@@ -91,13 +91,18 @@ abbrev pub Each-step : (list words : List ℕ) → List Step → Type 0
 Each-step list words [] = Unit {0}
 Each-step list words (step ∷ later) =
     Steps list [] (step .byte) words (step .left .words)
-    (record { refusal = 0; place = 0; accepting = step .left .accepting })
+    (record {
+      refusal = 0;
+      place = 0;
+      accepting = step .left .accepting;
+      nothing = all-zero (step .left .words);
+    })
     × Each-step list (step .left .words) later
 
 -- a start, from any words, as many as it leaves; then the steps
 pub record Marking (list : List ℕ) (start : Left) (steps : List Step) : Type 0 where
   pub starts : (words : List ℕ) → length words ≡ length (start .words)
-      → Starts list [] words (start .words) (record { refusal = 0; place = 0; accepting = start .accepting })
+      → Starts list [] words (start .words) (record { refusal = 0; place = 0; accepting = start .accepting; nothing = false })
   pub goes-on : Each-step list (start .words) steps
 
 -- what search says of a text

@@ -44,6 +44,7 @@ upwards-append n zero k = rw (zero-plus k, plus-zero n)
   where
     zero-plus : (k : ℕ) → 0 + k ≡ k
     zero-plus k = omega arith
+
     plus-zero : (n : ℕ) → n + 0 ≡ n
     plus-zero n = omega arith
 upwards-append n (suc j) k =

@@ -178,13 +178,13 @@ passes (escaped p) = λ place before groups e. record { next = place + 1 + 1; co
 passes (any-but-line-end p) = λ place before groups e. record { next = place + 1; counted = omega arith; same = rw p }
 passes {syntax} (bracketed p r) =
     λ place before groups e.
-        let on = class-found r (place + 1) in
-        record {
-          next = on .next;
-          counted = omega (arith, on .counted);
-          same = rw p (scan-class syntax place before groups _ (place + 1) _ _
-              ∙ ap (after-class syntax place before groups) (on .same));
-        }
+    let on = class-found r (place + 1) in
+    record {
+      next = on .next;
+      counted = omega (arith, on .counted);
+      same = rw p (scan-class syntax place before groups _ (place + 1) _ _
+          ∙ ap (after-class syntax place before groups) (on .same));
+    }
 passes (group h r) = grouped h (passes r)
 passes (no-star r) = passes r
 passes (one-star r) = stars (passes r)

@@ -9,7 +9,6 @@ use Rattle.language.specs.Tree.{Tree}
 use Rattle.tree.specs.Limits.{most-pieces}
 use Rattle.tree.specs.Leaf.{Leaf}
 use Rattle.tables.specs.Tables.{Prepared, Ready}
-use Rattle.marks.specs.BitsOfWords.AllZero.{All-zero}
 use Rattle.marks.specs.Texts.{nothing-left}
 use Rattle.marks.specs.Inner.{running, holding-marks, answered-copy, answered-next}
 use Rattle.finder.specs.Parts.{end-of}
@@ -20,7 +19,6 @@ use Rattle.finder.proofs.part.furthest_end.Reads as reads
 use Rattle.finder.proofs.part.furthest_end.Lts as lts
 use Rattle.marks.proofs.inner.advance.Reads as advance-reads
 use Rattle.marks.proofs.inner.copy.Reads as copy-reads
-use Rattle.marks.proofs.inner.nothing_left.Reads as nothing-left-reads
 use Rattle.finder.proofs.part.with_end.Reads as with-end-reads
 
 abbrev Inv-loop : tie.InvT-loop
@@ -34,6 +32,10 @@ abbrev μ-loop : tie.MeasureT-loop
 -- where the call began, seen from the copy of the first marks
 abbrev entry : tie.After-copy Inv-loop μ-loop → tie.Start Inv-loop μ-loop
 entry c = c .before .before .before .before .before .before .before .before .before .before
+
+-- the loop, seen from a byte that was taken
+abbrev byte-taken : tie.After-advance Inv-loop μ-loop → tie.At-loop Inv-loop μ-loop
+byte-taken c = c .before .before .before .before
 
 slice-aggregate-copy : tie.Need-slice-aggregate-copy Inv-loop μ-loop
 slice-aggregate-copy c = search needs
@@ -58,22 +60,6 @@ loop-holds c = (
       (begun .pre .1 .1 t prepared))),
 )
 
-slice-aggregate-nothing-left : tie.Need-slice-aggregate-nothing-left Inv-loop μ-loop
-slice-aggregate-nothing-left c = search needs
-
-nothing-left-requires : tie.Need-nothing-left-requires Inv-loop μ-loop
-nothing-left-requires c κs = search needs
-
-returns : tie.Need-returns Inv-loop μ-loop
-returns c = λ t prepared.
-    let head = c .before .before .before .before in
-    let at = head .loop .inv in
-    let standing = at .4 t prepared in
-    let none : All-zero (entry (head .before .before .before) .args .count) (head .loop .words) =
-    c .before .nothing-left .ensures .holds (c .if1 .taken) in
-    settled-early _ t _ standing (at .0) (at .1)
-    (nothing-left (standing .holding) (rw (prepared .counted) at none))
-
 slice-aggregate-advance : tie.Need-slice-aggregate-advance Inv-loop μ-loop
 slice-aggregate-advance c = search needs
 
@@ -82,14 +68,26 @@ shared-slice-read-advance c = search needs
 
 advance-requires : tie.Need-advance-requires Inv-loop μ-loop
 advance-requires c κs =
-    let at = c .before .before .before .before .before .before .loop .inv in
+    let at = c .before .before .before .loop .inv in
     running (at .3) (at .2) (λ t prepared. at .4 t prepared .holding .clean)
 
 add-end : tie.Need-add-end Inv-loop μ-loop
-add-end c = omega (arith, c .before .before .before .before .before .before)
+add-end c = omega (arith, c .before .before .before .before .before)
 
 with-end-requires-2 : tie.Need-with-end-requires-2 Inv-loop μ-loop
 with-end-requires-2 c κs = search needs
+
+returns : tie.Need-returns Inv-loop μ-loop
+returns c = λ t prepared.
+    let taken = c .before .before .before in
+    let at = byte-taken taken .loop .inv in
+    let standing = at .4 t prepared in
+    let went = taken .advance .ensures t prepared (holding-marks (standing .holding)) in
+    let next = standing-next _ t _ _ _ _ _ _ (at .0) (omega arith) (standing .so-far)
+    (answered-next (standing .holding) went) in
+    rw (c .before .with-end2 .ensures)
+    (settled-early _ t _ next (omega (arith, at .0)) (omega arith)
+    (nothing-left (next .holding) (went .left .0 (c .if1 .taken))))
 
 loop-less : tie.Need-loop-less Inv-loop μ-loop
 loop-less c = search needs
@@ -101,12 +99,13 @@ loop-again c = (
   search needs,
   search needs,
   λ t prepared.
-      let at = c .before .before .before .before .before .before .before .before .before .loop .inv in
+      let taken = c .before .before .before in
+      let at = byte-taken taken .loop .inv in
       let standing = at .4 t prepared in
-      rw (c .with-end2 .ensures)
+      rw (c .before .with-end2 .ensures)
       (standing-next _ t _ _ _ _ _ _ (at .0) (omega arith) (standing .so-far)
       (answered-next (standing .holding)
-      (c .before .before .advance .ensures t prepared (holding-marks (standing .holding))))),
+      (taken .advance .ensures t prepared (holding-marks (standing .holding))))),
 )
 
 returns-2 : tie.Need-returns-2 Inv-loop μ-loop
@@ -122,14 +121,12 @@ furthest-end-spec =
     copy-requires
     with-end-requires
     loop-holds
-    slice-aggregate-nothing-left
-    nothing-left-requires
-    returns
     slice-aggregate-advance
     shared-slice-read-advance
     advance-requires
     add-end
     with-end-requires-2
+    returns
     loop-less
     loop-again
     returns-2)

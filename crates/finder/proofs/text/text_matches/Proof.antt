@@ -49,8 +49,8 @@ begun c = c .before .before
 abbrev entry : tie.At-loop Inv-loop μ-loop → tie.Start Inv-loop μ-loop
 entry c = begun c .before .before .before .before .before .before .before .before .before
 
-abbrev byte-taken : tie.After-words5 Inv-loop μ-loop → tie.At-loop Inv-loop μ-loop
-byte-taken c = c .before .before .before .before .before .before .before .before
+abbrev byte-taken : tie.After-advance Inv-loop μ-loop → tie.At-loop Inv-loop μ-loop
+byte-taken c = c .before .before .before .before
 
 slice-aggregate-begin : tie.Need-slice-aggregate-begin Inv-loop μ-loop
 slice-aggregate-begin c = search needs
@@ -62,19 +62,6 @@ loop-holds : tie.Need-loop-holds Inv-loop μ-loop
 loop-holds c =
     (search needs, search needs, search needs, λ t prepared. answered-first (c .before .begin .ensures _ t prepared))
 
-slice-aggregate-nothing-left : tie.Need-slice-aggregate-nothing-left Inv-loop μ-loop
-slice-aggregate-nothing-left c = search needs
-
-nothing-left-requires : tie.Need-nothing-left-requires Inv-loop μ-loop
-nothing-left-requires c κs = search needs
-
-returns : tie.Need-returns Inv-loop μ-loop
-returns c = λ t prepared.
-    let looking = c .before .before .before .before in
-    never-matches (entry looking .args .classes .now) t (entry looking .args .text .now) (looking .loop .i)
-    (nothing-left (looking .loop .inv .3 t prepared .holding)
-    (rw (prepared .counted) at (c .before .nothing-left .ensures .holds (c .if1 .taken))))
-
 slice-aggregate-advance : tie.Need-slice-aggregate-advance Inv-loop μ-loop
 slice-aggregate-advance c = search needs
 
@@ -83,11 +70,21 @@ shared-slice-read-advance c = search needs
 
 advance-requires : tie.Need-advance-requires Inv-loop μ-loop
 advance-requires c κs =
-    let at = c .before .before .before .before .before .before .loop .inv in
+    let at = c .before .before .before .loop .inv in
     running (at .2) (at .1) (λ t prepared. at .3 t prepared .holding .clean)
 
+returns : tie.Need-returns Inv-loop μ-loop
+returns c = λ t prepared.
+    let taken = c .before .before in
+    let looking = byte-taken taken in
+    let holding = looking .loop .inv .3 t prepared .holding in
+    let went = taken .advance .ensures t prepared (holding-marks holding) in
+    never-matches (entry looking .args .classes .now) t (entry looking .args .text .now) (looking .loop .i + 1)
+    (rw (← take-next (entry looking .args .text .now) (looking .loop .i) (omega arith))
+    (nothing-left (answered-next holding went .holding) (went .left .0 (c .if1 .taken))))
+
 add-i : tie.Need-add-i Inv-loop μ-loop
-add-i c = omega (arith, c .before .before .before .before .before .before .before)
+add-i c = omega (arith, byte-taken (c .before .before))
 
 loop-less : tie.Need-loop-less Inv-loop μ-loop
 loop-less c = search needs
@@ -98,10 +95,11 @@ loop-again c = (
   search needs,
   search needs,
   λ t prepared.
-      let looking = byte-taken c in
+      let taken = c .before .before in
+      let looking = byte-taken taken in
       let holding = looking .loop .inv .3 t prepared .holding in
       rw (← take-next (entry looking .args .text .now) (looking .loop .i) (omega arith))
-      (answered-next holding (c .before .advance .ensures t prepared (holding-marks holding))),
+      (answered-next holding (taken .advance .ensures t prepared (holding-marks holding))),
 )
 
 returns-2 : tie.Need-returns-2 Inv-loop μ-loop
@@ -118,12 +116,10 @@ text-matches-spec =
     slice-aggregate-begin
     begin-requires
     loop-holds
-    slice-aggregate-nothing-left
-    nothing-left-requires
-    returns
     slice-aggregate-advance
     shared-slice-read-advance
     advance-requires
+    returns
     add-i
     loop-less
     loop-again
