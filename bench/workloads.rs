@@ -154,6 +154,16 @@ fn words_by_classes() -> Workload {
     }
 }
 
+/// A text of this length that fails at its third byte, of which a match need not read more.
+fn early(name: &'static str, length: usize) -> Workload {
+    let mut text = b"02x".to_vec();
+    text.resize(length, b'2');
+    Workload { name, syntax: Syntax::First, expressions: vec![b"02-2(8|9)2*".to_vec()], texts: vec![text], as_lines: false }
+}
+
 pub fn all() -> Vec<Workload> {
-    vec![dates(), words(), stars(), log(), dates_by_classes(), log_by_classes(), words_by_classes()]
+    let early_failures = [early("fails at its third byte: 10 bytes", 10), early("fails at its third byte: 60,000 bytes", 60_000)];
+    let mut all = vec![dates(), words(), stars(), log(), dates_by_classes(), log_by_classes(), words_by_classes()];
+    all.extend(early_failures);
+    all
 }

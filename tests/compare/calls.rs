@@ -79,6 +79,10 @@ impl Answer {
     fn yes_or_no(yes: bool) -> Answer {
         Answer { refusal: 0, flag: yes as u8, x: 0, y: 0 }
     }
+    /// Of a start or a step: whether the last state, the root's accepting one, is marked, and whether none is.
+    fn marked(marks: &[bool]) -> Answer {
+        Answer { refusal: 0, flag: marks[marks.len() - 1] as u8, x: !marks.contains(&true) as usize, y: 0 }
+    }
     fn found(part: Option<std::ops::Range<usize>>) -> Answer {
         part.map_or(Answer::yes_or_no(false), |part| Answer { refusal: 0, flag: 1, x: part.start, y: part.end })
     }
@@ -308,7 +312,7 @@ impl List {
             Ok((_, automaton)) => {
                 let marks = automaton.start();
                 after[..self.pieces()].copy_from_slice(&automaton.words(&marks));
-                Answer::yes_or_no(*marks.last().unwrap())
+                Answer::marked(&marks)
             }
         };
         hold("starting", input, Answer::of(answer), expected);
@@ -331,7 +335,7 @@ impl List {
                 Some(marks) => {
                     let marks = automaton.step(&marks, byte);
                     after[..self.pieces()].copy_from_slice(&automaton.words(&marks));
-                    Answer::yes_or_no(*marks.last().unwrap())
+                    Answer::marked(&marks)
                 }
             },
         };

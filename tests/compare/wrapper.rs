@@ -4,7 +4,7 @@
 pub mod foamlattice;
 
 use foamlattice::{
-    is_match, pick, read, read_second, start, step, Counts, Expression, Refusal, MOST_CLASS_BYTES, MOST_OUTPUT,
+    is_match, pick, read, read_second, start, step, Counts, Expression, Refusal, Told, MOST_CLASS_BYTES, MOST_OUTPUT,
     MOST_RECORD_BYTES, MOST_WORDS,
 };
 
@@ -14,6 +14,10 @@ fn first(e: &[u8]) -> Expression {
 
 fn second(e: &[u8]) -> Expression {
     Expression::second(e).expect("a good expression")
+}
+
+fn told(accepting: bool, nothing_left: bool) -> Told {
+    Told { accepting, nothing_left }
 }
 
 fn refused<T>(number: u8, place: usize) -> Result<T, Refusal> {
@@ -43,9 +47,9 @@ fn compare_first() -> usize {
 
     let mut words = [0; MOST_WORDS];
     let steps = first(b"a*b");
-    assert_eq!((steps.start(&mut words), words[0]), (Ok(false), 55));
-    for (byte, yes, word) in [(b'a', false, 60), (b'b', true, 192), (b'a', false, 0)] {
-        assert_eq!((steps.step(&mut words, byte), words[0]), (Ok(yes), word));
+    assert_eq!((steps.start(&mut words), words[0]), (Ok(told(false, false)), 55));
+    for (byte, yes, word) in [(b'a', false, 60), (b'b', true, 192), (b'a', false, 0), (b'b', false, 0)] {
+        assert_eq!((steps.step(&mut words, byte), words[0]), (Ok(told(yes, word == 0)), word));
     }
     assert_eq!(steps.start(&mut []), refused(12, 0));
     assert_eq!(steps.step(&mut [256], b'a'), refused(13, 0));

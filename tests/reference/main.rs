@@ -97,11 +97,11 @@ fn words(example: &str) -> Vec<u64> {
 fn refusal(example: &str) -> u8 {
     let list = list(example);
     let answer = match after(example, " on ") {
-        Some(length) => list.is_match(&vec![b'a'; length]),
-        None if example.contains(" from ") => list.step(&mut words(example), b'a'),
-        None => list.start(&mut words(example)),
+        Some(length) => list.is_match(&vec![b'a'; length]).err(),
+        None if example.contains(" from ") => list.step(&mut words(example), b'a').err(),
+        None => list.start(&mut words(example)).err(),
     };
-    answer.map_or_else(|refused| refused.number, |_| 0)
+    answer.map_or(0, |refused| refused.number)
 }
 
 /// The words and the flag after a start and a step for each byte of a text.
@@ -109,7 +109,7 @@ fn marks(list: &Expression, text: &str, pieces: usize) -> (Vec<usize>, bool) {
     let mut words = vec![0; pieces];
     let start = list.start(&mut words);
     let flag = text.bytes().fold(start, |_, byte| list.step(&mut words, byte));
-    (words.iter().map(|w| *w as usize).collect(), flag == Ok(true))
+    (words.iter().map(|w| *w as usize).collect(), flag.is_ok_and(|told| told.accepting))
 }
 
 /// What `pick` prints for an example's input.
