@@ -90,11 +90,12 @@ fn listed_edits(row: &str) -> Vec<String> {
     edits
 }
 
-/// The edits that the crates have.
+/// The edits that there are: of a crate, tried by the gate, and of tests/edits, tried by hand.
 fn edits() -> BTreeSet<String> {
-    let folders = crates().into_iter().map(|c| format!("{c}/must-fail"));
-    let entries = folders.filter_map(|f| Some((fs::read_dir(format!("crates/{f}")).ok()?, f)));
-    entries.flat_map(|(d, f)| d.flatten().map(move |e| format!("{f}/{}", e.file_name().to_string_lossy()))).collect()
+    let folders =
+        crates().into_iter().flat_map(|c| [(format!("crates/{c}/must-fail"), c.clone()), (format!("tests/edits/{c}"), c)]);
+    let entries = folders.filter_map(|(f, c)| Some((fs::read_dir(f).ok()?, c)));
+    entries.flat_map(|(d, c)| d.flatten().map(move |e| format!("{c}/must-fail/{}", e.file_name().to_string_lossy()))).collect()
 }
 
 /// A table of definitions, file by file in reading order, and how many lines they have together.
