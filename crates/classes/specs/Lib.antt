@@ -1,4 +1,5 @@
--- What a class is: its bytes one after the other as the scanner takes them, its form as the prose has it, and its record.
+-- What a class is: its bytes one after the other as the scanner takes them, its form as the prose has it, and its
+-- record.
 pub mod Class
 pub mod ClassGrammar
 pub mod Packed

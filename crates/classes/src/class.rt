@@ -182,7 +182,8 @@ fn item_value(all_but: bool) -> u8
 fn items(expr: &[u8], at: usize, members: &mut [u8], all_but: bool) -> ClassPart
     requires within { ⌜ at ≤ length (now expr) ⌝ }
     requires empty { ⌜ Members (gathered «all_but» []) (now members) ⌝ }
-    ensures { λ r. ⌜ Class-answer (now (expr .entry)) at (run-from (now (expr .entry)) at (gathered «all_but» []) item-due)
+    ensures { λ r. ⌜ Class-answer (now (expr .entry)) at (run-from (now (expr .entry)) at (gathered «all_but» [])
+        item-due)
         (now (members .exit)) r ⌝ }
 {
     let value = item_value(all_but);

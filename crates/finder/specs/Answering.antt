@@ -24,7 +24,8 @@ use Rattle.finder.specs.Progress.{
 
 -- where search stands at the end e of parts from s: the words hold the marks after the part, and `best` is the latest
 -- end so far
-pub record Looking (classes : List ℕ) (t : Tree Leaf) (text : List ℕ) (s e : ℕ) (words : List ℕ) (best : Option ℕ) : Type 0 where
+pub record Looking (classes : List ℕ) (t : Tree Leaf) (text : List ℕ) (s e : ℕ) (words : List ℕ) (best : Option ℕ)
+    : Type 0 where
   pub holding : Holding classes t (part s e text) words
   pub so-far : Best-so-far (Matches classes t) text s e best
 
@@ -53,7 +54,8 @@ module _ (classes : List ℕ) (t : Tree Leaf) (text : List ℕ) where
       → Answered classes t (part s e text ++ (getD text e 0 ∷ [])) words yes'
       → Looking classes t text s (e + 1) words (better yes' (e + 1) best)
   standing-next s e words yes' best ordered inside so-far answered =
-      let here : Answered classes t (part s (e + 1) text) words yes' = rw (part-next s e text ordered inside) answered in
+      let here : Answered classes t (part s (e + 1) text) words yes' = rw (part-next s e text ordered inside)
+      answered in
       record {
         holding = here .holding;
         so-far = so-far-next (Matches classes t) text yes' best s e so-far
@@ -70,7 +72,8 @@ module _ (classes : List ℕ) (t : Tree Leaf) (text : List ℕ) where
       none-on (part e j text) (rw (part-join s e j text ordered (omega arith) inside) at (found .belongs)))
 
   -- at the end of the text the latest end so far is the latest
-  pub settled-at-end : {s e : ℕ} {words : List ℕ} {best : Option ℕ} → Looking classes t text s e words best → length text ≤ e
+  pub settled-at-end : {s e : ℕ} {words : List ℕ} {best : Option ℕ} → Looking classes t text s e words best
+      → length text ≤ e
       → Furthest (Matches classes t) text s best
   settled-at-end {s} {e} {words} {best} standing past =
       so-far-settled (Matches classes t) text best s e (standing .so-far)

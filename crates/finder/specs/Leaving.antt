@@ -65,8 +65,10 @@ no-others t before after e f =
     ∙ sym (drop-of-length-le before {i = piece-count t} (omega arith))
 
 -- a step from the set that the words hold marks what the plain simulation marks after one more byte
-same-set : (classes : List ℕ) (t : Tree Leaf) (w : List ℕ) (b : ℕ) (before : List ℕ) → Holding classes t w before → (p : State)
-    → After (meaning classes) t (w ++ (b ∷ [])) (Started (meaning classes) t) p ↔ Stepped (meaning classes) t b (Set-of (cut-up t) before) p
+same-set : (classes : List ℕ) (t : Tree Leaf) (w : List ℕ) (b : ℕ) (before : List ℕ) → Holding classes t w before
+    → (p : State)
+    → After (meaning classes) t (w ++ (b ∷ [])) (Started (meaning classes) t) p
+    ↔ Stepped (meaning classes) t b (Set-of (cut-up t) before) p
 same-set classes t w b before holding p =
     let x : Nested Leaf = cut-up t in
     let X : States = After (meaning classes) t w (Started (meaning classes) t) in
@@ -76,7 +78,8 @@ same-set classes t w b before holding p =
     rw (after-step (meaning classes) t w b (Started (meaning classes) t))
     (stepped-more (meaning classes) t b (λ q. same q .0) p, stepped-more (meaning classes) t b (λ q. same q .1) p)
 
-module _ {list classes : List ℕ} {t : Tree Leaf} (good : Good list t) (classed : Classed classes t) (before after : List ℕ) (accepts : Bool)
+module _ {list classes : List ℕ} {t : Tree Leaf} (good : Good list t) (classed : Classed classes t)
+    (before after : List ℕ) (accepts : Bool)
     (lent : As-many t before) (left : As-many t after) where
   -- the words that hold the marks before the first byte are what a start leaves
   pub starts-by : Answered classes t [] after accepts → Starts list classes before after (marking accepts false)
@@ -94,7 +97,10 @@ module _ {list classes : List ℕ} {t : Tree Leaf} (good : Good list t) (classed
         };
         marks = refl;
         answer = Iff·trans (a .answer) (Iff·symm (accepts-exactly (meaning classes) t []));
-        left = (λ e. absurd (false≢true e), λ zeros. absurd (some-started classes t after (a .holding .modelled) zeros));
+        left = (
+          λ e. absurd (false≢true e),
+          λ zeros. absurd (some-started classes t after (a .holding .modelled) zeros),
+        );
       })
 
   -- those that hold the marks after one more byte are what a step leaves
@@ -116,7 +122,8 @@ module _ {list classes : List ℕ} {t : Tree Leaf} (good : Good list t) (classed
           };
           marks = refl;
           answer =
-              Iff·trans (a .answer) (Iff·trans (Iff·symm (accepts-exactly (meaning classes) t (w ++ (b ∷ [])))) (same accepting));
+              Iff·trans (a .answer) (Iff·trans (Iff·symm (accepts-exactly (meaning classes) t (w ++ (b ∷ []))))
+              (same accepting));
           left = rw left at (all-zero-exactly after);
         };
         from-marks = holding-marks from;

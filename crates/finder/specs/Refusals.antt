@@ -1,5 +1,5 @@
--- Match and search refuse exactly when the table says so: 10, then 15, then 11, else not at all. A text of 65,536 bytes is
--- taken, one of 65,537 is not. And what they say where they refuse nothing.
+-- Match and search refuse exactly when the table says so: 10, then 15, then 11, else not at all. A text of 65,536 bytes
+-- is taken, one of 65,537 is not. And what they say where they refuse nothing.
 use Prim.Native.Nat.{ℕ, _+_, _≤_}
 use native.Mathlib.Omega.{arith}
 use mathlib.Core.Path.{_≡_, refl, sym, subst}
@@ -59,7 +59,8 @@ module _ (list classes text : List ℕ) where
   -- class records are too few or enough, not both
   not-both : Too-few-classes list classes → (t : Tree Leaf) → Good list t → Classed classes t → ⊥
   not-both (s, is-good, few) t good classed =
-      let same : Classed classes s = subst (λ (u : Tree Leaf). Classed classes u) (good-unique list t s good is-good) classed in
+      let same : Classed classes s = subst (λ (u : Tree Leaf). Classed classes u) (good-unique list t s good is-good)
+      classed in
       omega arith
 
   -- 10 is given exactly when the list is not good
@@ -138,7 +139,8 @@ module _ (list classes text : List ℕ) where
     pub search-taken : (n .refusal ≡ 0) ↔ Answerable list classes text
     search-taken = taken-exactly (search-reason answers)
 
-  module _ (t : Tree Leaf) (good : Good list t) (classed : Classed classes t) {number : ℕ} (reason : Reason number) where
+  module _ (t : Tree Leaf) (good : Good list t) (classed : Classed classes t) {number : ℕ}
+      (reason : Reason number) where
     -- by a good list with class records enough, a text of 65,536 bytes is taken
     pub longest-taken : length text ≡ longest-text → number ≡ 0
     longest-taken e = taken-exactly reason .1 (record { t = t; good = good; classed = classed; short = omega arith })

@@ -99,7 +99,8 @@ module _ (list classes text : List ℕ) where
   not-both (too-long b) a = omega (arith, a .short, b .long)
 
   -- what holds of the list's tree holds of one tree
-  of-one : {P Q : Tree Leaf → Type 0} → Of-good list classes text P → Of-good list classes text Q → (t : Tree Leaf) × P t × Q t
+  of-one : {P Q : Tree Leaf → Type 0} → Of-good list classes text P → Of-good list classes text Q → (t : Tree Leaf)
+      × P t × Q t
   of-one {P} {Q} a b = (b .t, subst P (good-unique list (a .t) (b .t) (a .good) (b .good)) (a .holds), b .holds)
 
   -- two refusals have one number
@@ -127,7 +128,8 @@ module _ (list classes text : List ℕ) where
   same-found same a b = let (t, p, q) = of-one a b in ap found-numbers (same t p q)
 
   -- two results of search that fit its promise give the same numbers
-  pub search-unique-numbers : {n n′ : Numbers} → Search-answers list classes text n → Search-answers list classes text n′ → n ≡ n′
+  pub search-unique-numbers : {n n′ : Numbers} → Search-answers list classes text n
+      → Search-answers list classes text n′ → n ≡ n′
   search-unique-numbers (search-refused a) (search-refused b) = ap refusing (same-refusal a b)
   search-unique-numbers (search-refused a) (search-found b) = absurd (not-both a b)
   search-unique-numbers (search-refused a) (search-nothing b) = absurd (not-both a b)

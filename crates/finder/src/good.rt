@@ -129,7 +129,8 @@ fn find_many(
     )
 }
 
-// In the smallest tables that have room. It calls itself with more room, so that each size has a stack frame of its own.
+// In the smallest tables that have room. It calls itself with more room, so that each size has a stack frame of its
+// own.
 pub fn find_good(
     list: &[u8],
     classes: &[u8],

@@ -138,7 +138,8 @@ pub fn is_match(list: &[u8], classes: &[u8], text: &[u8]) -> Matched
 
 // The part of the text that starts earliest and then ends furthest, of those in the language of the list's tree.
 pub fn search(list: &[u8], classes: &[u8], text: &[u8]) -> Searched
-    ensures { λ r. ⌜ Search-answers (now (list .entry)) (now (classes .entry)) (now (text .entry)) (search-numbers r) ⌝ }
+    ensures { λ r. ⌜ Search-answers (now (list .entry)) (now (classes .entry)) (now (text .entry))
+        (search-numbers r) ⌝ }
 {
     find(list, classes, FEW_SLOTS, text, false)
 }

@@ -57,7 +57,8 @@ fn furthest_end(
     ensures { λ r.
         ⌜ ((t : Tree Leaf)
         → Prepared t (now (reach .entry)) (now (codes .entry)) (now (runs .entry)) (now (stands .entry))
-        (now (tops .entry)) count → Furthest (Matches (now (classes .entry)) t) (now (text .entry)) start (end-of r)) ⌝ }
+        (now (tops .entry)) count → Furthest (Matches (now (classes .entry)) t) (now (text .entry)) start
+        (end-of r)) ⌝ }
 {
     let mut words = [0u64; MOST_PIECES];
     copy(first, count, &mut words);

@@ -243,7 +243,8 @@ pub record Found-ranges (n : Found-numbers) : Type 0 where
   pub x-small : n .place + n .start ≤ longest-text
   pub y-small : n .end ≤ longest-text
 
-refused-ranges : {list classes text : List ℕ} {number : ℕ} → Refuses list classes text number → number ≤ class-buffer-too-short
+refused-ranges : {list classes text : List ℕ} {number : ℕ} → Refuses list classes text number
+    → number ≤ class-buffer-too-short
 refused-ranges (not-good why) = omega arith
 refused-ranges (too-few-classes why) = omega arith
 refused-ranges (too-long a) = omega arith
@@ -271,7 +272,8 @@ pub record Marks-ranges (n : Marks-numbers) : Type 0 where
   pub refusal-small : n .refusal ≤ class-buffer-too-short
   pub front : n .place ≡ 0
 
-refused-marks : {number : ℕ} {why : Type 0} {before after : List ℕ} {n : Marks-numbers} → number ≤ class-buffer-too-short
+refused-marks : {number : ℕ} {why : Type 0} {before after : List ℕ} {n : Marks-numbers}
+    → number ≤ class-buffer-too-short
     → Refused number why before after n → Marks-ranges n
 refused-marks small r =
     record {
@@ -305,7 +307,8 @@ step-ranges (stepped s) = made-marks (s .made)
 -- an output has at most 1,048,575 bytes
 pub pick-length-small : (input before after : List ℕ) (answer : Picked) → Picks input before after answer
     → pick-length answer ≤ most-output
-pick-length-small input before after (Written size) right = omega (arith, right .sized, output-length (matches []) input)
+pick-length-small input before after (Written size) right = omega
+    (arith, right .sized, output-length (matches []) input)
 pick-length-small input before after NoRoom right = omega arith
 
 -- a number and a flag of a case are small
@@ -348,7 +351,8 @@ read-unpacks bytes room r e =
     (omega (arith, known .place-small, known .records-small)) (omega (arith, known .pieces-small)) e
 
 -- so does that of reading in the second syntax: y has the pieces below 256, and then the classes
-pub second-unpacks : (bytes : List ℕ) (room class-room r : ℕ) → r ≡ second-packed (second-answered bytes room class-room)
+pub second-unpacks : (bytes : List ℕ) (room class-room r : ℕ)
+    → r ≡ second-packed (second-answered bytes room class-room)
     → Unpacks r (second-answered bytes room class-room .refusal) 0
     (second-answered bytes room class-room .place + second-answered bytes room class-room .records)
     (second-answered bytes room class-room .pieces + 256 * second-answered bytes room class-room .classes)

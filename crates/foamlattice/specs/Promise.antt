@@ -28,8 +28,8 @@ second-packed n = packed (n .refusal) 0 (n .place + n .records) (n .pieces + 256
 abbrev pub found-packed : Found-numbers → ℕ
 found-packed n = packed (n .refusal) (cond (n .matched) 1 0) (n .place + n .start) (n .end)
 
--- start and step: the flag is 1 where the root's accepting state is marked; x is 1 where nothing is left, or the place of
--- a refusal
+-- start and step: the flag is 1 where the root's accepting state is marked; x is 1 where nothing is left, or the place
+-- of a refusal
 abbrev pub marks-packed : Marks-numbers → ℕ
 marks-packed n = packed (n .refusal) (cond (n .accepting) 1 0) (n .place + cond (n .nothing) 1 0) 0
 

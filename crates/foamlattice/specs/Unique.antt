@@ -25,7 +25,8 @@ same-number packed-from r s a b e f same = e ∙ ap packed-from same ∙ sym f
 pub matching-unique : (list classes text : List ℕ) (r s : ℕ) → Matching list classes text r
     → Matching list classes text s → r ≡ s
 matching-unique list classes text r s m n =
-    same-number found-packed r s _ _ (m .as-number) (n .as-number) (match-unique list classes text (m .right) (n .right))
+    same-number found-packed r s _ _ (m .as-number) (n .as-number)
+    (match-unique list classes text (m .right) (n .right))
 
 pub searching-unique : (list classes text : List ℕ) (r s : ℕ) → Searching list classes text r
     → Searching list classes text s → r ≡ s
@@ -40,7 +41,8 @@ starting-unique list classes before after after' r s m n =
     (same-number marks-packed r s _ _ (m .as-number) (n .as-number) (same .0), same .1)
 
 pub stepping-unique : (list classes : List ℕ) (byte : ℕ) (before after after' : List ℕ) (r s : ℕ)
-    → Stepping list classes byte before after r → Stepping list classes byte before after' s → (r ≡ s) × (after ≡ after')
+    → Stepping list classes byte before after r → Stepping list classes byte before after' s → (r ≡ s)
+    × (after ≡ after')
 stepping-unique list classes byte before after after' r s m n =
     let same = steps-unique (m .right) (n .right) in
     (same-number marks-packed r s _ _ (m .as-number) (n .as-number) (same .0), same .1)

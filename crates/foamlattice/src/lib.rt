@@ -155,7 +155,8 @@ fn pack_marked(numbers: marks::numbers::Numbers) -> u64
 // Writes the marks to start with.
 #[no_mangle]
 pub extern "C" fn foam_start(records: &[u8], classes: &[u8], words: &mut [u64]) -> u64
-    ensures { λ r. ⌜ Starting (now (records .entry)) (now (classes .entry)) (now (words .entry)) (now (words .exit)) r ⌝ }
+    ensures { λ r. ⌜ Starting (now (records .entry)) (now (classes .entry)) (now (words .entry))
+        (now (words .exit)) r ⌝ }
 {
     let answer = start(records, classes, words);
     let numbers = numbers_of(answer);
@@ -165,7 +166,8 @@ pub extern "C" fn foam_start(records: &[u8], classes: &[u8], words: &mut [u64]) 
 // Turns the marks into those after one more byte.
 #[no_mangle]
 pub extern "C" fn foam_step(records: &[u8], classes: &[u8], words: &mut [u64], byte: u8) -> u64
-    ensures { λ r. ⌜ Stepping (now (records .entry)) (now (classes .entry)) byte (now (words .entry)) (now (words .exit))
+    ensures { λ r. ⌜ Stepping (now (records .entry)) (now (classes .entry)) byte (now (words .entry))
+        (now (words .exit))
         r ⌝ }
 {
     let answer = step(records, classes, words, byte);

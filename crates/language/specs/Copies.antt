@@ -133,7 +133,8 @@ module _ {A : Type 0} (M : Meaning A) where
     reads-full (catenation x y) marks reached s moved (Reads.catenation-left e) full (left q) (Copy.catenation-left c) =
         reads-full x _ _ (s .1) (λ p q r. moved (left p) (left q) (Reading.catenation-left r)) e
         (λ p d. full (left p) (Copy.catenation-left d)) q c
-    reads-full (catenation x y) marks reached s moved (Reads.catenation-right e) full (right q) (Copy.catenation-right c) =
+    reads-full (catenation x y) marks reached s moved (Reads.catenation-right e) full (right q)
+        (Copy.catenation-right c) =
         reads-full y _ _ (s .2) (λ p q r. moved (right p) (right q) (Reading.catenation-right r)) e
         (λ p d. full (right p) (Copy.catenation-right d)) q c
     reads-full (union x y) marks reached s moved (Reads.union-left e) full (left q) (Copy.union-left c) =
@@ -150,8 +151,8 @@ module _ {A : Type 0} (M : Meaning A) where
         (reads-full x _ _ (s .1) (λ p q r. moved (left p) (left q) (Reading.in-child r)) e
         (λ p d. full (left p) (in-child d))) q c
 
-  -- the other way round, each empty transition of the cut automaton is an empty one of the uncut automaton, or leads to a copy of the
-  -- same state
+  -- the other way round, each empty transition of the cut automaton is an empty one of the uncut automaton, or leads to
+  -- a copy of the same state
   wires-origin : (x : Nested A) (X : States) → Settled-by (Empty M (whole x)) X
       → Settled-by (Wire M x) (λ q. X (origin x q))
   wires-origin (leaf a) X closed p q (Wire.leaf-past has) = closed _ _ (Empty.leaf-past has)

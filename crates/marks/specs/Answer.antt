@@ -10,8 +10,8 @@ use Rattle.marks.specs.declared.MarksAnswer.the-variants.{
   TooFewWords,
   NotMarks,
 }
--- the refusal's number, 0 for none, and its place; whether the root's accepting state is now marked, and whether nothing
--- is left
+-- the refusal's number, 0 for none, and its place; whether the root's accepting state is now marked, and whether
+-- nothing is left
 pub use Rattle.marks.specs.declared.numbers.Numbers.{Numbers}
 
 -- a refusal gives back its number, place 0, and neither flag

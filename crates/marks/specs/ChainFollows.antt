@@ -1,5 +1,6 @@
--- A chain of calls on a good list, with class records and words enough, is never refused, and after the bytes of w its flag says whether
--- w is in the language. A chain's calls before the last are a chain themselves, so this is said of each of them.
+-- A chain of calls on a good list, with class records and words enough, is never refused, and after the bytes of w its
+-- flag says whether w is in the language. A chain's calls before the last are a chain themselves, so this is said of
+-- each of them.
 use Prim.Native.Nat.{ℕ, _≤_}
 use native.Mathlib.Omega.{arith}
 use mathlib.Core.Path.{_≡_, _∙_, subst}
@@ -39,7 +40,8 @@ use Rattle.marks.specs.Chain.{Chain, begun, further, Follows}
 
 module _ {list : List ℕ} {t : Tree Leaf} (good : Good list t) where
   -- marks that are made are those of the list's tree
-  made-hold : {classes : List ℕ} {X : Tree Leaf → States} {words after : List ℕ} {n : Numbers} (made : Made list classes X words after n)
+  made-hold : {classes : List ℕ} {X : Tree Leaf → States} {words after : List ℕ} {n : Numbers}
+      (made : Made list classes X words after n)
       → Hold t (X t) words after × ((n .accepting ≡ true) ↔ X t accepting)
       × ((n .nothing ≡ true) ↔ All-zero (piece-count t) after)
   made-hold {classes} {X} {words} {after} {n} made =
@@ -67,7 +69,8 @@ module _ {list : List ℕ} {t : Tree Leaf} (good : Good list t) where
       bad (subst (λ (u : Tree Leaf). Marks-of u words) (good-unique list t s good is-good) marks)
 
   -- after a start
-  start-follows : {classes before after : List ℕ} {n : Numbers} → Made list classes (λ s. Started (meaning classes) s) before after n
+  start-follows : {classes before after : List ℕ} {n : Numbers} → Made list classes (λ s. Started (meaning classes) s)
+      before after n
       → Follows classes t [] before after n
   start-follows {classes} {before} {after} {n} made =
       let (hold, answer, left) = made-hold made in
@@ -102,10 +105,12 @@ module _ {list : List ℕ} {t : Tree Leaf} (good : Good list t) where
       }
 
   -- a chain on class records and words enough is never refused, and its flag says whether its text is in the language
-  pub chain-follows : {classes before w after : List ℕ} {n : Numbers} → Classed classes t → piece-count t ≤ length before
+  pub chain-follows : {classes before w after : List ℕ} {n : Numbers} → Classed classes t
+      → piece-count t ≤ length before
       → Chain list classes before w after n → Follows classes t w before after n
   chain-follows classed enough (begun (start-not-good a)) = absurd (a .because t good)
-  chain-follows {classes} classed enough (begun (start-too-few-classes a)) = absurd (not-few-classes classes classed (a .because))
+  chain-follows {classes} classed enough (begun (start-too-few-classes a)) = absurd
+      (not-few-classes classes classed (a .because))
   chain-follows {classes} {before} classed enough (begun (start-too-few a)) =
       absurd (not-few classes before enough (a .because))
   chain-follows classed enough (begun (started made)) = start-follows made

@@ -108,8 +108,8 @@ pub record Begun (classes : List ℕ) (t : Tree Leaf) (before after : List ℕ) 
   pub answer : (yes' ≡ true) ↔ Started (meaning classes) t accepting
   pub some : All-zero (piece-count t) after → ⊥
 
--- the marks after one more byte, from the set that the words held before, whether the accepting state is among them, and
--- whether nothing is left
+-- the marks after one more byte, from the set that the words held before, whether the accepting state is among them,
+-- and whether nothing is left
 pub record Advanced (classes : List ℕ) (t : Tree Leaf) (byte : ℕ) (before after : List ℕ) (yes' nothing : Bool) : Type 0
   where
     pub hold : Hold t (Stepped (meaning classes) t byte (Set-of (cut-up t) before)) before after
@@ -166,7 +166,8 @@ module _ {t : Tree Leaf} {reach codes runs stands tops : List ℕ} {count : ℕ}
   }
 
   -- and can be closed
-  pub prepared-closable : {words : List ℕ} {from to : ℕ} → Roomy count reach codes runs stands tops → count ≤ length words
+  pub prepared-closable : {words : List ℕ} {from to : ℕ} → Roomy count reach codes runs stands tops
+      → count ≤ length words
       → Run-of reach codes runs stands tops count (cut-up t) words
       → Quiet 0 from to (take count words) → Closable reach codes runs stands tops count from to words
   prepared-closable {words} roomy enough on quiet = record {
@@ -246,7 +247,8 @@ module _ {t : Tree Leaf} {reach codes runs stands tops : List ℕ} {count : ℕ}
       }
 
   -- words that were moved are the run of the pieces
-  pub moved-run : {classes : List ℕ} {byte : ℕ} {before moved : List ℕ} → Moved-closed reach classes codes before moved byte count
+  pub moved-run : {classes : List ℕ} {byte : ℕ} {before moved : List ℕ} → Moved-closed reach classes codes before moved
+      byte count
       → Clean (cut-up t) before → Run-of reach codes runs stands tops count (cut-up t) moved
   moved-run went clean =
       let x = cut-up t in
@@ -257,7 +259,8 @@ module _ {t : Tree Leaf} {reach codes runs stands tops : List ℕ} {count : ℕ}
 
   -- from words moved along the byte, and closed twice
   pub advanced : {classes : List ℕ} (byte : ℕ) (before moved after : List ℕ) (yes' : Bool) → Marks-of t before
-      → Moved-closed reach classes codes before moved byte count → Closed-twice reach codes runs stands tops count moved after
+      → Moved-closed reach classes codes before moved byte count → Closed-twice reach codes runs stands tops count
+      moved after
       → length after ≡ length moved → Tells (Bit (getD after 0 0) (getD tops 0 0)) yes' → {nothing : Bool}
       → (nothing ≡ true) ↔ All-zero (piece-count t) after → Advanced classes t byte before after yes' nothing
   advanced {classes} byte before moved after yes' marks went twice long told left =
@@ -267,7 +270,8 @@ module _ {t : Tree Leaf} {reach codes runs stands tops : List ℕ} {count : ℕ}
       let models : Models x (Holds x after) (Stepped (meaning classes) t byte (Set-of x before)) =
       subst (λ (s : Tree Leaf). Models x (Holds x after) (Stepped (meaning classes) s byte (Set-of x before)))
       (stated t .same-tree)
-      (closed-step reach codes runs stands tops count x moved after twice on classes byte (Holds x before) (Set-of x before)
+      (closed-step reach codes runs stands tops count x moved after twice on classes byte (Holds x before)
+      (Set-of x before)
       (alike-models x (Holds x before) (marks .agreeing))
       (moved-keeps went x laid-pieces room (narrow t) (all-narrow t) (marks .clean))
       (moved-within went x laid-pieces room (narrow t) (all-narrow t) (marks .clean)))
@@ -333,12 +337,14 @@ module _ {t : Tree Leaf} {reach codes runs stands tops : List ℕ} {count : ℕ}
 pub holding-marks : {classes : List ℕ} {t : Tree Leaf} {w words : List ℕ} → Holding classes t w words → Marks-of t words
 holding-marks {classes} {t} {w} {words} holding = record {
   clean = holding .clean;
-  agreeing = models-alike (cut-up t) (Holds (cut-up t) words) (After (meaning classes) t w (Started (meaning classes) t))
+  agreeing = models-alike (cut-up t) (Holds (cut-up t) words)
+      (After (meaning classes) t w (Started (meaning classes) t))
       (holding .modelled);
 }
 
 -- after the start the words hold the marks after the empty text
-pub answered-first : {classes : List ℕ} {t : Tree Leaf} {before after : List ℕ} {yes' : Bool} → Begun classes t before after yes'
+pub answered-first : {classes : List ℕ} {t : Tree Leaf} {before after : List ℕ} {yes' : Bool}
+    → Begun classes t before after yes'
     → Answered classes t [] after yes'
 answered-first {classes} {t} begins =
     record {
@@ -348,9 +354,11 @@ answered-first {classes} {t} begins =
     }
 
 -- words of which the first are put in the place of others answer the same
-pub answered-copy : {classes : List ℕ} {t : Tree Leaf} {reach codes runs stands tops w after : List ℕ} {count : ℕ} {yes' : Bool}
+pub answered-copy : {classes : List ℕ} {t : Tree Leaf} {reach codes runs stands tops w after : List ℕ} {count : ℕ}
+    {yes' : Bool}
     (from to : List ℕ) → Prepared t reach codes runs stands tops count
-    → count ≤ length from → after ≡ take count from ++ drop count to → Answered classes t w from yes' → Answered classes t w after yes'
+    → count ≤ length from → after ≡ take count from ++ drop count to → Answered classes t w from yes'
+    → Answered classes t w after yes'
 answered-copy {classes} {t} {w = w} {after = after} {count = count} from to prepared enough put answered =
     let x = cut-up t in
     let same : take count after ≡ take count from =
@@ -366,7 +374,8 @@ answered-copy {classes} {t} {w = w} {after = after} {count = count} from to prep
     }
 
 -- after one more byte they hold the marks after one more byte
-pub answered-next : {classes : List ℕ} {t : Tree Leaf} {w before after : List ℕ} {b : ℕ} {yes' nothing : Bool} → Holding classes t w before
+pub answered-next : {classes : List ℕ} {t : Tree Leaf} {w before after : List ℕ} {b : ℕ} {yes' nothing : Bool}
+    → Holding classes t w before
     → Advanced classes t b before after yes' nothing → Answered classes t (w ++ (b ∷ [])) after yes'
 answered-next {classes} {t} {w} {before} {after} {b} {yes'} {nothing} holding went =
     let x = cut-up t in
@@ -375,7 +384,10 @@ answered-next {classes} {t} {w} {before} {after} {b} {yes'} {nothing} holding we
     (reached-state (meaning classes) t w) in
     let same : (p : State) → X p ↔ Set-of x before p = models-origins x (Holds x before) X (holding .modelled) states in
     let stepped : (p : State) → Stepped (meaning classes) t b (Set-of x before) p ↔ Stepped (meaning classes) t b X p =
-    λ p. (stepped-more (meaning classes) t b (λ q. same q .1) p, stepped-more (meaning classes) t b (λ q. same q .0) p) in
+    λ p. (
+      stepped-more (meaning classes) t b (λ q. same q .1) p,
+      stepped-more (meaning classes) t b (λ q. same q .0) p,
+    ) in
     let held : Holding classes t (w ++ (b ∷ [])) after =
     holding-next holding (λ q has. Iff·trans (went .hold .marks q has) (stepped (origin x q)))
     (went .hold .clean) in

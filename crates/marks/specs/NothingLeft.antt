@@ -1,5 +1,5 @@
--- Where nothing is left, nothing comes back: words that are 0 stay 0 on every later byte and on every later text, and no
--- text that begins so is in the language.
+-- Where nothing is left, nothing comes back: words that are 0 stay 0 on every later byte and on every later text, and
+-- no text that begins so is in the language.
 use Prim.Native.Nat.{ℕ, suc, _+_}
 use native.Mathlib.Omega.{arith}
 use mathlib.Core.Path.{_≡_, ap, subst, _∙_, sym}
@@ -36,7 +36,8 @@ pub data Stepping (list classes before : List ℕ) : (w after : List ℕ) → Ty
       → Steps list classes byte after later n → n .refusal ≡ 0 → Stepping list classes before (w ++ (byte ∷ [])) later
 
 -- a step from no marks makes none
-no-marks-made : {list classes before after : List ℕ} {byte : ℕ} {n : Numbers} (on : Moves-on list classes byte before after n)
+no-marks-made : {list classes before after : List ℕ} {byte : ℕ} {n : Numbers}
+    (on : Moves-on list classes byte before after n)
     → All-zero (piece-count (on .made .t)) before → All-zero (piece-count (on .made .t)) after
 no-marks-made {before = before} {after = after} on zeros =
     let s = on .made .t in

@@ -75,7 +75,8 @@ pub data Starts (list classes before after : List ℕ) (n : Numbers) : Type 0 wh
   start-not-good : Refused list-not-good (Not-good list) before after n → Starts list classes before after n
   start-too-few-classes : Refused class-buffer-too-short (Too-few-classes list classes) before after n
       → Starts list classes before after n
-  start-too-few : Refused too-few-words (Too-few list classes before) before after n → Starts list classes before after n
+  start-too-few : Refused too-few-words (Too-few list classes before) before after n
+      → Starts list classes before after n
   started : Made list classes (λ t. Started (meaning classes) t) before after n → Starts list classes before after n
 
 -- from marks, the states that a path from a marked state reading the byte and then any number of empty transitions
@@ -89,6 +90,8 @@ pub data Steps (list classes : List ℕ) (byte : ℕ) (before after : List ℕ) 
   step-not-good : Refused list-not-good (Not-good list) before after n → Steps list classes byte before after n
   step-too-few-classes : Refused class-buffer-too-short (Too-few-classes list classes) before after n
       → Steps list classes byte before after n
-  step-too-few : Refused too-few-words (Too-few list classes before) before after n → Steps list classes byte before after n
-  step-not-marks : Refused words-not-marks (Not-marks list classes before) before after n → Steps list classes byte before after n
+  step-too-few : Refused too-few-words (Too-few list classes before) before after n
+      → Steps list classes byte before after n
+  step-not-marks : Refused words-not-marks (Not-marks list classes before) before after n
+      → Steps list classes byte before after n
   stepped : Moves-on list classes byte before after n → Steps list classes byte before after n

@@ -29,7 +29,8 @@ all-words t = stated t .all-pieces
 
 module _ {classes : List ℕ} {t : Tree Leaf} {w words : List ℕ} (holding : Holding classes t w words) where
   -- where the words of the pieces are 0, no state is marked after the text
-  none-marked : All-zero (piece-count t) words → (p : State) → After (meaning classes) t w (Started (meaning classes) t) p → ⊥
+  none-marked : All-zero (piece-count t) words → (p : State)
+      → After (meaning classes) t w (Started (meaning classes) t) p → ⊥
   none-marked zeros p reached =
       let (q, has, stands) = origin-onto (cut-up t) p
       (rw (stated t .same-tree) (reached-state (meaning classes) t w p reached)) in
@@ -50,7 +51,8 @@ module _ {classes : List ℕ} {t : Tree Leaf} {w words : List ℕ} (holding : Ho
 
   -- after one byte more they hold what a step with it marks
   pub holding-next : {b : ℕ} {later : List ℕ}
-      → Models (cut-up t) (Holds (cut-up t) later) (Stepped (meaning classes) t b (After (meaning classes) t w (Started (meaning classes) t)))
+      → Models (cut-up t) (Holds (cut-up t) later)
+      (Stepped (meaning classes) t b (After (meaning classes) t w (Started (meaning classes) t)))
       → Clean (cut-up t) later
       → Holding classes t (w ++ (b ∷ [])) later
   holding-next {b} {later} models clean =
@@ -61,6 +63,7 @@ module _ {classes : List ℕ} {t : Tree Leaf} {w words : List ℕ} (holding : Ho
       }
 
 -- before the first byte they hold what the start marks
-pub holding-first : {classes : List ℕ} {t : Tree Leaf} {words : List ℕ} → Models (cut-up t) (Holds (cut-up t) words) (Started (meaning classes) t)
+pub holding-first : {classes : List ℕ} {t : Tree Leaf} {words : List ℕ} → Models (cut-up t) (Holds (cut-up t) words)
+    (Started (meaning classes) t)
     → Clean (cut-up t) words → Holding classes t [] words
 holding-first models clean = record { modelled = models; clean = clean }

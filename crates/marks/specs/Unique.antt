@@ -229,7 +229,8 @@ module _ (list classes before : List ℕ) where
       made-by (makes made fine) e = made
 
     -- where the marks are made, the list's tree determines the rest
-    made-unique : {after after' : List ℕ} {n n' : Numbers} → Made list classes X before after n → Made list classes X before after' n'
+    made-unique : {after after' : List ℕ} {n n' : Numbers} → Made list classes X before after n
+        → Made list classes X before after' n'
         → (n ≡ n') × (after ≡ after')
     made-unique {after} {after'} {n} {n'} one other =
         let same : other .t ≡ one .t = good-unique list (other .t) (one .t) (other .good) (one .good) in
@@ -260,7 +261,8 @@ module _ (list classes before : List ℕ) where
     answers-unique (not-good a) b =
         both-refused list-not-good (omega arith) (a .refuses) (a .unchanged) b (not-good-exactly b .1 (a .because))
     answers-unique (too-few-classes a) b =
-        both-refused class-buffer-too-short (omega arith) (a .refuses) (a .unchanged) b (too-few-classes-exactly b .1 (a .because))
+        both-refused class-buffer-too-short (omega arith) (a .refuses) (a .unchanged) b
+        (too-few-classes-exactly b .1 (a .because))
     answers-unique (too-few a) b =
         both-refused too-few-words (omega arith) (a .refuses) (a .unchanged) b (too-few-exactly b .1 (a .because))
     answers-unique (not-marks a) b =
@@ -365,7 +367,8 @@ abbrev answer-by : Numbers → MarksAnswer
 answer-by n =
     cond (eqb (n .refusal) list-not-good) NotGood
     (cond (eqb (n .refusal) class-buffer-too-short) TooFewClasses
-    (cond (eqb (n .refusal) too-few-words) TooFewWords (cond (eqb (n .refusal) words-not-marks) NotMarks (Marked (n .accepting) (n .nothing)))))
+    (cond (eqb (n .refusal) too-few-words) TooFewWords
+    (cond (eqb (n .refusal) words-not-marks) NotMarks (Marked (n .accepting) (n .nothing)))))
 
 answer-back : (r : MarksAnswer) → answer-by (numbers r) ≡ r
 answer-back (Marked marked nothing) = refl

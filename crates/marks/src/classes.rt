@@ -4,7 +4,8 @@ ghost use Rattle.tree.specs.Leaf.{In-class};
 ghost use Rattle.marks.specs.BitsOfWords.Bits.{Tells};
 ghost use Rattle.marks.specs.Moving.Codes.{Code-takes};
 
-// Whether the byte lies in the class of this number: by one bit of its record. A byte past the buffer's end counts as 0.
+// Whether the byte lies in the class of this number: by one bit of its record. A byte past the buffer's end counts as
+// 0.
 fn in_class(classes: &[u8], number: u16, byte: u8) -> bool
     ensures { λ r. ⌜ Tells (In-class (now (classes .entry)) number byte) r ⌝ }
 {

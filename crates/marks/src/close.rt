@@ -1,5 +1,5 @@
-// Closing inside one piece, by passes over its states in their order: marks are carried on along states that lead to the
-// next one, then the jumps of the states that were newly marked are taken, while there are any.
+// Closing inside one piece, by passes over its states in their order: marks are carried on along states that lead to
+// the next one, then the jumps of the states that were newly marked are taken, while there are any.
 use crate::bits::lowest;
 use crate::bits::with_bit;
 use tables::MASK_COUNT;
@@ -48,8 +48,8 @@ fn targets(codes: &[u16], base: usize, from: u64) -> u64
     reached
 }
 
-// The word of a piece, closed, where the part `done` of it was closed before: of what that part reaches nothing is looked
-// at again. Each jump is taken at most once.
+// The word of a piece, closed, where the part `done` of it was closed before: of what that part reaches nothing is
+// looked at again. Each jump is taken at most once.
 pub fn close_after(reach: &[u64], codes: &[u16], piece: usize, word: u64, done: u64) -> u64
     requires { ⌜ (mask-count * piece + mask-count ≤ length (now reach))
         × (row-size * piece + row-size ≤ length (now codes)) ⌝ }

@@ -103,7 +103,8 @@ pub fn advance(
         ⌜ ((t : Tree Leaf)
         → Prepared t (now (reach .entry)) (now (codes .entry)) (now (runs .entry)) (now (stands .entry))
         (now (tops .entry)) count → Marks-of t (now (words .entry))
-        → Advanced (now (classes .entry)) t byte (now (words .entry)) (now (words .exit)) (r .accepting) (r .nothing)) ⌝ }
+        → Advanced (now (classes .entry)) t byte (now (words .entry)) (now (words .exit)) (r .accepting)
+        (r .nothing)) ⌝ }
 {
     let span = move_all(reach, codes, classes, words, byte, count);
     if span.to == 0 {

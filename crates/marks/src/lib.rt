@@ -189,8 +189,8 @@ fn mark_many(
     )
 }
 
-// In the smallest tables that have room: most of what a short list costs is setting them to 0. It calls itself with more
-// room, so that each size has a stack frame of its own.
+// In the smallest tables that have room: most of what a short list costs is setting them to 0. It calls itself with
+// more room, so that each size has a stack frame of its own.
 fn mark_good(
     list: &[u8],
     classes: &[u8],

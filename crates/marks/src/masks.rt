@@ -1,5 +1,5 @@
-// The masks of the pieces, made of the codes once: which states lead to the next one, which jump, and which are starts of
-// leaves.
+// The masks of the pieces, made of the codes once: which states lead to the next one, which jump, and which are starts
+// of leaves.
 use crate::bits::with_bit;
 use tables::MASK_COUNT;
 use tables::ROW_SIZE;
@@ -51,7 +51,8 @@ fn is_leaf(code: u16) -> bool
 
 // Makes the masks of a piece of so many states.
 fn note_piece(reach: &mut [u64], codes: &[u16], piece: usize, states: usize)
-    requires { ⌜ (mask-count * piece + mask-count ≤ length (now reach)) × (row-size * piece + row-size ≤ length (now codes)) × (states ≤ word-bits) ⌝ }
+    requires { ⌜ (mask-count * piece + mask-count ≤ length (now reach))
+        × (row-size * piece + row-size ≤ length (now codes)) × (states ≤ word-bits) ⌝ }
     ensures { λ _. ⌜ Piece-noted (now (codes .entry)) (now (reach .entry)) (now (reach .exit)) piece states ⌝ }
 {
     let base = ROW_SIZE * piece;
@@ -74,7 +75,8 @@ fn note_piece(reach: &mut [u64], codes: &[u16], piece: usize, states: usize)
 
 // Makes the masks of every piece; `tops` has the numbers of the pieces' last states.
 pub fn note_all(reach: &mut [u64], codes: &[u16], tops: &[u8], pieces: usize)
-    requires { ⌜ (mask-count * pieces ≤ length (now reach)) × (row-size * pieces ≤ length (now codes)) × (pieces ≤ length (now tops))
+    requires { ⌜ (mask-count * pieces ≤ length (now reach)) × (row-size * pieces ≤ length (now codes))
+        × (pieces ≤ length (now tops))
         × ((k : ℕ) → k < pieces → getD (now tops) k 0 < word-bits) ⌝ }
     ensures { λ _. ⌜ Pieces-noted (now (codes .entry)) (now (tops .entry)) (now (reach .exit)) pieces ⌝ }
 {

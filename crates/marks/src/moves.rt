@@ -1,5 +1,5 @@
-// Moving along a byte: from each marked start of a leaf that takes that byte to the leaf's accepting state, and from there
-// inside the piece.
+// Moving along a byte: from each marked start of a leaf that takes that byte to the leaf's accepting state, and from
+// there inside the piece.
 use crate::bits::lowest;
 use crate::bits::with_bit;
 use crate::classes::takes_byte;
@@ -19,13 +19,14 @@ ghost use Rattle.marks.specs.Passes.Laid.{Lays};
 ghost use Rattle.marks.specs.Moving.WordsMovedClosed.{Word-after, Moved-closed};
 ghost use Rattle.marks.specs.Moving.Spans.{Widened, Spans};
 
-// The word of a piece, moved along the byte: a leaf's start whose number takes it goes over to the next state. Only starts
-// of leaves are looked at.
+// The word of a piece, moved along the byte: a leaf's start whose number takes it goes over to the next state. Only
+// starts of leaves are looked at.
 pub fn moved(reach: &[u64], codes: &[u16], classes: &[u8], piece: usize, word: u64, byte: u8) -> u64
     requires { ⌜ (mask-count * piece + mask-count ≤ length (now reach))
         × (row-size * piece + row-size ≤ length (now codes)) ⌝ }
     ensures { λ r. ⌜ ((x : Nested Leaf) → width x ≤ most-states
-        → Lays (now (reach .entry)) (now (codes .entry)) x piece → word < 2 ^ width x → Moves (now (classes .entry)) x byte word r) ⌝ }
+        → Lays (now (reach .entry)) (now (codes .entry)) x piece → word < 2 ^ width x
+        → Moves (now (classes .entry)) x byte word r) ⌝ }
 {
     let base = ROW_SIZE * piece;
     let mut rest = word & reach[MASK_COUNT * piece + 2];
@@ -99,7 +100,8 @@ pub fn move_all(
 ) -> Span
     requires { ⌜ (mask-count * pieces ≤ length (now reach)) × (row-size * pieces ≤ length (now codes))
         × (pieces ≤ length (now words)) × (pieces ≤ most-pieces) ⌝ }
-    ensures { λ _. ⌜ Moved-closed (now (reach .entry)) (now (classes .entry)) (now (codes .entry)) (now (words .entry)) (now (words .exit))
+    ensures { λ _. ⌜ Moved-closed (now (reach .entry)) (now (classes .entry)) (now (codes .entry)) (now (words .entry))
+        (now (words .exit))
         byte pieces ⌝ }
     ensures { λ r. ⌜ Spans (now (words .exit)) pieces (r .from) (r .to) ⌝ }
 {

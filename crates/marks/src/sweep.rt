@@ -117,11 +117,13 @@ pub fn sweep(
     requires { ⌜ Sweep-ready (now reach) (now codes) (now runs) (now stands) (now tops) piece from to (now words) ⌝ }
     ensures { λ r.
         ⌜ ((x : Nested Leaf)
-        → Sweepable (now (reach .entry)) (now (codes .entry)) (now (runs .entry)) (now (stands .entry)) (now (tops .entry)) x piece
+        → Sweepable (now (reach .entry)) (now (codes .entry)) (now (runs .entry)) (now (stands .entry))
+        (now (tops .entry)) x piece
         (now (words .entry)) → Swept x (now (words .entry)) (now (words .exit))) ⌝ }
     ensures { λ r.
         ⌜ ((x : Nested Leaf)
-        → Sweepable (now (reach .entry)) (now (codes .entry)) (now (runs .entry)) (now (stands .entry)) (now (tops .entry)) x piece
+        → Sweepable (now (reach .entry)) (now (codes .entry)) (now (runs .entry)) (now (stands .entry))
+        (now (tops .entry)) x piece
         (now (words .entry)) → r ≡ true → Settled byteless x (Holds x (now (words .exit)))) ⌝ }
 {
     words[0] = close_from(reach, codes, piece, words[0], 0);
@@ -174,7 +176,8 @@ pub fn close_twice(
     words: &mut [u64],
 )
     requires { ⌜ Closable (now reach) (now codes) (now runs) (now stands) (now tops) count from to (now words) ⌝ }
-    ensures { λ _. ⌜ Closed-twice (now (reach .entry)) (now (codes .entry)) (now (runs .entry)) (now (stands .entry)) (now (tops .entry))
+    ensures { λ _. ⌜ Closed-twice (now (reach .entry)) (now (codes .entry)) (now (runs .entry)) (now (stands .entry))
+        (now (tops .entry))
         count (now (words .entry)) (now (words .exit)) ⌝ }
 {
     if sweep(

@@ -51,8 +51,8 @@ pub record Accepted-second (bytes before classes-before after classes-after : Li
   pub buffer : after ≡ second-records-after bytes before classes-before
   pub class-buffer : classes-after ≡ second-classes-after bytes before classes-before
 
--- a list and class records to lend with it, as reading an expression leaves them: the list is good, there are class records
--- enough, and its leaves mean by these what was written
+-- a list and class records to lend with it, as reading an expression leaves them: the list is good, there are class
+-- records enough, and its leaves mean by these what was written
 pub record Usable (syntax : Syntax) (bytes list classes : List ℕ) : Type 0 where
   pub read : Tree Atom
   pub written : Written syntax bytes read

@@ -77,8 +77,8 @@ pub data Row : Type 0 where
   -- what search finds in a text
   finds : (expression text : List ℕ) (answer : Search-outcome) → Row
 
--- the expression, of the first syntax, is read, with so many records and pieces, into every buffer that has room for them; and of the list of
--- records that the buffer then begins with, this holds
+-- the expression, of the first syntax, is read, with so many records and pieces, into every buffer that has room for
+-- them; and of the list of records that the buffer then begins with, this holds
 pub record Read (expression : List ℕ) (records pieces : ℕ) (Says : List ℕ → Type 0) : Type 0 where
   pub gives : (buffer : List ℕ) → record-size * records ≤ length buffer
       → answered expression (length buffer)
@@ -102,7 +102,8 @@ Each-step list words (step ∷ later) =
 -- a start, from any words, as many as it leaves; then the steps
 pub record Marking (list : List ℕ) (start : Left) (steps : List Step) : Type 0 where
   pub starts : (words : List ℕ) → length words ≡ length (start .words)
-      → Starts list [] words (start .words) (record { refusal = 0; place = 0; accepting = start .accepting; nothing = false })
+      → Starts list [] words (start .words)
+      (record { refusal = 0; place = 0; accepting = start .accepting; nothing = false })
   pub goes-on : Each-step list (start .words) steps
 
 -- what search says of a text
@@ -236,13 +237,15 @@ module _ (expression : List ℕ) (Says : List ℕ → Type 0) where
             says (take (record-size * nodes t) (records-after expression buffer)) (rw same at (k .good));
       }
     where
-      same-tree : {s u : Tree Leaf} → drawn (scanned first expression) ≡ tree s → drawn (scanned first expression) ≡ tree u → s ≡ u
+      same-tree : {s u : Tree Leaf} → drawn (scanned first expression) ≡ tree s
+          → drawn (scanned first expression) ≡ tree u → s ≡ u
       same-tree e f = cc (e, f)
 
   -- an outcome that passes the test is such a tree with no class, and of it holds what the test stands for
   tree-holds : (test : Tree Leaf → Bool)
       → ((t : Tree Leaf) → test t ≡ true → Classed [] t → (list : List ℕ) → Good list t → Says list)
-      → (outcome : Outcome Leaf) → drawn (scanned first expression) ≡ outcome → is-tree test outcome ≡ true → Of-records expression Says
+      → (outcome : Outcome Leaf) → drawn (scanned first expression) ≡ outcome → is-tree test outcome ≡ true
+      → Of-records expression Says
   unfolding is-tree
   tree-holds test sound (tree t) scans e =
       let rest = also-second _ _ e in
@@ -253,7 +256,8 @@ module _ (expression : List ℕ) (Says : List ℕ → Type 0) where
   tree-holds test sound (refused n p) scans e = absurd (false≢true e)
 
 -- an expression that passes the test for its counts is read with them
-reads-holds : (expression : List ℕ) (records pieces : ℕ) (outcome : Outcome Leaf) → drawn (scanned first expression) ≡ outcome
+reads-holds : (expression : List ℕ) (records pieces : ℕ) (outcome : Outcome Leaf)
+    → drawn (scanned first expression) ≡ outcome
     → is-tree (λ t. also (eqb (nodes t) records) (eqb (piece-count t) pieces)) outcome ≡ true
     → Read expression records pieces (λ list. Unit {0})
 unfolding is-tree
@@ -338,8 +342,10 @@ module _ {list : List ℕ} {t : Tree Leaf} (good : Good list t) (classed : Class
 -- a row whose test passes holds
 row-holds : (row : Row) → row-test row ≡ true → Row-says row
 unfolding row-test
-row-holds (refuses expression number place) e = λ room. refusal-holds number place room (drawn (scanned first expression)) e
-row-holds (reads expression records pieces) e = reads-holds expression records pieces (drawn (scanned first expression)) refl e
+row-holds (refuses expression number place) e = λ room. refusal-holds number place room
+    (drawn (scanned first expression)) e
+row-holds (reads expression records pieces) e = reads-holds expression records pieces
+    (drawn (scanned first expression)) refl e
 row-holds (marks expression start steps) e =
     tree-holds expression _ _
     (λ t h classed list good. marks-hold good classed start steps (also-first _ _ h) (also-second _ _ h))

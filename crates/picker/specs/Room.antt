@@ -77,7 +77,8 @@ module _ (matching : Tree Leaf → List ℕ → Bool) where
       ))
 
   -- an expression that is read has a byte, so there are at most 65,534 texts
-  reported-length : (expr : List ℕ) (outcome : Outcome Leaf) → drawn (scanned first expr) ≡ outcome → (later : List (List ℕ))
+  reported-length : (expr : List ℕ) (outcome : Outcome Leaf) → drawn (scanned first expr) ≡ outcome
+      → (later : List (List ℕ))
       → length later ≤ longest-input - (length expr + 1) → length (reported matching (few-pieces outcome) later)
       ≤ most-output
   reported-length expr (refused number place) e later h =

@@ -42,7 +42,8 @@ fn report_lines(input: &[u8], out: &mut [u8]) -> usize
     requires short { ⌜ length (now input) ≤ longest-input ⌝ }
     requires room { ⌜ most-output ≤ length (now out) ⌝ }
     ensures { λ r. ⌜ Prints (now (out .entry)) 0
-        (reported (matches []) (answered (expression (lines (now (input .entry))))) (texts (lines (now (input .entry)))))
+        (reported (matches []) (answered (expression (lines (now (input .entry)))))
+        (texts (lines (now (input .entry)))))
         (now (out .exit)) r ⌝ }
 {
     let end = line_end(input, 0);

@@ -1,5 +1,5 @@
-// The lines of the texts, by the tables of the expression's list, which are made once. The expression is one of the first
-// syntax, so no class records are lent.
+// The lines of the texts, by the tables of the expression's list, which are made once. The expression is one of the
+// first syntax, so no class records are lent.
 use crate::line::line_end;
 use crate::line::next_line;
 use crate::report::text_line;

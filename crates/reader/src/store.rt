@@ -159,7 +159,8 @@ pub fn store_second(
 ) -> CountedAnswer
     requires room { ⌜ most-labels ≡ length (now labels) ⌝ }
     requires counted { ⌜ Reading-counted (syntax-of true) (now expr) (now labels) count «piece_total» «class_count» ⌝ }
-    ensures { λ r. ⌜ Second-answer (now (expr .entry)) (now (records .entry)) (now (classes .entry)) (now (records .exit))
+    ensures { λ r. ⌜ Second-answer (now (expr .entry)) (now (records .entry)) (now (classes .entry))
+        (now (records .exit))
         (now (classes .exit)) r ⌝ }
 {
     if records.len() < RECORD_SIZE * count {

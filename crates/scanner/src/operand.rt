@@ -21,7 +21,8 @@ pub fn operand(
     second: bool,
 ) -> Part
     requires { ⌜ Scratch-room (now expr) at depth count (now labels) ⌝ }
-    ensures { λ r. ⌜ Part-answer (syntax-of second) starred (now (expr .entry)) at depth count (now (labels .entry)) (now
+    ensures { λ r. ⌜ Part-answer (syntax-of second) starred (now (expr .entry)) at depth count
+        (now (labels .entry)) (now
         (labels .exit)) r ⌝ }
 {
     if at == expr.len() {

@@ -127,7 +127,8 @@ no-stand-in-at-leaf : {a : Leaf} {f p n i : ℕ} {u : Site} {k : ℕ} → In (si
 no-stand-in-at-leaf here m = plain-no-stand-in tt m
 
 -- a leaf's part
-pub fill-leaf : {list : List ℕ} {a : Leaf} {f p n i : ℕ} {room : ℕ} → Fine list room (site (leaf a) f p n i) → (t : Tables)
+pub fill-leaf : {list : List ℕ} {a : Leaf} {f p n i : ℕ} {room : ℕ} → Fine list room (site (leaf a) f p n i)
+    → (t : Tables)
     → Tables-room room t
     → Filled (site (leaf a) f p n i) t (start-entry t (row-size * p + i) (leaf-code a)) (i + 2)
 fill-leaf {a = a} {p = p} {i = i} h t full =
@@ -145,7 +146,8 @@ abbrev pub stand-entries : Tables → (at k i node : ℕ) → Tables
 stand-entries t at k i node = tables (set (t .codes) at 0) (set (t .stands) k i) (set (t .roots) k node)
 
 -- a stand-in's own child piece is told of
-stand-placed : {list : List ℕ} {x : Nested Leaf} {f p n i : ℕ} {room : ℕ} → Fine list room (site (below x) f p n i) → (t : Tables)
+stand-placed : {list : List ℕ} {x : Nested Leaf} {f p n i : ℕ} {room : ℕ} → Fine list room (site (below x) f p n i)
+    → (t : Tables)
     → Tables-room room t → (node : ℕ) → node + 1 ≡ f + size x
     → {u : Site} {k : ℕ} → In (site (below x) f p n i) u → Stand-in u k → piece u ≡ p
     → Stand-in-placed (stand-entries t (row-size * p + i) n i node) u k
@@ -159,7 +161,8 @@ stand-placed {x = x} {n = n} {i = i} h t full node at here stand-in e =
 stand-placed h t full node at (step under m) s e = absurd (omega (arith, piece-grows (child-fine under h) m))
 
 -- a stand-in's part
-pub fill-stand : {list : List ℕ} {x : Nested Leaf} {f p n i : ℕ} {room : ℕ} → Fine list room (site (below x) f p n i) → (t : Tables)
+pub fill-stand : {list : List ℕ} {x : Nested Leaf} {f p n i : ℕ} {room : ℕ} → Fine list room (site (below x) f p n i)
+    → (t : Tables)
     → Tables-room room t → (node : ℕ) → node + 1 ≡ f + size x
     → Filled (site (below x) f p n i) t (stand-entries t (row-size * p + i) n i node) (i + 2)
 fill-stand {x = x} {f = f} {p = p} {n = n} {i = i} h t full node at =
@@ -226,7 +229,8 @@ pub record Joint (kind : ℕ) (s l r : Site) : Type 0 where
   pub wide-as : width (tree s) ≡ 1 + width (tree l) + width (tree r) + 1
   pub front-as : let last = number s + (1 + width (tree l) + width (tree r)) in
       fronts (tree s) (number s) ≡ begin-code kind (number r)
-      ∷ (codes-of (tree l) (number l) (left-exit kind last) ++ codes-of (tree r) (number r) (right-exit kind (number s)))
+      ∷ (codes-of (tree l) (number l) (left-exit kind last)
+      ++ codes-of (tree r) (number r) (right-exit kind (number s)))
   pub either : (u : Site) (k : ℕ) → In s u → Stand-in u k → In l u ⊎ In r u
   pub apart : (k : ℕ) → Reaches-piece l k → Reaches-piece r k → ⊥
 
@@ -292,7 +296,8 @@ still-placed p e = record { stand = e .stand ∙ p .stand; root = ap (λ (n : �
 both-same : {t mid after : Tables} {k : ℕ} → Same-place t mid k → Same-place mid after k → Same-place t after k
 both-same a b = record { stand = b .stand ∙ a .stand; root = b .root ∙ a .root }
 
-module _ {list : List ℕ} {kind : ℕ} {s l r : Site} {room : ℕ} (j : Joint kind s l r) (h : Fine list room s) (t mid after : Tables)
+module _ {list : List ℕ} {kind : ℕ} {s l r : Site} {room : ℕ} (j : Joint kind s l r) (h : Fine list room s)
+    (t mid after : Tables)
     (full : Tables-room room after) (middle last : ℕ) (a : Filled l t mid middle) (b : Filled r mid after last) where
   -- what the children's parts tell of child pieces stands
   two-placed : (u : Site) (k : ℕ) → Own-stand-in s u k → Stand-in-placed after u k
@@ -400,7 +405,8 @@ operand-only : {x : Nested Leaf} {f p n i : ℕ} {u : Site} {k : ℕ} → In (si
 operand-only here s = absurd (plain-no-stand-in tt s)
 operand-only (step operand m) s = m
 
-module _ {list : List ℕ} {x : Nested Leaf} {f p n i : ℕ} {room : ℕ} (h : Fine list room (site (star x) f p n i)) (t after : Tables)
+module _ {list : List ℕ} {x : Nested Leaf} {f p n i : ℕ} {room : ℕ} (h : Fine list room (site (star x) f p n i))
+    (t after : Tables)
     (full : Tables-room room after) (last : ℕ) (a : Filled (site x f p n (i + 1)) t after last) where
   -- a star's codes, from those of its operand's part
   star-front : Lies (joined after (row-size * p) star-kind i last last .codes) (row-size * p + i) (fronts (star x) i)

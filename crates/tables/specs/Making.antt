@@ -290,7 +290,8 @@ module _ {list : List ℕ} {x : Nested Leaf} (top : Top list x) (k : ℕ) (insid
   }
 
 -- when all pieces have been made, the tables are those that are wanted
-module _ {list : List ℕ} {x : Nested Leaf} (top : Top list x) {t : Tables} (room : Tables-room (1 + run x) t) {runs tops : List ℕ}
+module _ {list : List ℕ} {x : Nested Leaf} (top : Top list x) {t : Tables} (room : Tables-room (1 + run x) t)
+    {runs tops : List ℕ}
     (made : Pieces-made x (1 + run x) t runs tops) where
   -- the tables without the roots
   abbrev told : Plan.Pieces
@@ -356,7 +357,8 @@ module _ {list cuts : List ℕ} {k : ℕ} {t : Tables} {runs tops : List ℕ} (m
   the-piece : Piece-of (making .listed .some) k
   the-piece = piece-of (making .listed .some) k (inside .below-count _ the-top)
 
-  the-sits : Sits list (1 + run (making .listed .some)) (getD (t .roots) k 0) k 0 (head-site (the-piece .top) (the-piece .begin) k)
+  the-sits : Sits list (1 + run (making .listed .some)) (getD (t .roots) k 0) k 0
+      (head-site (the-piece .top) (the-piece .begin) k)
   the-sits = head-sits the-top (making .so-far _ the-top) (the-piece .head)
 
   the-room : Tables-room (1 + run (making .listed .some)) t

@@ -45,13 +45,14 @@ abbrev pub start-code : Leaf → ℕ
 start-code (character c) = 2 * (c + 1)
 start-code (class k) = 2 * k + 1
 
--- the code of a leaf's start: it leads on where the leaf has the empty text, else the leaf's number stands above the two
--- bits, which are 0
+-- the code of a leaf's start: it leads on where the leaf has the empty text, else the leaf's number stands above the
+-- two bits, which are 0
 abbrev pub leaf-code : Leaf → ℕ
 leaf-code a = cond (has-empty a) leads-on (4 * start-code a)
 
--- the codes of the states of x's own part of its piece, numbered from i, in the order of the numbers. `exit` is the code
--- of x's accepting state. A stand-in's start has the code 0: no empty transition leads from it and it reads no byte
+-- the codes of the states of x's own part of its piece, numbered from i, in the order of the numbers. `exit` is the
+-- code of x's accepting state. A stand-in's start has the code 0: no empty transition leads from it and it reads no
+-- byte
 abbrev pub codes-of : Nested Leaf → ℕ → ℕ → List ℕ
 codes-of (leaf a) i exit = leaf-code a ∷ exit ∷ []
 codes-of (catenation x y) i exit =

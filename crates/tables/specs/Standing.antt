@@ -330,7 +330,8 @@ module _ {list : List ℕ} {f p n i : ℕ} {room : ℕ} where
       → r + 1 ≡ f + size (catenation x y) → Shows list r catenation-kind 0 (f + size x - 1) (f + size x + size y - 1) p
   catenation-shows h r at = root-shows (h .written) r _ _ _ _ _ at refl (omega arith) (omega arith) (omega arith)
 
-  pub union-shows : {x y : Nested Leaf} → Fine list room (site (union x y) f p n i) → (r : ℕ) → r + 1 ≡ f + size (union x y)
+  pub union-shows : {x y : Nested Leaf} → Fine list room (site (union x y) f p n i) → (r : ℕ) → r + 1 ≡ f
+      + size (union x y)
       → Shows list r union-kind 0 (f + size x - 1) (f + size x + size y - 1) p
   union-shows h r at = root-shows (h .written) r _ _ _ _ _ at refl (omega arith) (omega arith) (omega arith)
 
@@ -339,7 +340,8 @@ module _ {list : List ℕ} {f p n i : ℕ} {room : ℕ} where
   star-shows h r at = root-shows (h .written) r _ _ _ _ _ at refl (omega arith) (omega arith) (omega arith)
 
 -- the piece that a node's record shows is the node's
-pub piece-shows : {list : List ℕ} {f p n i : ℕ} {room : ℕ} (x : Nested Leaf) → Plain x → Fine list room (site x f p n i) → (r : ℕ)
+pub piece-shows : {list : List ℕ} {f p n i : ℕ} {room : ℕ} (x : Nested Leaf) → Plain x → Fine list room (site x f p n i)
+    → (r : ℕ)
     → r + 1 ≡ f + size x → piece-at list r ≡ p
 piece-shows (leaf a) plain h r at = leaf-shows a h r at .piece-is
 piece-shows (catenation x y) plain h r at = catenation-shows h r at .piece-is
@@ -348,7 +350,8 @@ piece-shows (star x) plain h r at = star-shows h r at .piece-is
 piece-shows (below x) plain h r at = absurd plain
 
 -- the list holds the records of the site
-pub within : {list : List ℕ} {s : Site} {room : ℕ} → Fine list room s → record-size * (first s + size (tree s)) ≤ length list
+pub within : {list : List ℕ} {s : Site} {room : ℕ} → Fine list room s → record-size * (first s + size (tree s)) ≤
+    length list
 within {list} {s = site x f p n i} h =
     let w = h .written in
     let e = w .begins in

@@ -91,11 +91,13 @@ bounds (sits {x = x} h e) = record {
 }
 
 -- a stand-in's record shows the child piece, which is new
-below-shows : {list : List ℕ} {x : Nested Leaf} {f p n i : ℕ} {room : ℕ} → Fine list room (site (below x) f p n i) → (node : ℕ)
+below-shows : {list : List ℕ} {x : Nested Leaf} {f p n i : ℕ} {room : ℕ} → Fine list room (site (below x) f p n i)
+    → (node : ℕ)
     → node + 1 ≡ f + size x → piece-at list node ≡ n
 below-shows {x = x} h node e = piece-shows x (h .sound .0) (child-fine under h) node e
 
-below-differs : {list : List ℕ} {x : Nested Leaf} {f p n i : ℕ} {room : ℕ} → Fine list room (site (below x) f p n i) → (node : ℕ)
+below-differs : {list : List ℕ} {x : Nested Leaf} {f p n i : ℕ} {room : ℕ} → Fine list room (site (below x) f p n i)
+    → (node : ℕ)
     → node + 1 ≡ f + size x → piece-at list node ≡ p → ⊥
 below-differs h node e same = omega (arith, below-shows h node e, h .later)
 
@@ -148,7 +150,8 @@ class-code list node e =
 no-code : (list : List ℕ) (node : ℕ) → (kind-at list node ≡ character-kind → ⊥) → (kind-at list node ≡ class-kind → ⊥)
     → code-at list node ≡ 0
 no-code list node other other' =
-    cond-different (kind-at list node) character-kind _ _ other ∙ cond-different (kind-at list node) class-kind _ _ other'
+    cond-different (kind-at list node) character-kind _ _ other ∙ cond-different (kind-at list node) class-kind _
+    _ other'
 
 -- so it is by the kind that was read
 module _ {list : List ℕ} {node kind : ℕ} (readable : Code-readable list node kind) where
@@ -163,7 +166,8 @@ module _ {list : List ℕ} {node kind : ℕ} (readable : Code-readable list node
       no-code list node (λ e. other (readable .of-kind ∙ e)) (λ e. other' (readable .of-kind ∙ e))
 
 -- the code that a leaf's record shows is its own
-shown-code : {list : List ℕ} {f p n i : ℕ} {room : ℕ} (a : Leaf) → Fine list room (site (leaf a) f p n i) → (r : ℕ) → r + 1 ≡ f + 1
+shown-code : {list : List ℕ} {f p n i : ℕ} {room : ℕ} (a : Leaf) → Fine list room (site (leaf a) f p n i) → (r : ℕ) → r
+    + 1 ≡ f + 1
     → code-at list r ≡ leaf-code a
 shown-code {list} (character c) h r e =
     let shown = leaf-shows (character c) h r e in
@@ -256,7 +260,8 @@ kid-sits {x = x} child h e = sits h (omega (arith, size-positive x))
 
 -- where it shows a star, the site is one
 pub visit-star : {list : List ℕ} {node piece at : ℕ} {s : Site} {room : ℕ} → Sits list room node piece at s
-    → piece-at list node ≡ piece → kind-at list node ≡ star-kind → (t after : Tables) → Tables-room room after → (last : ℕ)
+    → piece-at list node ≡ piece → kind-at list node ≡ star-kind → (t after : Tables) → Tables-room room after
+    → (last : ℕ)
     → Visited-within list room (left-at list node) piece (at + 1) t after last
     → Filled s t (joined after (row-size * piece) (kind-at list node) at last last) (last + 1)
 visit-star {list} {node} (sits {x = leaf a} h e) own kind t after full last done =
@@ -300,7 +305,8 @@ visit-right {node = node} (sits {x = below x} h e) own code other t mid middle d
 -- both children have been visited
 two-visited : {list : List ℕ} {kind node piece at : ℕ} {s l r : Site} {room : ℕ} → Joint kind s l r → Fine list room s
     → Sits list room node piece at s → (t mid after : Tables) → Tables-room room after → (middle last : ℕ)
-    → Sits list room (left-at list node) piece (at + 1) l → Visited-within list room (left-at list node) piece (at + 1) t mid middle
+    → Sits list room (left-at list node) piece (at + 1) l → Visited-within list room (left-at list node) piece (at + 1)
+    t mid middle
     → ((k : ℕ) → number r ≡ k → Sits list room (right-at list node) piece k r)
     → Visited-within list room (right-at list node) piece middle mid after last
     → kind-at list node ≡ kind
@@ -318,7 +324,8 @@ right-sits {list} {x} {f} {p} {n} {i} {room} child h e k same =
     subst (λ (m : ℕ). Sits list room child p m (site x f p n i)) same (kid-sits child h e)
 
 -- where it shows no code and no star, the site is a node with two children
-pub visit-two : {list : List ℕ} {node piece at : ℕ} {s : Site} {room : ℕ} → Sits list room node piece at s → piece-at list node ≡ piece
+pub visit-two : {list : List ℕ} {node piece at : ℕ} {s : Site} {room : ℕ} → Sits list room node piece at s
+    → piece-at list node ≡ piece
     → code-at list node ≡ 0 → (kind-at list node ≡ star-kind → ⊥)
     → (t mid after : Tables) → Tables-room room after → (middle last : ℕ)
     → Visited-within list room (left-at list node) piece (at + 1) t mid middle
@@ -342,7 +349,8 @@ visit-two {node = node} (sits {x = below x} h e) own code other t mid after full
     absurd (below-differs h node e own)
 
 -- a part that was filled ends within the row
-pub filled-ends : {list : List ℕ} {node piece at end : ℕ} {s : Site} {t after : Tables} {room : ℕ} → Sits list room node piece at s
+pub filled-ends : {list : List ℕ} {node piece at end : ℕ} {s : Site} {t after : Tables} {room : ℕ}
+    → Sits list room node piece at s
     → Filled s t after end → (at + 2 ≤ end) × (end ≤ most-states)
 filled-ends (sits {x = x} h e) filled = omega (arith, wide x, h .narrow, filled .ended)
 

@@ -1,5 +1,5 @@
-// A piece's codes, filled in by a walk of the piece's own tree: for each state where its empty transitions lead, or which
-// leaf starts there.
+// A piece's codes, filled in by a walk of the piece's own tree: for each state where its empty transitions lead, or
+// which leaf starts there.
 use crate::ROW_SIZE;
 use tree::layout::CATENATION;
 use tree::layout::CHARACTER;

@@ -41,7 +41,8 @@ pub closed-none : (reach codes words : List ℕ) → Closed-words reach codes wo
 closed-none reach codes words = record { same-length = refl; words = λ k h. absurd (omega arith); others = λ k h. refl }
 
 -- one more, whose word is v before its closing
-pub closed-more : {reach codes before after : List ℕ} {n v w : ℕ} → n < length before → Closed-words reach codes before after n
+pub closed-more : {reach codes before after : List ℕ} {n v w : ℕ} → n < length before
+    → Closed-words reach codes before after n
     → ((x : Nested Leaf) → width x ≤ most-states → Lays reach codes x n → v < 2 ^ width x → Closes x v w)
     → Closed-words reach codes (set before n v) (set after n w) (n + 1)
 closed-more {reach} {codes} {before} {after} {n} {v} {w} inside so-far closes = record {

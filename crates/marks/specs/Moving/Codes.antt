@@ -19,7 +19,8 @@ use Rattle.marks.specs.BitsOfWords.Numbers.{number-below}
 
 -- in the list for a node of two parts, where the codes of the parts' states are
 module _ (x y : Nested Leaf) where
-  pub left-code : (p : State) → Own x p → getD (takes (catenation x y)) (1 + number x p) 0 ≡ getD (takes x) (number x p) 0
+  pub left-code : (p : State) → Own x p → getD (takes (catenation x y)) (1 + number x p) 0 ≡ getD (takes x)
+      (number x p) 0
   left-code p o = two-left 0 0 (takes x) (takes y) (length-takes x) (length-takes y) 0 (number x p)
       (number-below x p o)
 

@@ -1,5 +1,5 @@
--- The codes of leaves' starts: above the two lowest bits, which are 0, stands the leaf's number; no other state has such a
--- code but 0.
+-- The codes of leaves' starts: above the two lowest bits, which are 0, stands the leaf's number; no other state has
+-- such a code but 0.
 use Prim.Native.Nat.{ℕ, _+_, _*_, _%_, _<_}
 use mathlib.Core.Path.{_≡_, refl, sym, _∙_, subst}
 use mathlib.Core.Logic.{_⊎_, inl, inr, _↔_, ⊎-elim}

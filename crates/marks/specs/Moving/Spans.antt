@@ -7,8 +7,8 @@ use native.Mathlib.Decide.{ℕ-discrete, decLt}
 use lib.ListN.{length, getD, set}
 use lib.Seq.{getD-set-same, getD-set-other}
 
--- of the first n words those before `from` are 0 and those from `to` on; where there is a mark, the word before `to` has
--- one
+-- of the first n words those before `from` are 0 and those from `to` on; where there is a mark, the word before `to`
+-- has one
 pub record Spans (words : List ℕ) (n from to : ℕ) : Type 0 where
   pub none-before : (o : ℕ) → o < from → getD words o 0 ≡ 0
   pub none-after : (o : ℕ) → to ≤ o → o < n → getD words o 0 ≡ 0

@@ -39,37 +39,40 @@ module _ {classes codes : List ℕ} {base byte w rest r s : ℕ} (so-far : Picke
   -- the lowest bit that is left is picked where the code of its state takes the byte
   pub picked-more : {rest′ r′ : ℕ} → Code-takes classes (getD codes (base + s) 0 / 4) byte → r′ ≡ bitOr r (2 ^ s)
       → rest′ ≡ bitAnd rest (rest - 1) → Picked classes codes base byte w rest′ r′
-  picked-more has picks takes = subst₂ (λ (m v : ℕ). Picked classes codes base byte w m v) (sym takes) (sym picks) record {
-    among = λ i b. so-far .among i (lowest .left i .0 b .0);
-    exactly = λ j. (
-      λ c. ⊎-elim
-          (λ d. let (b, gone, at) = so-far .exactly j .0 d in (b, λ l. gone (lowest .left j .0 l .0), at))
-          (λ e. (
-            subst (λ (i : ℕ). Bit w i) (sym e) (so-far .among s (lowest .is-set)),
-            λ l. lowest .left j .0 l .1 e,
-            subst (λ (i : ℕ). Code-takes classes (getD codes (base + i) 0 / 4) byte) (sym e) has,
-          ))
-          (bit-with r s j .0 c),
-      λ (b, gone, at). bit-with r s j .1 (elim (ℕ-discrete j s) [
-        | yes e ↦ inr e
-        | no other ↦ inl (so-far .exactly j .1 (b, λ l. gone (lowest .left j .1 (l, other)), at))
-      ]),
-    );
-  }
+  picked-more has picks takes = subst₂ (λ (m v : ℕ). Picked classes codes base byte w m v) (sym takes) (sym picks)
+      record {
+        among = λ i b. so-far .among i (lowest .left i .0 b .0);
+        exactly = λ j. (
+          λ c. ⊎-elim
+              (λ d. let (b, gone, at) = so-far .exactly j .0 d in (b, λ l. gone (lowest .left j .0 l .0), at))
+              (λ e. (
+                subst (λ (i : ℕ). Bit w i) (sym e) (so-far .among s (lowest .is-set)),
+                λ l. lowest .left j .0 l .1 e,
+                subst (λ (i : ℕ). Code-takes classes (getD codes (base + i) 0 / 4) byte) (sym e) has,
+              ))
+              (bit-with r s j .0 c),
+          λ (b, gone, at). bit-with r s j .1 (elim (ℕ-discrete j s) [
+            | yes e ↦ inr e
+            | no other ↦ inl (so-far .exactly j .1 (b, λ l. gone (lowest .left j .1 (l, other)), at))
+          ]),
+        );
+      }
 
   -- and is not where it does not
-  pub picked-same : {rest′ r′ : ℕ} → (Code-takes classes (getD codes (base + s) 0 / 4) byte → ⊥) → r′ ≡ r → rest′ ≡ bitAnd rest (rest - 1)
+  pub picked-same : {rest′ r′ : ℕ} → (Code-takes classes (getD codes (base + s) 0 / 4) byte → ⊥) → r′ ≡ r
+      → rest′ ≡ bitAnd rest (rest - 1)
       → Picked classes codes base byte w rest′ r′
-  picked-same lacks keeps takes = subst₂ (λ (m v : ℕ). Picked classes codes base byte w m v) (sym takes) (sym keeps) record {
-    among = λ i b. so-far .among i (lowest .left i .0 b .0);
-    exactly = λ j. (
-      λ c. let (b, gone, at) = so-far .exactly j .0 c in (b, λ l. gone (lowest .left j .0 l .0), at),
-      λ (b, gone, at). elim (ℕ-discrete j s) [
-        | yes e ↦ absurd (lacks (subst (λ (i : ℕ). Code-takes classes (getD codes (base + i) 0 / 4) byte) e at))
-        | no other ↦ so-far .exactly j .1 (b, λ l. gone (lowest .left j .1 (l, other)), at)
-      ],
-    );
-  }
+  picked-same lacks keeps takes = subst₂ (λ (m v : ℕ). Picked classes codes base byte w m v) (sym takes) (sym keeps)
+      record {
+        among = λ i b. so-far .among i (lowest .left i .0 b .0);
+        exactly = λ j. (
+          λ c. let (b, gone, at) = so-far .exactly j .0 c in (b, λ l. gone (lowest .left j .0 l .0), at),
+          λ (b, gone, at). elim (ℕ-discrete j s) [
+            | yes e ↦ absurd (lacks (subst (λ (i : ℕ). Code-takes classes (getD codes (base + i) 0 / 4) byte) e at))
+            | no other ↦ so-far .exactly j .1 (b, λ l. gone (lowest .left j .1 (l, other)), at)
+          ],
+        );
+      }
 
 -- a word one place up
 bit-up : (w j : ℕ) → Bit (w * 2) (suc j) ↔ Bit w j
@@ -96,7 +99,11 @@ record Comes (classes : List ℕ) (x : Nested Leaf) (b w j : ℕ) : Type 0 where
 
 -- that state is one of the piece
 comes-below : {classes : List ℕ} {x : Nested Leaf} {b w j : ℕ} → Comes classes x b w j → j < width x
-comes-below {classes} {x} {b} m = omega (arith, number-below x (m .to) (reads-on classes b x (m .reads) .to-own), m .numbered)
+comes-below {classes} {x} {b} m = omega (
+  arith,
+  number-below x (m .to) (reads-on classes b x (m .reads) .to-own),
+  m .numbered,
+)
 
 -- so one leads to the state of that number
 comes-to : {classes : List ℕ} {x : Nested Leaf} {b w : ℕ} (q : State) → Own x q → Comes classes x b w (number x q)

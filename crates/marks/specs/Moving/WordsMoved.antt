@@ -51,12 +51,14 @@ neither f g = (λ a. absurd (f a), λ b. absurd (g b))
 module _ (classes : List ℕ) (b : ℕ) where
   -- where a transition that reads comes from, by where it leads: into the first part of a catenation
   module _ {s t : Tree (Own-leaf Leaf)} where
-    reads-catenation-left : (p : State) {q : State} → Reads (own-meaning (meaning classes)) b (Tree.catenation s t) p (left q)
+    reads-catenation-left : (p : State) {q : State} → Reads (own-meaning (meaning classes)) b (Tree.catenation s t) p
+        (left q)
         → (r : State) × (p ≡ left r) × Reads (own-meaning (meaning classes)) b s r q
     reads-catenation-left p (Reads.catenation-left {p = r} e) = (r, refl, e)
 
     -- into the second part of a catenation
-    reads-catenation-right : (p : State) {q : State} → Reads (own-meaning (meaning classes)) b (Tree.catenation s t) p (right q)
+    reads-catenation-right : (p : State) {q : State} → Reads (own-meaning (meaning classes)) b (Tree.catenation s t) p
+        (right q)
         → (r : State) × (p ≡ right r) × Reads (own-meaning (meaning classes)) b t r q
     reads-catenation-right p (Reads.catenation-right {p = r} e) = (r, refl, e)
 
@@ -90,12 +92,14 @@ module _ (classes : List ℕ) (b : ℕ) where
     in-catenation-right p (Reading.catenation-right {p = r} e) = (r, refl, e)
 
     -- into the first part of a union
-    in-union-left : (p : State) {q : State} → Reading (meaning classes) b (union x y) p (left q) → (r : State) × (p ≡ left r)
+    in-union-left : (p : State) {q : State} → Reading (meaning classes) b (union x y) p (left q) → (r : State)
+        × (p ≡ left r)
         × Reading (meaning classes) b x r q
     in-union-left p (Reading.union-left {p = r} e) = (r, refl, e)
 
     -- into the second part of a union
-    in-union-right : (p : State) {q : State} → Reading (meaning classes) b (union x y) p (right q) → (r : State) × (p ≡ right r)
+    in-union-right : (p : State) {q : State} → Reading (meaning classes) b (union x y) p (right q) → (r : State)
+        × (p ≡ right r)
         × Reading (meaning classes) b y r q
     in-union-right p (Reading.union-right {p = r} e) = (r, refl, e)
 
@@ -121,11 +125,13 @@ module _ (classes : List ℕ) (b : ℕ) where
   no-catenation = elim [ ]
 
   -- none to that of a union
-  no-union : {s t : Tree (Own-leaf Leaf)} {p : State} → Reads (own-meaning (meaning classes)) b (Tree.union s t) p accepting → ⊥
+  no-union : {s t : Tree (Own-leaf Leaf)} {p : State} → Reads (own-meaning (meaning classes)) b (Tree.union s t) p
+      accepting → ⊥
   no-union = elim [ ]
 
   -- none to that of a star
-  no-star : {s : Tree (Own-leaf Leaf)} {p : State} → Reads (own-meaning (meaning classes)) b (Tree.star s) p accepting → ⊥
+  no-star : {s : Tree (Own-leaf Leaf)} {p : State} → Reads (own-meaning (meaning classes)) b (Tree.star s) p
+      accepting → ⊥
   no-star = elim [ ]
 
   -- a stand-in reads no byte
@@ -155,7 +161,8 @@ module _ (classes : List ℕ) (b : ℕ) where
   -- in a part of the piece, whose states are numbered from i, the bits of w′ are those of w moved along b
   record Shifts (x : Nested Leaf) (i w w′ : ℕ) : Type 0 where
     exactly : (q : State) → Own x q
-        → Bit w′ (i + number x q) ↔ ((p : State) × (Own x p × Bit w (i + number x p)) × Own-reads (meaning classes) b x p q)
+        → Bit w′ (i + number x q) ↔ ((p : State) × (Own x p × Bit w (i + number x p))
+        × Own-reads (meaning classes) b x p q)
 
   -- a bit by an equal number
   at : (w : ℕ) {i j : ℕ} → i ≡ j → Bit w i → Bit w j
@@ -177,7 +184,8 @@ module _ (classes : List ℕ) (b : ℕ) where
   part : (z x : Nested Leaf) (e : State → State) (k : ℕ) → ((q : State) → number z (e q) ≡ k + number x q)
       → ((q : State) → Own z (e q) ↔ Own x q)
       → ((p q : State) → Own-reads (meaning classes) b x p q → Own-reads (meaning classes) b z (e p) (e q))
-      → ((p q : State) → Own-reads (meaning classes) b z p (e q) → (r : State) × (p ≡ e r) × Own-reads (meaning classes) b x r q)
+      → ((p q : State) → Own-reads (meaning classes) b z p (e q) → (r : State) × (p ≡ e r)
+      × Own-reads (meaning classes) b x r q)
       → {i w w′ : ℕ} → Shifts z i w w′ → Shifts x (i + k) w w′
   part z x e k numbered owned into back {i} {w} {w′} whole = record {
     exactly = λ q o. (
@@ -245,7 +253,8 @@ module _ (classes : List ℕ) (b : ℕ) where
   reads-leaf (Reads.at-leaf e) = (refl, e)
 
   -- the same in all pieces: at a leaf it comes from the leaf's start
-  in-leaf : {a : Leaf} {p : State} → Reading (meaning classes) b (leaf a) p accepting → (p ≡ start) × (meaning classes) .Takes a b
+  in-leaf : {a : Leaf} {p : State} → Reading (meaning classes) b (leaf a) p accepting → (p ≡ start)
+      × (meaning classes) .Takes a b
   in-leaf (Reading.at-leaf e) = (refl, e)
 
   -- at a leaf
@@ -351,11 +360,13 @@ first-left l k = getD-drop k l 0 0 ∙ ap (λ (i : ℕ). getD l i 0) (add-zero k
 module _ (reach classes codes before after : List ℕ) (b n : ℕ)
     (rows : Rows (Word-moved reach classes codes before b) before after 0 n) where
   -- the word of piece k is moved
-  word-moved : (x : Nested Leaf) (k : ℕ) → k < n → Lays reach codes x k → width x ≤ most-states → getD (drop k before) 0 0
+  word-moved : (x : Nested Leaf) (k : ℕ) → k < n → Lays reach codes x k → width x ≤ most-states
+      → getD (drop k before) 0 0
       < 2 ^ width x
       → Moves classes x b (getD (drop k before) 0 0) (getD (drop k after) 0 0)
   word-moved x k h at narrow small =
-      subst₂ (λ (v w : ℕ). Moves classes x b v w) (sym (first-left before k)) (ap (λ (i : ℕ). getD after i 0) (zero-add k)
+      subst₂ (λ (v w : ℕ). Moves classes x b v w) (sym (first-left before k))
+      (ap (λ (i : ℕ). getD after i 0) (zero-add k)
       ∙ sym (first-left after k))
       (rows .rows k h .moves x narrow at (subst (λ (v : ℕ). v < 2 ^ width x) (first-left before k) small))
 
@@ -393,7 +404,8 @@ module _ (reach classes codes before after : List ℕ) (b n : ℕ)
       let top = word-moved x 0 (omega arith) (at .0) narrow-top (clean .0) in
       let children = below-moved x 1 (at .1) h narrow (clean .1) in
       record {
-        holds = marked-moved classes b x 0 (getD before 0 0) (getD after 0 0) (drop 1 before) (drop 1 after) (shifts classes b top)
+        holds = marked-moved classes b x 0 (getD before 0 0) (getD after 0 0) (drop 1 before) (drop 1 after)
+            (shifts classes b top)
             children;
         clean = (top .clean, clean-moved classes b x (drop 1 before) (drop 1 after) children);
       }

@@ -45,7 +45,11 @@ pub record Moving-closing (reach classes codes before after : List ℕ) (b n : �
 -- at first none is
 pub moving-none : (reach classes codes words : List ℕ) (b : ℕ) → Moving-closing reach classes codes words words b 0
 moving-none reach classes codes words b =
-    record { moved = words; moves = rows-none (Word-moved reach classes codes words b) words 0; closes = closed-none reach codes words }
+    record {
+      moved = words;
+      moves = rows-none (Word-moved reach classes codes words b) words 0;
+      closes = closed-none reach codes words;
+    }
 
 -- r is the word of the piece after the byte b: moved, and closed in the piece
 pub record Word-after (reach classes codes : List ℕ) (piece word b r : ℕ) : Type 0 where
@@ -56,20 +60,23 @@ pub record Word-after (reach classes codes : List ℕ) (piece word b r : ℕ) : 
       → Closes x moved r
 
 -- a word of no marks stays one
-pub none-after : (reach classes codes : List ℕ) (piece word b : ℕ) → word ≡ 0 → Word-after reach classes codes piece word b 0
-none-after reach classes codes piece word b none = subst (λ (w : ℕ). Word-after reach classes codes piece w b 0) (sym none) record {
-  moved = 0;
-  moves = λ x narrow lays small. record {
-    exactly = λ q o. (λ m. absurd (bit-zero (number x q) m), λ (p, o', m, way). absurd (bit-zero (number x p) m));
-    clean = small;
-  };
-  closes = λ x narrow lays small. closes-none x;
-}
+pub none-after : (reach classes codes : List ℕ) (piece word b : ℕ) → word ≡ 0 → Word-after reach classes codes piece
+    word b 0
+none-after reach classes codes piece word b none = subst (λ (w : ℕ). Word-after reach classes codes piece w b 0)
+    (sym none) record {
+      moved = 0;
+      moves = λ x narrow lays small. record {
+        exactly = λ q o. (λ m. absurd (bit-zero (number x q) m), λ (p, o', m, way). absurd (bit-zero (number x p) m));
+        clean = small;
+      };
+      closes = λ x narrow lays small. closes-none x;
+    }
 
 -- one word more
 pub moving-more : {reach classes codes before after : List ℕ} {b n w : ℕ} → n < length before
     → Moving-closing reach classes codes before after b n
-    → Word-after reach classes codes n (getD after n 0) b w → Moving-closing reach classes codes before (set after n w) b (n + 1)
+    → Word-after reach classes codes n (getD after n 0) b w → Moving-closing reach classes codes before (set after n w)
+    b (n + 1)
 moving-more {reach} {classes} {codes} {after = after} {b = b} {n = n} inside so-far next = record {
   moved = set (so-far .moved) n (next .moved);
   moves = moved-more inside (so-far .moves)
@@ -80,7 +87,8 @@ moving-more {reach} {classes} {codes} {after = after} {b = b} {n = n} inside so-
 }
 
 -- at last all are
-pub moving-all : {reach classes codes before after : List ℕ} {b n m : ℕ} → m ≡ n → Moving-closing reach classes codes before after b m
+pub moving-all : {reach classes codes before after : List ℕ} {b n m : ℕ} → m ≡ n → Moving-closing reach classes codes
+    before after b m
     → Moved-closed reach classes codes before after b n
 moving-all {reach} {codes = codes} {after = after} e all = record {
   moved = all .moved;
@@ -88,7 +96,8 @@ moving-all {reach} {codes = codes} {after = after} e all = record {
   closes = subst (λ (k : ℕ). Closed-words reach codes (all .moved) after k) e (all .closes);
 }
 
-module _ {reach classes codes before after : List ℕ} {b n : ℕ} (went : Moved-closed reach classes codes before after b n) where
+module _ {reach classes codes before after : List ℕ} {b n : ℕ} (went : Moved-closed reach classes codes before after b
+    n) where
   -- no word is added or taken away
   pub moved-length : length after ≡ length before
   moved-length = omega (arith, went .moves .same-length, went .closes .same-length)
@@ -108,7 +117,8 @@ module _ {reach classes codes before after : List ℕ} {b n : ℕ} (went : Moved
         (alone .holds q has .1 m)
 
     -- the marks lie within each settled set that has the moved ones
-    pub moved-within : (Z : States) → Settled byteless x Z → More-in (Has x) (Move (meaning classes) b x (Holds x before)) Z
+    pub moved-within : (Z : States) → Settled byteless x Z
+        → More-in (Has x) (Move (meaning classes) b x (Holds x before)) Z
         → More-in (Has x) (Holds x after) Z
     moved-within Z settled within =
         closed-within (went .closes) x laid room narrow narrow-below (alone .clean) Z settled

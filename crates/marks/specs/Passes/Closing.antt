@@ -39,8 +39,8 @@ pub data Got (on jumps : ℕ) (codes : List ℕ) (base w : ℕ) : ℕ → Type 0
   led : {i j : ℕ} → Got on jumps codes base w i → Bit on i → suc i ≡ j → Got on jumps codes base w j
   jumped : {i j : ℕ} → Got on jumps codes base w i → Bit jumps i → target codes base i ≡ j → Got on jumps codes base w j
 
--- r has the marks of w and those that passes have made of them; the jumps in `left` have not been taken, and those of the
--- states in `done` need not be
+-- r has the marks of w and those that passes have made of them; the jumps in `left` have not been taken, and those of
+-- the states in `done` need not be
 pub record Passing (on jumps : ℕ) (codes : List ℕ) (base w done left r : ℕ) : Type 0 where
   pub kept : (i : ℕ) → Bit w i → Bit r i
   pub reached : (i : ℕ) → Bit r i → Got on jumps codes base w i
@@ -76,7 +76,8 @@ module _ {on jumps : ℕ} {codes : List ℕ} {base w : ℕ} where
   }
 
   -- one pass more
-  pub passing-more : {done left r t r′ : ℕ} → Passing on jumps codes base w done left r → Jumped codes base (bitAnd r left) 0 t
+  pub passing-more : {done left r t r′ : ℕ} → Passing on jumps codes base w done left r
+      → Jumped codes base (bitAnd r left) 0 t
       → Ran-on (bitOr r t) on r′ → Passing on jumps codes base w done (bitXor left (bitAnd r left)) r′
   passing-more {left = left} {r = r} {t = t} {r′ = r′} so-far jumps-of ran = record {
     kept = λ i b. keeps i (so-far .kept i b);
@@ -115,7 +116,8 @@ fewer-left left r some = omega (arith, xor-add-and left (bitAnd r left), within,
       λ b. bit-and left (bitAnd r left) i .1 (bit-and r left i .0 b .1, b),
     ))
 
-module _ {reach codes : List ℕ} {piece : ℕ} {x : Nested Leaf} (narrow : width x ≤ most-states) (laid : Lays reach codes x piece)
+module _ {reach codes : List ℕ} {piece : ℕ} {x : Nested Leaf} (narrow : width x ≤ most-states)
+    (laid : Lays reach codes x piece)
   where
     -- the masks of x's top piece
     abbrev on : ℕ
@@ -129,7 +131,8 @@ module _ {reach codes : List ℕ} {piece : ℕ} {x : Nested Leaf} (narrow : widt
     on-small = below-of-bits 63 on (λ i b. omega (arith, laid .noted .on i .0 b .0))
 
     -- the code of a state
-    code-at : (p : State) → Own x p → getD (codes-of x 0 0) (number x p) 0 ≡ getD codes (row-size * piece + number x p) 0
+    code-at : (p : State) → Own x p → getD (codes-of x 0 0) (number x p) 0 ≡ getD codes
+        (row-size * piece + number x p) 0
     code-at p o = ap (λ (l : List ℕ). getD l (number x p) 0) (sym (laid .coded))
         ∙ row-at codes piece (width x) (number x p) (number-below x p o)
 
@@ -166,13 +169,15 @@ module _ {reach codes : List ℕ} {piece : ℕ} {x : Nested Leaf} (narrow : widt
         }
 
     -- a jump's target is a state's number
-    target-is : (i j : ℕ) → i < width x → Jumps (getD codes (row-size * piece + i) 0) → target codes (row-size * piece) i ≡ j
+    target-is : (i j : ℕ) → i < width x → Jumps (getD codes (row-size * piece + i) 0)
+        → target codes (row-size * piece) i ≡ j
         → j ≡ getD codes (row-size * piece + i) 0 / 4
     target-is i j inside jumping at =
         let (p, own-p, numbered) = number-onto x i inside in
         let code = getD codes (row-size * piece + i) 0 in
         let (q, own-q, to, _) = leads-at p (code / 4) own-p .0
-        (subst (λ (k : ℕ). Leads (getD codes (row-size * piece + k) 0) k (code / 4)) (sym numbered) (inr (jumping, refl))) in
+        (subst (λ (k : ℕ). Leads (getD codes (row-size * piece + k) 0) k (code / 4)) (sym numbered)
+        (inr (jumping, refl))) in
         sym at ∙ mod-eq-of-lt (omega (arith, to, number-below x q own-q))
 
     -- what can be reached by the masks, paths lead to
@@ -242,7 +247,8 @@ pub record Closes-after (reach codes : List ℕ) (piece word done r : ℕ) : Typ
 -- the passes as they are made: no bit of the first mask is lost in a remainder
 pub closed-by-passes : (reach codes : List ℕ) (piece w done on jumps left r : ℕ)
     → on ≡ getD reach (mask-count * piece) 0 % 2 ^ 63 → jumps ≡ getD reach (mask-count * piece + 1) 0
-    → Passing on jumps codes (row-size * piece) w done left r → bitAnd r left ≡ 0 → Closes-after reach codes piece w done r
+    → Passing on jumps codes (row-size * piece) w done left r → bitAnd r left ≡ 0
+    → Closes-after reach codes piece w done r
 closed-by-passes reach codes piece w done on jumps left r e f passing ended = record {
   closes = λ x narrow laid small closed-before within.
       passed-closes narrow laid small

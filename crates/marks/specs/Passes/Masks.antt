@@ -66,31 +66,39 @@ gathered-all {P} {codes} {base} {w = w} e so-far = subst (λ (k : ℕ). Gathered
 -- the masks of the piece, of n states, are made, and the others are as before
 pub record Piece-noted (codes before after : List ℕ) (piece n : ℕ) : Type 0 where
   pub noted : Noted after codes piece n
-  pub others : (e : ℕ) → (e < mask-count * piece) ⊎ (mask-count * piece + mask-count ≤ e) → getD after e 0 ≡ getD before e 0
+  pub others : (e : ℕ) → (e < mask-count * piece) ⊎ (mask-count * piece + mask-count ≤ e)
+      → getD after e 0 ≡ getD before e 0
 
-module _ (codes before : List ℕ) (piece n on jumping leaves : ℕ) (room : mask-count * piece + mask-count ≤ length before)
+module _ (codes before : List ℕ) (piece n on jumping leaves : ℕ) (room : mask-count * piece
+    + mask-count ≤ length before)
     (a : Gathered Leads-on codes (row-size * piece) n on) (b : Gathered Jumps codes (row-size * piece) n jumping)
     (c : Gathered Is-leaf codes (row-size * piece) n leaves) where
   -- the table with the three masks
   abbrev stored : List ℕ
-  stored = set (set (set before (mask-count * piece) on) (mask-count * piece + 1) jumping) (mask-count * piece + 2) leaves
+  stored = set (set (set before (mask-count * piece) on) (mask-count * piece + 1) jumping) (mask-count * piece
+      + 2) leaves
 
   on-stored : getD stored (mask-count * piece) 0 ≡ on
   on-stored =
-      getD-set-other (set (set before (mask-count * piece) on) (mask-count * piece + 1) jumping) (mask-count * piece + 2) (mask-count * piece) leaves 0
+      getD-set-other (set (set before (mask-count * piece) on) (mask-count * piece + 1) jumping) (mask-count * piece
+      + 2) (mask-count * piece) leaves 0
       (λ e. omega arith)
-      ∙ getD-set-other (set before (mask-count * piece) on) (mask-count * piece + 1) (mask-count * piece) jumping 0 (λ e. omega arith)
+      ∙ getD-set-other (set before (mask-count * piece) on) (mask-count * piece + 1) (mask-count * piece) jumping 0
+      (λ e. omega arith)
       ∙ getD-set-same before (mask-count * piece) on 0 (omega arith)
 
   jumping-stored : getD stored (mask-count * piece + 1) 0 ≡ jumping
   jumping-stored =
-      getD-set-other (set (set before (mask-count * piece) on) (mask-count * piece + 1) jumping) (mask-count * piece + 2) (mask-count * piece + 1) leaves 0
+      getD-set-other (set (set before (mask-count * piece) on) (mask-count * piece + 1) jumping) (mask-count * piece
+      + 2) (mask-count * piece + 1) leaves 0
       (λ e. omega arith)
-      ∙ getD-set-same (set before (mask-count * piece) on) (mask-count * piece + 1) jumping 0 (simp length-set (omega arith))
+      ∙ getD-set-same (set before (mask-count * piece) on) (mask-count * piece + 1) jumping 0
+      (simp length-set (omega arith))
 
   leaves-stored : getD stored (mask-count * piece + 2) 0 ≡ leaves
   leaves-stored =
-      getD-set-same (set (set before (mask-count * piece) on) (mask-count * piece + 1) jumping) (mask-count * piece + 2) leaves 0
+      getD-set-same (set (set before (mask-count * piece) on) (mask-count * piece + 1) jumping) (mask-count * piece + 2)
+      leaves 0
       (simp length-set (omega arith))
 
   -- the masks of the piece are made
@@ -105,7 +113,8 @@ module _ (codes before : List ℕ) (piece n on jumping leaves : ℕ) (room : mas
           (sym leaves-stored) (c .exactly i);
     };
     others = λ e out.
-        getD-set-other (set (set before (mask-count * piece) on) (mask-count * piece + 1) jumping) (mask-count * piece + 2) e leaves 0
+        getD-set-other (set (set before (mask-count * piece) on) (mask-count * piece + 1) jumping) (mask-count * piece
+        + 2) e leaves 0
         (λ same. ⊎-elim (λ h. omega arith) (λ h. omega arith) out)
         ∙ getD-set-other (set before (mask-count * piece) on) (mask-count * piece + 1) e jumping 0
         (λ same. ⊎-elim (λ h. omega arith) (λ h. omega arith) out)

@@ -1,5 +1,5 @@
--- The codes hold the empty transitions: the code of state i leads to state j exactly where a transition leads from the one
--- to the other.
+-- The codes hold the empty transitions: the code of state i leads to state j exactly where a transition leads from the
+-- one to the other.
 use Prim.Native.Nat.{ℕ, _+_, _*_, _/_}
 use mathlib.Core.Path.{_≡_, refl, sym, ap, _∙_, subst}
 use mathlib.Core.Bool.{Bool, true, false, cond, false≢true}
@@ -61,13 +61,16 @@ leaf-leads false n i j = (
 module _ (s e : ℕ) (x y : Nested Leaf) (i j m n : ℕ) where
   pub left-code : (p : State) → Own x p → getD (s ∷ (codes-of x i m ++ codes-of y j n ++ (e ∷ []))) (1 + number x p) 0
       ≡ getD (codes-of x i m) (number x p) 0
-  left-code p o = two-left s e (codes-of x i m) (codes-of y j n) (length-codes x i m) (length-codes y j n) 0 (number x p)
+  left-code p o = two-left s e (codes-of x i m) (codes-of y j n) (length-codes x i m) (length-codes y j n) 0
+      (number x p)
       (number-below x p o)
 
   -- the code of a state of the second part
-  pub right-code : (p : State) → Own y p → getD (s ∷ (codes-of x i m ++ codes-of y j n ++ (e ∷ []))) (1 + width x + number y p) 0
+  pub right-code : (p : State) → Own y p → getD (s ∷ (codes-of x i m ++ codes-of y j n ++ (e ∷ [])))
+      (1 + width x + number y p) 0
       ≡ getD (codes-of y j n) (number y p) 0
-  right-code p o = two-right s e (codes-of x i m) (codes-of y j n) (length-codes x i m) (length-codes y j n) 0 (number y p)
+  right-code p o = two-right s e (codes-of x i m) (codes-of y j n) (length-codes x i m) (length-codes y j n) 0
+      (number y p)
       (number-below y p o)
 
   -- the accepting state's code

@@ -174,7 +174,8 @@ module _ (reach codes runs stands tops : List ℕ) (k at : ℕ) (words : List �
 
     pub lent-ready : (from to : ℕ) → Tables-sized reach codes runs stands tops k words
         → ((o : ℕ) → at ≤ o → o < length words → (k + o < from) ⊎ (to ≤ k + o) → getD words o 0 ≡ 0)
-        → Sweep-ready reach codes runs stands tops (k + at) from to (take (next-run - at) (drop at (set words at given)))
+        → Sweep-ready reach codes runs stands tops (k + at) from to
+        (take (next-run - at) (drop at (set words at given)))
     lent-ready from to sized ahead = record {
       sized = record {
         reach-sized = omega (arith, sized .reach-sized, lent-length, can .room);
@@ -240,7 +241,8 @@ module _ (reach codes runs stands tops : List ℕ) (k at : ℕ) (words : List �
             (can .own-clean) (can .inside)))
             (subst (λ (v : ℕ). Closes x v v) (sym back-own) (can .own-closed))
             (λ i b. subst (λ (v : ℕ). Bit v i) (sym raised-is)
-            (bit-passed (getD back at 0) (getD tops (k + at) 0) (getD back 0 0) (getD stands (k + at) 0 + 1) i .1 (inl b)))
+            (bit-passed (getD back at 0) (getD tops (k + at) 0) (getD back 0 0) (getD stands (k + at) 0 + 1) i .1
+            (inl b)))
 
         pub after-part : part c (set back 0 closed) ≡ ys
         after-part =
@@ -356,7 +358,8 @@ module _ (reach codes runs stands tops : List ℕ) (k : ℕ) where
     pub sweeping-on : (after : List ℕ) (waiting' : ℕ) (settled' : Bool) → (tree : Nested Leaf)
         → Sweepable reach codes runs stands tops tree k begun → Closes tree (getD begun 0 0) (getD begun 0 0)
         → Missed (getD words 0 0) (getD stands (k + at) 0) waiting waiting' → (settled' ≡ true → settled ≡ true)
-        → ((x : Nested Leaf) (c : Child) → Visitable reach codes runs stands tops x c k at words → Went after settled' x c)
+        → ((x : Nested Leaf) (c : Child) → Visitable reach codes runs stands tops x c k at words
+        → Went after settled' x c)
         → Sweeping begun after (at + getD runs (k + at) 0) waiting' settled'
     sweeping-on after waiting' settled' tree able shut missed rest went =
         let here = waits tree able shut in
@@ -436,12 +439,14 @@ module _ (reach codes runs stands tops : List ℕ) (k : ℕ) where
           settled (ended .way) (ended .past)
 
       pub idle-settled : settled ≡ true → Settled byteless x (Holds x words)
-      idle-settled e = all-settled reach codes runs stands tops x k (set entry 0 closed) begun-sweepable words (ended .at)
+      idle-settled e = all-settled reach codes runs stands tops x k (set entry 0 closed) begun-sweepable words
+          (ended .at)
           (ended .waiting) settled (ended .way) (ended .past) e
           (λ i b. absurd (bit-zero i (subst (λ (w : ℕ). Bit w i) unmarked b)))
 
   -- the tables have room for words as many as before
-  pub sized-same : (before after : List ℕ) → length after ≡ length before → Tables-sized reach codes runs stands tops k before
+  pub sized-same : (before after : List ℕ) → length after ≡ length before → Tables-sized reach codes runs stands tops
+      k before
       → Tables-sized reach codes runs stands tops k after
   sized-same before after same sized = record {
     reach-sized = omega (arith, sized .reach-sized, same);

@@ -81,7 +81,8 @@ module _ (reach codes runs stands tops : List ℕ) (count : ℕ) where
 
   module _ (words : List ℕ) (enough : count ≤ length words) where
     -- the first words can be swept
-    pub run-sweepable : (x : Nested Leaf) → Run-of x words → Sweepable reach codes runs stands tops x 0 (take count words)
+    pub run-sweepable : (x : Nested Leaf) → Run-of x words → Sweepable reach codes runs stands tops x 0
+        (take count words)
     run-sweepable x on = record {
       laid = on .laid;
       whole-run = length-take-le count words enough ∙ on .counted;
