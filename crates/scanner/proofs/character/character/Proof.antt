@@ -12,6 +12,21 @@ use borrow.Author.Needs.{needs}
 use Rattle.scanner.proofs.character.character.Statement.{statement}
 use Rattle.scanner.proofs.character.character.Tie as tie
 
+-- where the byte was read, and where the call began
+abbrev entry : tie.After-shared-slice-known2 → tie.Start
+entry c = c .before .before .before
+
+-- where the escaped byte was tested, and where the byte itself was
+abbrev escaped-tested : tie.After-leaf → tie.After-is-special
+escaped-tested c = c .before .before .before .before
+
+abbrev itself-tested : tie.After-leaf2 → tie.After-is-special2
+itself-tested c = c .before .before .before .before
+
+-- where the byte was found to be a `\`
+abbrev backslash : tie.After-is-special → tie.Then1
+backslash c = c .before .before .before
+
 shared-slice-read-byte : tie.Need-shared-slice-read-byte
 shared-slice-read-byte c = search needs
 
@@ -20,7 +35,7 @@ add-place c = search needs
 
 returns : tie.Need-returns
 returns c =
-    let s = c .before .before .before .before .before in
+    let s = entry (c .before .before) in
     record {
       fails = λ depth. fails-last _ (s .args .expr .now) depth (s .args .at) (c .if2 .taken) (c .before .if1 .taken);
     }
@@ -45,12 +60,12 @@ same-length c = search needs
 
 returns-2 : tie.Need-returns-2
 returns-2 c =
-    let tested = c .before .before .before .before .before .before in
-    let escape = c .before .before .before .before .before .before .before .before .before in
-    let s = c .before .before .before .before .before .before .before .before .before .before .before .before .before in
     let l = c .before .before in
-    let label = c .before .before .before .before .label-of .ensures in
-    let special = sym (tested .is-special .ensures) ∙ c .before .before .before .before .before .if3 .taken in
+    let tested = escaped-tested l in
+    let escape = backslash tested in
+    let s = entry (escape .before) in
+    let label = l .before .before .label-of .ensures in
+    let special = sym (tested .is-special .ensures) ∙ l .before .before .before .if3 .taken in
     leaf-read (s .args .labels .now) _ (character _) tt
     (λ depth. leads-escaped _ (s .args .expr .now) depth (s .args .at) (omega arith) (escape .if1 .taken) special)
     (omega arith) (omega arith) (omega arith) (l .leaf .ensures .0)
@@ -58,10 +73,11 @@ returns-2 c =
 
 returns-3 : tie.Need-returns-3
 returns-3 c =
-    let s = c .before .before .before .before .before .before .before .before in
+    let escape = backslash (c .before) in
+    let s = entry (escape .before) in
     record {
       fails = λ depth. fails-escaped _ (s .args .expr .now) depth (s .args .at) (omega arith)
-          (c .before .before .before .before .if1 .taken) (sym (c .before .is-special .ensures) ∙ c .if3 .left);
+          (escape .if1 .taken) (sym (c .before .is-special .ensures) ∙ c .if3 .left);
     }
 
 is-special-requires-2 : tie.Need-is-special-requires-2
@@ -69,7 +85,7 @@ is-special-requires-2 c κs = search needs
 
 returns-4 : tie.Need-returns-4
 returns-4 c =
-    let s = c .before .before .before .before .before .before in
+    let s = entry (c .before .before .before) in
     record {
       fails = λ depth. fails-special _ (s .args .expr .now) depth (s .args .at) (s .pre .0) (s .pre .1 .0)
           (c .before .before .if1 .left) (s .pre .1 .1 .0) (sym (c .before .is-special2 .ensures) ∙ c .if4 .taken);
@@ -89,12 +105,11 @@ same-length-2 c = search needs
 
 returns-5 : tie.Need-returns-5
 returns-5 c =
-    let tested = c .before .before .before .before .before .before in
-    let s = c .before .before .before .before .before .before .before .before .before .before .before in
     let l = c .before .before in
-    let label = c .before .before .before .before .label-of2 .ensures in
-    let itself = not-special _ (sym (tested .is-special2 .ensures)
-    ∙ c .before .before .before .before .before .if4 .left) in
+    let tested = itself-tested l in
+    let s = entry (tested .before .before) in
+    let label = l .before .before .label-of2 .ensures in
+    let itself = not-special _ (sym (tested .is-special2 .ensures) ∙ l .before .before .before .if4 .left) in
     leaf-read (s .args .labels .now) _ (character _) tt
     (λ depth. leads-plain _ (s .args .expr .now) depth (s .args .at) (s .pre .0) itself) (omega arith) (omega arith)
     (omega arith) (l .leaf2 .ensures .0)

@@ -13,9 +13,16 @@ use borrow.Author.Needs.{needs}
 use Rattle.scanner.proofs.single.class.Statement.{statement}
 use Rattle.scanner.proofs.single.class.Tie as tie
 
+-- where the class was found, and where the call began
+abbrev class-found : tie.After-leaf → tie.After-known-told
+class-found c = c .before .before .before
+
+abbrev entry : tie.After-class-end → tie.Start
+entry c = c .before .before .before
+
 -- the class was found
 class-read : (c : tie.After-known-told)
-    → let s = c .before .before .before .before .before .before in
+    → let s = entry (c .before .before .before) in
     Class-ended (s .args .expr .now) (s .args .begin) (c .before .part .given .0 .0)
     (run-at (s .args .expr .now) (s .args .begin))
 class-read c = rw (c .before .part .given .1) at (c .before .before .before .class-end .ensures)
@@ -31,7 +38,7 @@ enum-told c = search needs
 
 returns : tie.Need-returns
 returns c =
-    let s = c .before .before .before .before .before in
+    let s = entry (c .before .before) in
     let lost = rw (c .enum-told .given .1) at (c .before .before .class-end .ensures) in
     record {
       fails = λ depth. fails-class (s .args .expr .now) depth (s .args .begin) (s .pre .0) (s .pre .1 .0) (lost .fails);
@@ -41,17 +48,18 @@ class-label-requires : tie.Need-class-label-requires
 class-label-requires c κs = search needs
 
 leaf-requires : tie.Need-leaf-requires
-leaf-requires c κs = let s = c .before .before .before .before .before .before .before .before in omega arith
+leaf-requires c κs = let s = entry (c .before .before .before .before .before) in omega arith
 
 same-length : tie.Need-same-length
 same-length c = search needs
 
 returns-2 : tie.Need-returns-2
 returns-2 c =
-    let s = c .before .before .before .before .before .before .before .before .before .before .before in
-    let r = class-read (c .before .before .before .before .before) in
     let l = c .before .before in
-    let label = c .before .before .before .before .class-label .ensures in
+    let found = class-found l in
+    let s = entry (found .before .before .before) in
+    let r = class-read found in
+    let label = l .before .before .class-label .ensures in
     leaf-read (s .args .labels .now) _ (Leaf.class (s .args .begin)) (bracket-here (s .pre .0) (s .pre .1 .0)
     (r .finds))
     (λ depth. class-leads depth (s .pre .0) (s .pre .1 .0) r) (r .further) (r .within) (omega arith)
