@@ -23,7 +23,7 @@ use Rattle.tables.specs.Words.{Holds, Set-of}
 use Rattle.tables.specs.Tables.{Holding, Answered}
 use Rattle.marks.specs.Answer.{marking}
 use Rattle.marks.specs.Promise.{Hold, Classed, Starts, started, Steps, stepped}
-use Rattle.marks.specs.BitsOfWords.Zero.{All-zero}
+use Rattle.closing.specs.BitsOfWords.Zero.{All-zero}
 use Rattle.marks.specs.Inner.{some-started, holding-marks}
 
 -- a word for each piece and no more

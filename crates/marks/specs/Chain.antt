@@ -10,7 +10,7 @@ use Rattle.tree.specs.Leaf.{Leaf, Matches}
 use Rattle.tree.specs.Records.{piece-count}
 use Rattle.tables.specs.Tables.{Holding}
 use Rattle.marks.specs.Answer.{Numbers, marking}
-use Rattle.marks.specs.BitsOfWords.Zero.{All-zero}
+use Rattle.closing.specs.BitsOfWords.Zero.{All-zero}
 use Rattle.marks.specs.Promise.{Starts, Steps}
 
 -- from the words `before`, over the bytes of w: the last call gave back n and left the words `after`

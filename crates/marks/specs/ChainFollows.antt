@@ -16,7 +16,7 @@ use Rattle.tree.specs.Readback.{good-unique}
 use Rattle.tree.specs.Pieces.{cut-up}
 use Rattle.tables.specs.Words.{Set-of}
 use Rattle.marks.specs.Answer.{Numbers}
-use Rattle.marks.specs.BitsOfWords.Zero.{All-zero}
+use Rattle.closing.specs.BitsOfWords.Zero.{All-zero}
 use Rattle.marks.specs.Promise.{
   Hold,
   Made,

@@ -23,25 +23,25 @@ use Rattle.tree.specs.Nesting.{every-below}
 use Rattle.tree.specs.Pieces.{cut-up, stated}
 use Rattle.tables.specs.Words.{word-bits, Bit, width, run, Holds, Clean, Agreeing, Set-of}
 use Rattle.tables.specs.Plan.{Pieces, Planned}
-use Rattle.marks.specs.BitsOfWords.Bits.{Tells, bit-zero, told-no}
+use Rattle.closing.specs.BitsOfWords.Bits.{Tells, bit-zero, told-no}
 use Rattle.tables.specs.Tables.{Prepared, Roomy, Ready, Holding, Answered}
 use Rattle.language.specs.Unmoved.{sweep-none}
-use Rattle.marks.specs.BitsOfWords.Zero.{All-zero}
-use Rattle.marks.specs.BitsOfWords.AllZero.{zero-holds}
-use Rattle.marks.specs.BitsOfWords.Alike.{zero-alike}
-use Rattle.marks.specs.Moving.Spans.{Spans}
-use Rattle.marks.specs.Sweep.Within.{sweep-extends}
+use Rattle.closing.specs.BitsOfWords.Zero.{All-zero}
+use Rattle.closing.specs.BitsOfWords.AllZero.{zero-holds}
+use Rattle.closing.specs.BitsOfWords.Alike.{zero-alike}
+use Rattle.moving.specs.Spans.{Spans}
+use Rattle.closing.specs.Within.{sweep-extends}
 use Rattle.marks.specs.Promise.{Hold, Marks-of}
-use Rattle.marks.specs.ClosingPieces.EachPieceClosed.{Each-closed-below}
-use Rattle.marks.specs.Sweep.Swept.{Nearly-closed, Quiet, Narrow-below, In-tables}
-use Rattle.marks.specs.ClosingPieces.ClosedFromState.{closed-nearly}
+use Rattle.closing.specs.EachPieceClosed.{Each-closed-below}
+use Rattle.sweeping.specs.Swept.{Nearly-closed, Quiet, In-tables}
+use Rattle.sweeping.specs.ClosedFromState.{closed-nearly}
 use Rattle.tables.specs.Given
 use Rattle.tables.specs.Given.{small-narrow}
-use Rattle.marks.specs.Passes.Masks.{Pieces-noted}
-use Rattle.marks.specs.Passes.Laid.{Lays-each, lays-each}
-use Rattle.marks.specs.BitsOfWords.Low.{low-tops, checkable}
+use Rattle.closing.specs.Passes.Masks.{Pieces-noted}
+use Rattle.closing.specs.Passes.Laid.{Lays-each, Narrow-below, lays-each}
+use Rattle.marks.specs.SharedStates.Low.{low-tops, checkable}
 use Rattle.marks.specs.SharedStates.Checked.{Checkable}
-use Rattle.marks.specs.Moving.WordsMovedClosed.{
+use Rattle.moving.specs.WordsMovedClosed.{
   Moved-closed,
   moved-length,
   moved-others,
@@ -50,8 +50,8 @@ use Rattle.marks.specs.Moving.WordsMovedClosed.{
   moved-each-closed,
   moved-clean,
 }
-use Rattle.marks.specs.Sweep.Twice.{Run-of, Closable, Closed-twice, front-holds, front-clean}
-use Rattle.marks.specs.Sweep.Simulated.{
+use Rattle.sweeping.specs.Twice.{Run-of, Closable, Closed-twice, front-holds, front-clean}
+use Rattle.sweeping.specs.Simulated.{
   laid-whole,
   Start-marked,
   start-holds,
@@ -63,7 +63,7 @@ use Rattle.marks.specs.Sweep.Simulated.{
   accepting-bit,
 }
 use Rattle.marks.specs.Texts.{all-words, holding-first, holding-next, accepting-answer}
-use Rattle.marks.specs.Sweep.Visiting.{accepting-holds}
+use Rattle.sweeping.specs.Visiting.{accepting-holds}
 
 -- a test that tells a fact passes exactly when the fact holds
 told-exactly : {P : Type 0} (answer : Bool) → Tells P answer → (answer ≡ true) ↔ P

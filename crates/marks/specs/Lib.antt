@@ -11,10 +11,5 @@ pub mod Inner
 pub mod Texts
 -- where nothing is left, nothing comes back
 pub mod NothingLeft
--- How the code comes to its answer, a folder for each part of it.
-pub mod BitsOfWords
-pub mod Passes
-pub mod ClosingPieces
-pub mod Moving
-pub mod Sweep
+-- refusal 13: the two bits of a shared state
 pub mod SharedStates

@@ -13,9 +13,9 @@ use Rattle.tree.specs.Readback.{good-unique}
 use Rattle.tree.specs.Pieces.{cut-up}
 use Rattle.tables.specs.Words.{run}
 use Rattle.marks.specs.Answer.{Numbers}
-use Rattle.marks.specs.BitsOfWords.Zero.{All-zero}
-use Rattle.marks.specs.BitsOfWords.AllZero.{zero-holds}
-use Rattle.marks.specs.BitsOfWords.Alike.{zero-alike}
+use Rattle.closing.specs.BitsOfWords.Zero.{All-zero}
+use Rattle.closing.specs.BitsOfWords.AllZero.{zero-holds}
+use Rattle.closing.specs.BitsOfWords.Alike.{zero-alike}
 use Rattle.marks.specs.Promise.{
   Refused,
   Moves-on,

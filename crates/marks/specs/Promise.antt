@@ -16,7 +16,7 @@ use Rattle.tree.specs.Records.{Good, piece-count, class-count}
 use Rattle.tables.specs.Words.{Holds, Clean, Agreeing, Set-of}
 use Rattle.tree.specs.Pieces.{cut-up}
 use Rattle.marks.specs.Answer.{Numbers, refusing, marking}
-use Rattle.marks.specs.BitsOfWords.Zero.{All-zero}
+use Rattle.closing.specs.BitsOfWords.Zero.{All-zero}
 
 -- the words hold the set X of states of t's automaton: one word for each piece, no bit past a last state; the words
 -- past the pieces are as before

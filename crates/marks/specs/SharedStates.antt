@@ -2,3 +2,4 @@
 pub mod Parents
 mod Agreed
 pub mod Checked
+pub mod Low

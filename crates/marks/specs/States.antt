@@ -31,7 +31,7 @@ use Rattle.marks.specs.Promise.{
   step-not-marks,
   stepped,
 }
-use Rattle.marks.specs.Sweep.Visiting.{accepting-holds}
+use Rattle.sweeping.specs.Visiting.{accepting-holds}
 use Rattle.marks.specs.Inner.{narrow, all-narrow}
 
 -- every piece of a good list's tree has at most 62 states

@@ -18,10 +18,10 @@ use Rattle.tree.specs.Records.{piece-count}
 use Rattle.tree.specs.Pieces.{cut-up, stated}
 use Rattle.tables.specs.Words.{Bit, width, run, Holds, Clean}
 use Rattle.tables.specs.Tables.{Holding}
-use Rattle.marks.specs.BitsOfWords.Numbers.{number-accepting}
-use Rattle.marks.specs.BitsOfWords.Zero.{All-zero}
-use Rattle.marks.specs.BitsOfWords.AllZero.{zero-holds}
-use Rattle.marks.specs.BitsOfWords.Spots.{bit-at, held-at, holds-held, own-spot}
+use Rattle.closing.specs.BitsOfWords.Numbers.{number-accepting}
+use Rattle.closing.specs.BitsOfWords.Zero.{All-zero}
+use Rattle.closing.specs.BitsOfWords.AllZero.{zero-holds}
+use Rattle.closing.specs.BitsOfWords.Spots.{bit-at, held-at, holds-held, own-spot}
 
 -- there is a word for each piece of a tree
 pub all-words : (t : Tree Leaf) → 1 + run (cut-up t) ≡ piece-count t

@@ -18,8 +18,8 @@ use Rattle.tree.specs.Readback.{good-unique}
 use Rattle.tables.specs.Words.{run, Set-of}
 use Rattle.tree.specs.Pieces.{cut-up}
 use Rattle.marks.specs.Texts.{all-words}
-use Rattle.marks.specs.BitsOfWords.Zero.{All-zero}
-use Rattle.marks.specs.BitsOfWords.Alike.{same-words}
+use Rattle.closing.specs.BitsOfWords.Zero.{All-zero}
+use Rattle.closing.specs.BitsOfWords.Alike.{same-words}
 use Rattle.marks.specs.Answer.{Numbers, refusing, marking, numbers}
 use Rattle.marks.specs.Promise.{
   Hold,

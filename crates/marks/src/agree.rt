@@ -8,7 +8,7 @@ ghost use Rattle.tree.specs.Leaf.{Leaf};
 ghost use Rattle.tables.specs.Words.{word-bits, Bit, run, Clean, Agreeing};
 ghost use Rattle.tree.specs.Limits.{most-states};
 ghost use Rattle.tables.specs.Plan.{Pieces, Planned};
-ghost use Rattle.marks.specs.BitsOfWords.Bits.{Tells};
+ghost use Rattle.closing.specs.BitsOfWords.Bits.{Tells};
 ghost use Rattle.marks.specs.SharedStates.Parents.{Parent};
 ghost use Rattle.marks.specs.SharedStates.Checked.{Pair-agrees, Child-agrees, Checkable};
 

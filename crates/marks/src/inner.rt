@@ -1,8 +1,8 @@
 // The layer inside, for those who run many bytes or many texts over one list: its tables are made once.
-use crate::bits::has_bit;
-use crate::masks::note_all;
-use crate::moves::move_all;
-use crate::sweep::close_twice;
+use closing::bits::has_bit;
+use closing::masks::note_all;
+use moving::moves::move_all;
+use sweeping::sweep::close_twice;
 use tables::plan::plan;
 ghost use Prim.Native.Nat.{ℕ, _≤_, _<_};
 ghost use mathlib.Core.Path.{_≡_};
@@ -11,7 +11,7 @@ ghost use lib.ListN.{length, getD, take, drop};
 ghost use Rattle.language.specs.Tree.{Tree};
 ghost use Rattle.tree.specs.Leaf.{Leaf};
 ghost use Rattle.tree.specs.Records.{Good};
-ghost use Rattle.marks.specs.BitsOfWords.Bits.{Tells};
+ghost use Rattle.closing.specs.BitsOfWords.Bits.{Tells};
 ghost use Rattle.tables.specs.Given.{Decided-good};
 ghost use Rattle.marks.specs.Promise.{Marks-of};
 ghost use Rattle.tables.specs.Tables.{Prepared, Roomy, Ready};

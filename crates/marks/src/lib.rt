@@ -1,13 +1,7 @@
 // Marks in words: start and step, by moves and sweeps over the pieces of a good list.
 mod agree;
-mod bits;
-mod classes;
-mod close;
 pub mod inner;
-mod masks;
-mod moves;
 pub mod numbers;
-mod sweep;
 
 use crate::agree::agreeing;
 use crate::inner::advance;

@@ -10,7 +10,7 @@ use Rattle.language.specs.Automaton.{State, start, accepting, left, right}
 use Rattle.language.specs.Nested.{Nested, leaf, catenation, union, star, below, Has, origin}
 use Rattle.tree.specs.Leaf.{Leaf}
 use Rattle.tables.specs.Words.{Bit, width, run, number, Marked, Agreeing}
-use Rattle.marks.specs.BitsOfWords.Spots.{bit-at}
+use Rattle.closing.specs.BitsOfWords.Spots.{bit-at}
 
 -- states that may be equal, by how they begin
 abbrev Alike : State → State → Type 0

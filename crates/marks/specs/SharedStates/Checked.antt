@@ -16,8 +16,8 @@ use Rattle.tree.specs.Leaf.{Leaf}
 use Rattle.tables.specs.Words.{Bit, width, run, number, Clean-below, Clean, Agreeing}
 use Rattle.tree.specs.Limits.{most-states}
 use Rattle.tables.specs.Plan.{Pieces, Piece-at, Children-at, Planned}
-use Rattle.marks.specs.BitsOfWords.Numbers.{width-two, number-accepting}
-use Rattle.marks.specs.BitsOfWords.Bits.{Tells}
+use Rattle.closing.specs.BitsOfWords.Numbers.{width-two, number-accepting}
+use Rattle.closing.specs.BitsOfWords.Bits.{Tells}
 use Rattle.marks.specs.SharedStates.Parents.{
   Parent,
   parent-unique,

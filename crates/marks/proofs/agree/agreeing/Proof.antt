@@ -1,7 +1,7 @@
 -- `marks::agree::agreeing` meets its contract. The loop's invariant: the child pieces passed agree.
 use Prim.Native.Nat.{ℕ, _≤_, _<_, _-_}
 use native.Mathlib.Omega.{arith}
-use Rattle.marks.specs.BitsOfWords.Bits.{told-no, told-yes}
+use Rattle.closing.specs.BitsOfWords.Bits.{told-no, told-yes}
 use Rattle.marks.specs.SharedStates.Checked.{Child-agrees, children-more, told-all}
 use Rattle.marks.proofs.agree.agreeing.Statement.{statement}
 use Rattle.marks.proofs.agree.agreeing.Tie as tie

@@ -1,7 +1,7 @@
 -- `marks::agree::none_past` meets its contract: nothing is left of a word shifted past its last bit.
 use borrow.Author.Tests.{eqb-true, eqb-false}
 use native.Mathlib.Nat.{le-refl}
-use Rattle.marks.specs.BitsOfWords.Bits.{below-of-nothing, nothing-left}
+use Rattle.closing.specs.BitsOfWords.Bits.{below-of-nothing, nothing-left}
 use borrow.Author.Needs.{needs}
 use Rattle.marks.proofs.agree.none_past.Statement.{statement}
 use Rattle.marks.proofs.agree.none_past.Tie as tie

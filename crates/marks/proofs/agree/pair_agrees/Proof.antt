@@ -1,5 +1,5 @@
 -- `marks::agree::pair_agrees` meets its contract: the three tests are its three parts.
-use Rattle.marks.specs.BitsOfWords.Bits.{told-no}
+use Rattle.closing.specs.BitsOfWords.Bits.{told-no}
 use borrow.Author.Needs.{needs}
 use Rattle.marks.proofs.agree.pair_agrees.Statement.{statement}
 use Rattle.marks.proofs.agree.pair_agrees.Tie as tie

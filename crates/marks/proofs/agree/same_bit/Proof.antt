@@ -1,6 +1,6 @@
 -- `marks::agree::same_bit` meets its contract: two bits are equal where one is set exactly when the other is.
 use borrow.Author.Tests.{eqb-true, eqb-false}
-use Rattle.marks.specs.BitsOfWords.Bits.{equal-bits}
+use Rattle.closing.specs.BitsOfWords.Bits.{equal-bits}
 use borrow.Author.Needs.{needs}
 use Rattle.marks.proofs.agree.same_bit.Statement.{statement}
 use Rattle.marks.proofs.agree.same_bit.Tie as tie

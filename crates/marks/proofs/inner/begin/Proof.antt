@@ -10,9 +10,9 @@ use Rattle.marks.proofs.inner.begin.Statement.{statement}
 use Rattle.marks.proofs.inner.begin.Tie as tie
 use Rattle.marks.proofs.inner.begin.Reads as reads
 use Rattle.marks.proofs.inner.begin.Lts as lts
-use Rattle.marks.proofs.bits.has_bit.Reads as has-bit-reads
+use Rattle.closing.proofs.bits.has_bit.Reads as has-bit-reads
 use Rattle.marks.proofs.inner.copy.Reads as copy-reads
-use Rattle.marks.proofs.sweep.close_twice.Reads as close-twice-reads
+use Rattle.sweeping.proofs.sweep.close_twice.Reads as close-twice-reads
 
 -- where the marks were put into the lent words, where they had been closed, and where the call began
 abbrev copied : tie.After-slice-known3 → tie.After-copy

@@ -1,7 +1,0 @@
--- Moving along a byte: one word, all words, and all words with each piece closed.
-pub mod Codes
-pub mod LeafCodes
-pub mod WordMoved
-pub mod WordsMoved
-pub mod WordsMovedClosed
-pub mod Spans

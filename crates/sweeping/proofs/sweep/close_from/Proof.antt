@@ -1,0 +1,27 @@
+-- `sweeping::sweep::close_from` meets its contract: a marked state brings what it reaches, another nothing.
+use borrow.Author.Needs.{needs}
+use Rattle.sweeping.specs.ClosedFromState.{closes-marked, closes-unmarked}
+use Rattle.sweeping.proofs.sweep.close_from.Statement.{statement}
+use Rattle.sweeping.proofs.sweep.close_from.Tie as tie
+
+has-bit-requires : tie.Need-has-bit-requires
+has-bit-requires c κs = search needs
+
+with-bit-requires : tie.Need-with-bit-requires
+with-bit-requires c κs = search needs
+
+close-requires : tie.Need-close-requires
+close-requires c κs = search needs
+
+returns : tie.Need-returns
+returns c =
+    let marked = c .before .before in
+    closes-marked _ _ _ _ _ _ _ (marked .before .has-bit .ensures .holds (marked .if1 .taken))
+    (c .before .with-bit .ensures) (c .close .ensures)
+
+returns-2 : tie.Need-returns-2
+returns-2 c = closes-unmarked _ _ _ _ _ (c .before .has-bit .ensures .fails (c .if1 .left))
+
+pub close-from-spec : {M : Type 1} → statement M
+close-from-spec =
+    tie.close (tie.spec has-bit-requires with-bit-requires close-requires returns returns-2)

@@ -1,0 +1,13 @@
+-- A sweep: where parts and child pieces stand, what passing, visiting and leaving out make of the words, two sweeps.
+pub mod Swept
+mod Places
+pub mod Passing
+pub mod ClosedFromState
+pub mod Visiting
+mod Settling
+pub mod RunOfChildren
+mod GoneThrough
+mod Idle
+pub mod Sweeping
+pub mod Twice
+pub mod Simulated
