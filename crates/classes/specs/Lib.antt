@@ -2,12 +2,12 @@
 -- record.
 pub mod Class
 pub mod ClassGrammar
-pub mod Packed
+pub mod ClassRecord
 pub mod ClassRun
 pub mod ClassAt
 pub mod ClassComplete
 pub mod ClassSound
-pub mod ClassRecord
+pub mod ClassRecordLaws
 pub mod ClassReading
 pub mod Members
 pub mod ClassItems

@@ -1,5 +1,5 @@
 -- The bytes of a class in a list of 256 numbers, 1 for each value that it takes: what reading a class collects, and
--- what its record is packed from.
+-- what its record is written from.
 use Prim.Native.Nat.{ℕ, _+_, _*_, _≤_, _<_}
 use mathlib.Core.Path.{_≡_, refl, ap, sym, _∙_}
 use mathlib.Core.Bool.{Bool, true, false, cond}
@@ -13,8 +13,8 @@ use Rattle.tree.specs.Cut.{one}
 use Rattle.tree.specs.Layout.{class-record-size}
 use Rattle.classes.specs.Class.{from-to, Class, class-takes, with-item}
 use Rattle.classes.specs.ClassComplete.{gathered}
-use Rattle.classes.specs.Packed.{packed, class-record}
-use Rattle.classes.specs.ClassRecord.{one-at-most, packed-byte, record-length}
+use Rattle.classes.specs.ClassRecord.{member-bits, class-record}
+use Rattle.classes.specs.ClassRecordLaws.{one-at-most, member-byte, record-length}
 
 -- how many values a byte has
 abbrev pub value-count : ℕ
@@ -118,9 +118,9 @@ eight-of members at =
     + 2 * getD members (at + 7) 0))))))
 
 -- a byte of the record
-pub eight-packed : {class : Class} {members : List ℕ} → Members class members → (at : ℕ) → at + 8 ≤ value-count
-    → eight-of members at ≡ packed (class-takes class) at 8
-eight-packed {class} {members} m at h =
+pub eight-members : {class : Class} {members : List ℕ} → Members class members → (at : ℕ) → at + 8 ≤ value-count
+    → eight-of members at ≡ member-bits (class-takes class) at 8
+eight-members {class} {members} m at h =
     omega (
       arith,
       m .each at (omega arith),
@@ -136,16 +136,16 @@ eight-packed {class} {members} m at h =
     there : (j v : ℕ) → v ≡ at + j → v < value-count → getD members (at + j) 0 ≡ one (class-takes class v)
     there j v e l = ap (λ (n : ℕ). getD members n 0) (sym e) ∙ m .each v l
 
--- the first i bytes of the record are packed
-pub record Packed-up-to (members record-after : List ℕ) (i : ℕ) : Type 0 where
+-- the first i bytes of the record are written
+pub record Recorded-up-to (members record-after : List ℕ) (i : ℕ) : Type 0 where
   pub each : (j : ℕ) → j < i → getD record-after j 0 ≡ eight-of members (8 * j)
 
-pub packed-none : (members out : List ℕ) → Packed-up-to members out 0
-packed-none members out = record { each = λ j h. absurd (omega arith) }
+pub recorded-none : (members out : List ℕ) → Recorded-up-to members out 0
+recorded-none members out = record { each = λ j h. absurd (omega arith) }
 
-pub packed-more : {members out : List ℕ} {i : ℕ} → Packed-up-to members out i → i < length out
-    → Packed-up-to members (set out i (eight-of members (8 * i))) (i + 1)
-packed-more {members} {out} {i} p h =
+pub recorded-more : {members out : List ℕ} {i : ℕ} → Recorded-up-to members out i → i < length out
+    → Recorded-up-to members (set out i (eight-of members (8 * i))) (i + 1)
+recorded-more {members} {out} {i} p h =
     record {
       each = λ j l. elim (ℕ-discrete j i) [
         | yes e ↦ at-set out i j (eight-of members (8 * i)) h e ∙ ap (λ (n : ℕ). eight-of members (8 * n)) (sym e)
@@ -154,12 +154,12 @@ packed-more {members} {out} {i} p h =
     }
 
 -- then it is the record of the class
-pub packed-record : {class : Class} {members record-after : List ℕ} → Members class members
-    → length record-after ≡ class-record-size → Packed-up-to members record-after class-record-size
+pub recorded-whole : {class : Class} {members record-after : List ℕ} → Members class members
+    → length record-after ≡ class-record-size → Recorded-up-to members record-after class-record-size
     → record-after ≡ class-record class
 unfolding class-record
-packed-record {class} {members} {record-after} m long p =
+recorded-whole {class} {members} {record-after} m long p =
     ext-getD 0 record-after (class-record class) (long ∙ sym (record-length class))
-    (λ j h. p .each j (omega arith) ∙ eight-packed m (8 * j) (omega arith)
-    ∙ ap (λ (v : ℕ). packed (class-takes class) v 8) (omega arith)
-    ∙ sym (packed-byte (class-takes class) 32 0 j (omega arith)))
+    (λ j h. p .each j (omega arith) ∙ eight-members m (8 * j) (omega arith)
+    ∙ ap (λ (v : ℕ). member-bits (class-takes class) v 8) (omega arith)
+    ∙ sym (member-byte (class-takes class) 32 0 j (omega arith)))

@@ -3,7 +3,7 @@ ghost use mathlib.Core.Path.{_≡_};
 ghost use Prim.Native.Nat.{_+_, _≤_, _<_};
 ghost use lib.ListN.{length};
 ghost use Rattle.tree.specs.Layout.{class-record-size};
-ghost use Rattle.classes.specs.Members.{value-count, Filled, Put, Zero-or-one, eight-of, Packed-up-to};
+ghost use Rattle.classes.specs.Members.{value-count, Filled, Put, Zero-or-one, eight-of, Recorded-up-to};
 
 // How many values a byte has.
 pub const VALUE_COUNT: usize = 256;
@@ -43,9 +43,9 @@ fn eight(members: &[u8], at: usize) -> u8
 }
 
 // Writes a class record: value v at bit v % 8 of byte v / 8.
-pub fn pack(members: &[u8], out: &mut [u8])
+pub fn write_class_record(members: &[u8], out: &mut [u8])
     requires { ⌜ Zero-or-one (now members) × (length (now out) ≡ class-record-size) ⌝ }
-    ensures { λ _. ⌜ Packed-up-to (now (members .entry)) (now (out .exit)) class-record-size ⌝ }
+    ensures { λ _. ⌜ Recorded-up-to (now (members .entry)) (now (out .exit)) class-record-size ⌝ }
 {
     let mut i = 0;
     while i < out.len() {

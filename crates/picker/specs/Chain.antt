@@ -18,10 +18,10 @@ use Rattle.scanner.specs.Scanner.{Atom, scanned}
 use Rattle.scanner.specs.Grammar.{Written}
 use Rattle.scanner.specs.Agree.{scanned-exactly, grammar-unique}
 use Rattle.reader.specs.Drawn.{recorded, classes-of, classes-in, Matches-written}
-use Rattle.classes.specs.Packed.{encode-classes}
+use Rattle.classes.specs.ClassRecord.{encode-classes}
 use Rattle.reader.specs.Answer.{numbers, answered, records-after}
 use Rattle.reader.specs.SecondAnswer.{counted-numbers, second-answered, second-records-after, second-classes-after}
-use Rattle.classes.specs.ClassRecord.{encode-classes-length}
+use Rattle.classes.specs.ClassRecordLaws.{encode-classes-length}
 use Rattle.reader.specs.DrawnLaws.{class-count-recorded, first-has-no-class, drawn-tree}
 use Rattle.reader.specs.SameLanguage.{Of-bytes, same-language}
 use Rattle.reader.specs.Kept.{kept}

@@ -26,8 +26,8 @@ use Rattle.tree.specs.Leaf.{Leaf, character}
 use Rattle.tree.specs.Layout.{class-kind, class-label, class-record-size}
 use Rattle.tree.specs.Records.{labels}
 use Rattle.classes.specs.Class.{Class}
-use Rattle.classes.specs.Packed.{class-record, encode-classes}
-use Rattle.classes.specs.ClassRecord.{record-length, encode-classes-length, encode-classes-append}
+use Rattle.classes.specs.ClassRecord.{class-record, encode-classes}
+use Rattle.classes.specs.ClassRecordLaws.{record-length, encode-classes-length, encode-classes-append}
 use Rattle.classes.specs.ClassAt.{class-at, Class-here}
 use Rattle.scanner.specs.Placed.{Placed}
 use Rattle.reader.specs.Relabelled.{

@@ -16,8 +16,8 @@ use Rattle.tree.specs.Cut.{one}
 use Rattle.classes.specs.Class.{Class, class-takes}
 use Rattle.scanner.specs.Scanner.{Atom, literal, one-of}
 use Rattle.reader.specs.Drawn.{classes-of, classes-in, recorded, recorded-from, written-meaning, Matches-written}
-use Rattle.classes.specs.Packed.{class-record, encode-classes}
-use Rattle.classes.specs.ClassRecord.{record-bit, record-length}
+use Rattle.classes.specs.ClassRecord.{class-record, encode-classes}
+use Rattle.classes.specs.ClassRecordLaws.{record-bit, record-length}
 
 -- every value of a text is a byte
 abbrev pub Of-bytes : List ℕ → Type 0

@@ -12,7 +12,7 @@ use Rattle.tree.specs.Records.{encode, piece-count}
 use Rattle.scanner.specs.Bytes.{Syntax, second}
 use Rattle.scanner.specs.Scanner.{Atom, Outcome, tree, refused, scanned}
 use Rattle.reader.specs.Drawn.{classes-of, classes-in, recorded}
-use Rattle.classes.specs.Packed.{encode-classes}
+use Rattle.classes.specs.ClassRecord.{encode-classes}
 use Rattle.reader.specs.declared.answer.CountedAnswer.{CountedAnswer}
 use Rattle.reader.specs.declared.answer.CountedAnswer.the-variants.{Counted, Refused}
 

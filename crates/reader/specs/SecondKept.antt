@@ -19,7 +19,7 @@ use Rattle.scanner.specs.Bytes.{second}
 use Rattle.scanner.specs.Scanner.{Atom, Outcome, tree, refused, scanned}
 use Rattle.scanner.specs.Agree.{scanned-refusal}
 use Rattle.reader.specs.Drawn.{classes-of, classes-in, recorded}
-use Rattle.classes.specs.Packed.{encode-classes}
+use Rattle.classes.specs.ClassRecord.{encode-classes}
 use Rattle.reader.specs.DrawnLaws.{ranked-recorded}
 use Rattle.reader.specs.SecondAnswer.{
   Counted-numbers,

@@ -20,7 +20,7 @@ use Rattle.classes.specs.Class.{Class}
 use Rattle.scanner.specs.Scanner.{Atom, Outcome, tree, refused, scanned}
 use Rattle.scanner.specs.Agree.{scanned-exactly}
 use Rattle.reader.specs.Drawn.{classes-of, classes-in, recorded, recorded-from, drawn}
-use Rattle.classes.specs.Packed.{encode-classes}
+use Rattle.classes.specs.ClassRecord.{encode-classes}
 use Rattle.reader.specs.DrawnLaws.{first-has-no-class}
 use Rattle.scanner.specs.Placed.{written-at}
 use Rattle.reader.specs.Relabelled.{

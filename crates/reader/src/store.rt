@@ -4,8 +4,8 @@ use crate::answer::ReadAnswer;
 use classes::class::class_members;
 use classes::members::VALUE_COUNT;
 use classes::members::fill;
-use classes::members::pack;
 use classes::members::put;
+use classes::members::write_class_record;
 use tree::layout::CLASS_LABEL;
 use tree::layout::CLASS_RECORD_SIZE;
 use tree::layout::RECORD_SIZE;
@@ -25,7 +25,7 @@ ghost use Rattle.tree.specs.Limits.{most-labels};
 ghost use Rattle.tree.specs.Measured.{Postorder};
 ghost use Rattle.tree.specs.Recording.{Recorded};
 ghost use Rattle.scanner.specs.Bytes.{syntax-of};
-ghost use Rattle.classes.specs.Packed.{class-record, encode-classes};
+ghost use Rattle.classes.specs.ClassRecord.{class-record, encode-classes};
 ghost use Rattle.classes.specs.ClassAt.{class-at, Class-here};
 ghost use Rattle.classes.specs.Members.{Members, value-count};
 ghost use Rattle.reader.specs.Relabelled.{class-labels, relabelled, labelled-classes};
@@ -71,7 +71,7 @@ fn store_class(expr: &[u8], at: usize, classes: &mut [u8], k: usize)
     let mut members = [0u8; VALUE_COUNT];
     class_values(expr, at, &mut members);
     let begin = CLASS_RECORD_SIZE * k;
-    pack(&members, &mut classes[begin..begin + CLASS_RECORD_SIZE]);
+    write_class_record(&members, &mut classes[begin..begin + CLASS_RECORD_SIZE]);
 }
 
 // Writes the class record of a class label as record k, and gives the number of the next one.

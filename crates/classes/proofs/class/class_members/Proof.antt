@@ -8,6 +8,23 @@ use borrow.Author.Needs.{needs}
 use Rattle.classes.proofs.class.class_members.Statement.{statement}
 use Rattle.classes.proofs.class.class_members.Tie as tie
 
+-- where the members were filled for a class with a `^` and for one without, and where the byte after the `[` was tested
+abbrev filled-with-caret : tie.After-items-arg → tie.After-fill
+filled-with-caret c = c .before .before .before
+
+abbrev filled : tie.After-items-arg2 → tie.After-fill2
+filled c = c .before .before .before
+
+abbrev caret-found : tie.After-fill → tie.Then1
+caret-found c = c .before .before
+
+abbrev no-caret-found : tie.After-fill2 → tie.Else1
+no-caret-found c = c .before .before
+
+-- where the call began
+abbrev entry : tie.After-stands-at → tie.Start
+entry c = c .before .before .before
+
 add-stands-at : tie.Need-add-stands-at
 add-stands-at c = search needs
 
@@ -19,15 +36,15 @@ fill-requires c κs = search needs
 
 add-items : tie.Need-add-items
 add-items c =
-    let caret = c .before .before .before .before .before .stands-at .ensures .if-so
-    (c .before .before .before .before .if1 .taken) in omega (arith, caret .0)
+    let tested = caret-found (c .before .before) in
+    let caret = tested .before .stands-at .ensures .if-so (tested .if1 .taken) in omega (arith, caret .0)
 
 items-requires : tie.Need-items-requires
 items-requires c κs =
-    let caret = c .before .before .before .before .before .before .stands-at .ensures .if-so
-    (c .before .before .before .before .before .if1 .taken) in
-    let f = c .before .before .before in
-    let s = c .before .before .before .before .before .before .before .before .before in
+    let f = filled-with-caret c in
+    let tested = caret-found f in
+    let caret = tested .before .stands-at .ensures .if-so (tested .if1 .taken) in
+    let s = entry (tested .before) in
     (omega (arith, caret .0), filled-members true (f .fill .last .0) (f .fill .kept .0 ∙ s .pre .1) (f .fill .ensures))
 
 same-length : tie.Need-same-length
@@ -35,10 +52,10 @@ same-length c = search needs
 
 returns : tie.Need-returns
 returns c =
-    let caret = c .before .before .before .before .before .before .before .before .before .stands-at .ensures .if-so
-    (c .before .before .before .before .before .before .before .before .if1 .taken) in
     let i = c .before .before in
-    let s = c .before .before .before .before .before .before .before .before .before .before .before .before in
+    let tested = caret-found (filled-with-caret (i .before)) in
+    let caret = tested .before .stands-at .ensures .if-so (tested .if1 .taken) in
+    let s = entry (tested .before) in
     class-but (s .args .expr .now) (s .args .at) (i .items .last .1 .1 .0) (i .items .result) (caret .0) (caret .1)
     (i .items .ensures)
 
@@ -50,8 +67,8 @@ add-items-2 c = search needs
 
 items-requires-2 : tie.Need-items-requires-2
 items-requires-2 c κs =
-    let f = c .before .before .before in
-    let s = c .before .before .before .before .before .before .before .before .before in
+    let f = filled c in
+    let s = entry (no-caret-found f .before) in
     (omega arith, filled-members false (f .fill2 .last .0) (f .fill2 .kept .0 ∙ s .pre .1) (f .fill2 .ensures))
 
 same-length-2 : tie.Need-same-length-2
@@ -60,10 +77,10 @@ same-length-2 c = search needs
 returns-2 : tie.Need-returns-2
 returns-2 c =
     let i = c .before .before in
-    let s = c .before .before .before .before .before .before .before .before .before .before .before .before in
+    let tested = no-caret-found (filled (i .before)) in
+    let s = entry (tested .before) in
     class-only (s .args .expr .now) (s .args .at) (i .items2 .last .1 .1 .0) (i .items2 .result) (omega arith)
-    (c .before .before .before .before .before .before .before .before .before .stands-at .ensures .if-not
-    (c .before .before .before .before .before .before .before .before .if1 .left)) (i .items2 .ensures)
+    (tested .before .stands-at .ensures .if-not (tested .if1 .left)) (i .items2 .ensures)
 
 pub class-members-spec : {M : Type 1} → statement M
 class-members-spec =

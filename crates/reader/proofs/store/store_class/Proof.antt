@@ -1,11 +1,11 @@
--- `reader::store::store_class` meets its contract: the class's record is packed into its part of the buffer.
+-- `reader::store::store_class` meets its contract: the class's record is written into its part of the buffer.
 use Prim.Native.Nat.{ℕ, _+_, _*_, _-_, _≤_}
 use mathlib.Core.Path.{_≡_, _∙_}
 use mathlib.Core.List.{List, _++_}
 use native.Mathlib.Omega.{arith}
 use lib.ListN.{length, take, drop, length-drop}
 use lib.Seq.{length-take-le}
-use Rattle.classes.specs.Members.{members-binary, packed-record}
+use Rattle.classes.specs.Members.{members-binary, recorded-whole}
 use borrow.Author.Needs.{needs}
 use Rattle.reader.proofs.store.store_class.Statement.{statement}
 use Rattle.reader.proofs.store.store_class.Tie as tie
@@ -31,23 +31,23 @@ class-values-requires c κs = search needs
 mul-begin : tie.Need-mul-begin
 mul-begin c = search needs
 
-slice-aggregate-pack : tie.Need-slice-aggregate-pack
-slice-aggregate-pack c = search needs
+slice-aggregate-write-class-record : tie.Need-slice-aggregate-write-class-record
+slice-aggregate-write-class-record c = search needs
 
-add-pack : tie.Need-add-pack
-add-pack c = search needs
+add-write-class-record : tie.Need-add-write-class-record
+add-write-class-record c = search needs
 
-sub-pack : tie.Need-sub-pack
-sub-pack c = search needs
+sub-write-class-record : tie.Need-sub-write-class-record
+sub-write-class-record c = search needs
 
-part-pack-start : tie.Need-part-pack-start
-part-pack-start c = search needs
+part-write-class-record-start : tie.Need-part-write-class-record-start
+part-write-class-record-start c = search needs
 
-part-pack-end : tie.Need-part-pack-end
-part-pack-end c = search needs
+part-write-class-record-end : tie.Need-part-write-class-record-end
+part-write-class-record-end c = search needs
 
-pack-requires : tie.Need-pack-requires
-pack-requires c κs =
+write-class-record-requires : tie.Need-write-class-record-requires
+write-class-record-requires c κs =
     let s = c .before .before .before .before .before .before .before in (
       members-binary (c .before .before .before .class-values .ensures),
       part-length (32 * s .args .k) (s .args .classes .now) (s .pre .1),
@@ -60,11 +60,14 @@ returns : tie.Need-returns
 returns c =
     let s = c .before .before .before .before .before .before .before .before .before .before in
     let p = c .before .before in
-    part-stored (32 * s .args .k) (s .args .classes .now) (p .pack .last .1 .0) _
-    (packed-record (c .before .before .before .before .before .before .class-values .ensures)
-    (p .pack .kept .1 .0 ∙ part-length (32 * s .args .k) (s .args .classes .now) (s .pre .1)) (p .pack .ensures))
+    part-stored (32 * s .args .k) (s .args .classes .now) (p .write-class-record .last .1 .0) _
+    (recorded-whole (c .before .before .before .before .before .before .class-values .ensures)
+    (p .write-class-record .kept .1 .0 ∙ part-length (32 * s .args .k) (s .args .classes .now) (s .pre .1))
+    (p .write-class-record .ensures))
 
 pub store-class-spec : {M : Type 1} → statement M
 store-class-spec =
-    tie.close (tie.spec slice-aggregate-class-values class-values-requires mul-begin slice-aggregate-pack add-pack
-    sub-pack part-pack-start part-pack-end pack-requires same-length returns)
+    tie.close (tie.spec slice-aggregate-class-values class-values-requires mul-begin slice-aggregate-write-class-record
+    add-write-class-record
+    sub-write-class-record part-write-class-record-start part-write-class-record-end write-class-record-requires
+    same-length returns)

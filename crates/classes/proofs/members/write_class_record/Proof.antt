@@ -1,21 +1,21 @@
--- `reader::members::pack` meets its contract. The loop's invariant: the bytes before `i` are packed.
+-- `reader::members::write_class_record` meets its contract. The loop's invariant: the bytes before `i` are written.
 use Prim.Native.Nat.{_-_, _≤_}
 use mathlib.Core.Path.{_≡_, refl}
 use native.Mathlib.Omega.{arith}
 use lib.ListN.{length, length-set}
-use Rattle.classes.specs.Members.{Packed-up-to, packed-none, packed-more}
+use Rattle.classes.specs.Members.{Recorded-up-to, recorded-none, recorded-more}
 use borrow.Author.Needs.{needs}
-use Rattle.classes.proofs.members.pack.Statement.{statement}
-use Rattle.classes.proofs.members.pack.Tie as tie
+use Rattle.classes.proofs.members.write_class_record.Statement.{statement}
+use Rattle.classes.proofs.members.write_class_record.Tie as tie
 
 abbrev Inv-loop : tie.InvT-loop
-Inv-loop members out₀ i₀ out i = (length out ≡ length out₀) × (i ≤ length out₀) × Packed-up-to members out i
+Inv-loop members out₀ i₀ out i = (length out ≡ length out₀) × (i ≤ length out₀) × Recorded-up-to members out i
 
 abbrev μ-loop : tie.MeasureT-loop
 μ-loop members out₀ i₀ out i = length out₀ - i
 
 loop-holds : tie.Need-loop-holds Inv-loop μ-loop
-loop-holds c = (refl, omega arith, packed-none _ _)
+loop-holds c = (refl, omega arith, recorded-none _ _)
 
 mul-eight : tie.Need-mul-eight Inv-loop μ-loop
 mul-eight c =
@@ -40,7 +40,7 @@ loop-again c =
     let l = c .before .before .loop in (
       simp length-set (l .inv .0),
       omega (arith, l .inv .0),
-      rw (c .eight .ensures) (packed-more (l .inv .2) (omega (arith, l .inv .0))),
+      rw (c .eight .ensures) (recorded-more (l .inv .2) (omega (arith, l .inv .0))),
     )
 
 same-length : tie.Need-same-length Inv-loop μ-loop
@@ -53,7 +53,7 @@ returns c =
     let end : l .i ≡ 32 = omega (arith, l .inv .0, l .inv .1, s .pre .1) in
     rw end at (l .inv .2)
 
-pub pack-spec : {M : Type 1} → statement M
-pack-spec =
+pub write-class-record-spec : {M : Type 1} → statement M
+write-class-record-spec =
     tie.close (tie.spec Inv-loop μ-loop loop-holds mul-eight eight-requires slice-write-out add-i loop-less loop-again
     same-length returns)
