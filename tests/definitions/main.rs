@@ -17,7 +17,7 @@ const END: &str = "<!-- end -->\n";
 
 /// The functions that make up the product, by their source files.
 const ENTRY_POINTS: [(&str, &[&str]); 6] = [
-    ("tree/src/good.rt", &["decide"]),
+    ("deciding/src/good.rt", &["decide"]),
     ("reader/src/lib.rt", &["check", "check_second", "read", "read_second"]),
     ("marks/src/lib.rt", &["start", "step"]),
     ("finder/src/lib.rt", &["is_match", "search"]),

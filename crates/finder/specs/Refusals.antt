@@ -12,7 +12,7 @@ use Rattle.tree.specs.RefusalNumbers.{list-not-good, text-too-long, class-buffe
 use Rattle.tree.specs.Leaf.{Leaf, Matches}
 use Rattle.tree.specs.Limits.{longest-text}
 use Rattle.tree.specs.Records.{Good}
-use Rattle.tree.specs.Readback.{good-unique}
+use Rattle.lists.specs.Readback.{good-unique}
 use Rattle.marks.specs.Promise.{Not-good, Classed, Too-few-classes}
 use Rattle.finder.specs.Found.{Found, Nothing-found}
 use Rattle.finder.specs.Answer.{answering, finding}

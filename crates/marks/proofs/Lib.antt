@@ -1,2 +1,2 @@
--- What the answer of `tree::good::decide` tells, by its cases.
+-- What the answer of `deciding::good::decide` tells, by its cases.
 pub mod Told

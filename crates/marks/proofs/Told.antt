@@ -1,4 +1,4 @@
--- What an answer tells, by its cases: that of `tree::good::decide_with`, and that of a start or a step.
+-- What an answer tells, by its cases: that of `deciding::good::decide_with`, and that of a start or a step.
 use Prim.Native.Nat.{ℕ, suc, _/_, _≤_, _<_}
 use mathlib.Core.Path.{_≡_, sym, subst}
 use mathlib.Core.List.{List, [], _∷_}
@@ -10,11 +10,11 @@ use Rattle.language.specs.Tree.{Tree}
 use Rattle.tree.specs.Leaf.{Leaf}
 use Rattle.tree.specs.Layout.{class-record-size}
 use Rattle.tree.specs.Records.{Good}
-use Rattle.tree.specs.Readback.{good-unique}
-use Rattle.tree.specs.Judged.{Judged, Counts-below, Room-to-decide}
-use Rattle.tree.specs.declared.good.Decided.{Decided}
-use Rattle.tree.specs.declared.good.Decided.the-variants.{Good as good, NotGood as not-good}
-use Rattle.tree.proofs.good.Decided.{the-type}
+use Rattle.lists.specs.Readback.{good-unique}
+use Rattle.deciding.specs.Judged.{Judged, Counts-below, Room-to-decide}
+use Rattle.deciding.specs.declared.good.Decided.{Decided}
+use Rattle.deciding.specs.declared.good.Decided.the-variants.{Good as good, NotGood as not-good}
+use Rattle.deciding.proofs.good.Decided.{the-type}
 use Rattle.tables.specs.Given.{Decided-good, good-top}
 use Rattle.marks.specs.declared.MarksAnswer.{MarksAnswer}
 use Rattle.marks.specs.declared.MarksAnswer.the-variants.{

@@ -12,7 +12,7 @@ use Rattle.language.specs.Tree.{Tree}
 use Rattle.language.specs.Automaton.{States, accepting, Started, Stepped}
 use Rattle.tree.specs.Leaf.{Leaf, meaning}
 use Rattle.tree.specs.Records.{Good, piece-count}
-use Rattle.tree.specs.Readback.{good-unique}
+use Rattle.lists.specs.Readback.{good-unique}
 use Rattle.tree.specs.Pieces.{cut-up}
 use Rattle.tables.specs.Words.{Set-of}
 use Rattle.marks.specs.Answer.{Numbers}

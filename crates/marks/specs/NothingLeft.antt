@@ -9,7 +9,7 @@ use lib.ListN.{length}
 use Rattle.language.specs.Tree.{Tree}
 use Rattle.tree.specs.Leaf.{Leaf, Matches}
 use Rattle.tree.specs.Records.{Good, piece-count}
-use Rattle.tree.specs.Readback.{good-unique}
+use Rattle.lists.specs.Readback.{good-unique}
 use Rattle.tree.specs.Pieces.{cut-up}
 use Rattle.tables.specs.Words.{run}
 use Rattle.marks.specs.Answer.{Numbers}

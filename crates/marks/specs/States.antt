@@ -11,7 +11,7 @@ use Rattle.language.specs.Automaton.{States, accepting}
 use Rattle.tree.specs.Limits.{most-states}
 use Rattle.tree.specs.Leaf.{Leaf}
 use Rattle.tree.specs.Records.{Good}
-use Rattle.tree.specs.Readback.{good-unique}
+use Rattle.lists.specs.Readback.{good-unique}
 use Rattle.tree.specs.Parts.{Every-piece}
 use Rattle.tree.specs.Pieces.{cut-up}
 use Rattle.tables.specs.Words.{Bit, width}

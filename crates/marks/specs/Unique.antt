@@ -14,7 +14,7 @@ use Rattle.tree.specs.RefusalNumbers.{list-not-good, too-few-words, words-not-m
 use Rattle.tree.specs.Leaf.{Leaf, meaning}
 use Rattle.tree.specs.Layout.{class-record-size}
 use Rattle.tree.specs.Records.{Good, piece-count, class-count}
-use Rattle.tree.specs.Readback.{good-unique}
+use Rattle.lists.specs.Readback.{good-unique}
 use Rattle.tables.specs.Words.{run, Set-of}
 use Rattle.tree.specs.Pieces.{cut-up}
 use Rattle.marks.specs.Texts.{all-words}

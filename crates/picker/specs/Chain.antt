@@ -11,7 +11,7 @@ use Rattle.language.specs.Tree.{Tree}
 use Rattle.tree.specs.Leaf.{Leaf, Matches}
 use Rattle.tree.specs.Layout.{record-size, class-record-size}
 use Rattle.tree.specs.Records.{Good}
-use Rattle.tree.specs.Readback.{good-unique}
+use Rattle.lists.specs.Readback.{good-unique}
 use Rattle.tree.specs.Limits.{longest-text}
 use Rattle.scanner.specs.Bytes.{Syntax, first, second}
 use Rattle.scanner.specs.Scanner.{Atom, scanned}

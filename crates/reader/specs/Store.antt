@@ -14,7 +14,7 @@ use Rattle.tree.specs.Limits.{most-pieces}
 use Rattle.tree.specs.Layout.{record-size, class-record-size}
 use Rattle.tree.specs.Leaf.{Leaf, character}
 use Rattle.tree.specs.Records.{labels, encode, piece-count}
-use Rattle.tree.specs.Recording.{Recorded}
+use Rattle.lists.specs.Recording.{Recorded}
 use Rattle.scanner.specs.Bytes.{first, second}
 use Rattle.classes.specs.Class.{Class}
 use Rattle.scanner.specs.Scanner.{Atom, Outcome, tree, refused, scanned}

@@ -1,11 +1,11 @@
 // Reading and counting: what can be said of an expression with no buffer lent.
 use crate::answer::CountedAnswer;
+use cutting::measure::piece_count;
 use scanner::expression::expression;
 use scanner::part::Part;
 use tree::layout::CLASS_LABEL;
 use tree::limits::MOST_PIECES;
 use tree::limits::SLOT_COUNT;
-use tree::number::piece_count;
 use tree::refusal_numbers::TOO_MANY_PIECES;
 ghost use mathlib.Core.Path.{_≡_};
 ghost use mathlib.Core.Bool.{true, false};
@@ -13,7 +13,7 @@ ghost use mathlib.Core.List.{[], _∷_};
 ghost use Prim.Native.Nat.{_≤_};
 ghost use lib.ListN.{length};
 ghost use Rattle.tree.specs.Limits.{most-labels};
-ghost use Rattle.tree.specs.Measured.{Postorder};
+ghost use Rattle.cutting.specs.Measured.{Postorder};
 ghost use Rattle.scanner.specs.Bytes.{syntax-of};
 ghost use Rattle.reader.specs.Relabelled.{class-labels};
 ghost use Rattle.reader.specs.Count.{Labels-counted, Count-answer};

@@ -12,7 +12,7 @@ use Rattle.tree.specs.Layout.{record-size}
 use Rattle.tree.specs.Records.{Good}
 use Rattle.tree.specs.Parts.{below-each}
 use Rattle.tree.specs.Pieces.{cut-up, stated}
-use Rattle.tree.specs.Judged.{Counts-below}
+use Rattle.deciding.specs.Judged.{Counts-below}
 use Rattle.tables.specs.Words.{run}
 use Rattle.tables.specs.Standing.{
   size,

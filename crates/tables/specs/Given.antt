@@ -13,7 +13,7 @@ use Rattle.tree.specs.Layout.{record-size}
 use Rattle.tree.specs.Records.{Good, Ranked, piece-count, class-numbers, class-count}
 use Rattle.tree.specs.Parts.{Small, Every-below}
 use Rattle.tree.specs.Stored.{stored}
-use Rattle.tree.specs.Judged.{Counts-below}
+use Rattle.deciding.specs.Judged.{Counts-below}
 use Rattle.tree.specs.Pieces.{cut-up, stated, good-small, good-tells}
 use Rattle.tables.specs.Words.{width, run}
 use Rattle.tables.specs.Plan.{Planned}

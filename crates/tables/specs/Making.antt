@@ -10,7 +10,7 @@ use Rattle.language.specs.Nested.{Nested, leaf, catenation, union, star, below}
 use Rattle.tree.specs.Leaf.{Leaf}
 use Rattle.tree.specs.Limits.{most-pieces, most-states}
 use Rattle.tree.specs.Layout.{record-size}
-use Rattle.tree.specs.Judged.{Counts-below}
+use Rattle.deciding.specs.Judged.{Counts-below}
 use Rattle.tables.specs.Words.{width, run}
 use Rattle.tables.specs.Plan
 use Rattle.tables.specs.Plan.{row-size, codes-of}

@@ -1,4 +1,4 @@
--- The cut of a tree into pieces, and the records that a tree is stored as.
+-- The records that a tree is stored as: the leaves, the layout, the cut into pieces and the numbers of the pieces.
 pub mod Leaf
 pub mod Limits
 pub mod RefusalNumbers
@@ -12,7 +12,7 @@ pub mod Saying
 pub mod Fields
 pub mod Lengths
 pub mod Postorder
-mod Choice
+pub mod Choice
 pub mod Least
 pub mod Bounds
 pub mod Nesting
@@ -25,24 +25,3 @@ pub mod Stored
 mod StoredLaws
 pub mod CutUp
 pub mod Pieces
-pub mod Seats
-mod SeatsLaws
-pub mod Gathered
-pub mod GatheredLaws
-pub mod Written
-mod WrittenLaws
-pub mod Measured
-pub mod MeasuredLaws
-pub mod Handed
-pub mod HandedLaws
-pub mod Recording
-pub mod RecordingLaws
-pub mod ClassNumbers
-pub mod Readback
-pub mod NumbersShown
-pub mod Depth
-pub mod DepthLaws
-pub mod Judged
-pub mod Decide
-pub mod DecideLaws
-pub mod NotGood

@@ -1,0 +1,2 @@
+// Whether a lent list of records is good.
+pub mod good;
