@@ -5,6 +5,13 @@ use borrow.Author.Needs.{needs}
 use Rattle.reader.proofs.count.count_labels.Statement.{statement}
 use Rattle.reader.proofs.count.count_labels.Tie as tie
 
+-- where the pieces were counted, and where the call began
+abbrev counted : tie.After-cuts2 → tie.After-piece-count
+counted c = c .before .before .before
+
+abbrev entry : tie.After-piece-count → tie.Start
+entry c = c .before .before .before .before .before
+
 slice-aggregate-piece-count : tie.Need-slice-aggregate-piece-count
 slice-aggregate-piece-count c = search needs
 
@@ -29,8 +36,8 @@ piece-count-requires c κs = let s = c .before .before .before .before in (
 
 returns : tie.Need-returns
 returns c =
-    let m = c .before .before .before .before in
-    let s = c .before .before .before .before .before .before .before .before .before in
+    let m = counted (c .before) in
+    let s = entry m in
     counted-many (s .args .labels .now) (m .piece-count .result) (m .piece-count .ensures .1 .count) (omega arith)
 
 class-count-requires : tie.Need-class-count-requires
@@ -38,8 +45,8 @@ class-count-requires c κs = search needs
 
 returns-2 : tie.Need-returns-2
 returns-2 c =
-    let m = c .before .before .before .before .before in
-    let s = c .before .before .before .before .before .before .before .before .before .before in
+    let m = counted (c .before .before) in
+    let s = entry m in
     counted-few (s .args .labels .now) (m .piece-count .result) (m .piece-count .ensures .1 .count)
     (c .before .if1 .left) (c .class-count .result) (c .class-count .ensures)
 

@@ -6,35 +6,45 @@ use borrow.Author.Needs.{needs}
 use Rattle.reader.proofs.store.class_values.Statement.{statement}
 use Rattle.reader.proofs.store.class_values.Tie as tie
 
+-- where the members were filled for the dot, and where the call began
+abbrev filled : tie.After-put-arg → tie.After-fill
+filled c = c .before .before .before
+
+abbrev dot-found : tie.After-fill → tie.Then1
+dot-found c = c .before .before
+
+abbrev entry : tie.After-shared-slice-known2 → tie.Start
+entry c = c .before .before .before
+
 shared-slice-read-if1 : tie.Need-shared-slice-read-if1
 shared-slice-read-if1 c =
-    let s = c .before .before .before in inside-at (s .args .expr .now) (s .args .at) (s .pre .0)
+    let s = entry c in inside-at (s .args .expr .now) (s .args .at) (s .pre .0)
 
 fill-requires : tie.Need-fill-requires
 fill-requires c κs = search needs
 
 put-requires : tie.Need-put-requires
 put-requires c κs =
-    let s = c .before .before .before .before .before .before .before .before .before in
-    (omega arith, omega (arith, c .before .before .before .fill .kept .0, s .pre .1))
+    let f = filled c in
+    let s = entry (dot-found f .before) in (omega arith, omega (arith, f .fill .kept .0, s .pre .1))
 
 same-length : tie.Need-same-length
 same-length c = search needs
 
 returns : tie.Need-returns
 returns c =
-    let s = c .before .before .before .before .before .before .before .before .before .before .before .before in
-    let f = c .before .before .before .before .before .before in
     let p = c .before .before in
-    rw (dot-at (s .args .expr .now) (s .args .at)
-    (c .before .before .before .before .before .before .before .before .if1 .taken))
+    let f = filled (p .before) in
+    let dot = dot-found f in
+    let s = entry (dot .before) in
+    rw (dot-at (s .args .expr .now) (s .args .at) (dot .if1 .taken))
     (dot-members (f .fill .last .0) (p .put .last .0) (f .fill .kept .0
     ∙ s .pre .1) (f .fill .ensures) (p .put .kept .0)
     (p .put .ensures))
 
 class-members-requires : tie.Need-class-members-requires
 class-members-requires c κs =
-    let s = c .before .before .before .before .before in
+    let s = entry (c .before .before) in
     (inside-at (s .args .expr .now) (s .args .at) (s .pre .0), s .pre .1)
 
 same-length-2 : tie.Need-same-length-2
@@ -42,11 +52,11 @@ same-length-2 c = search needs
 
 returns-2 : tie.Need-returns-2
 returns-2 c =
-    let s = c .before .before .before .before .before .before .before .before in
     let m = c .before .before in
+    let s = entry (m .before .before .before) in
     members-at (s .args .expr .now) (s .args .at) (m .class-members .last .1 .1 .0) (m .class-members .result)
     (s .pre .0)
-    (c .before .before .before .before .if1 .left) (m .class-members .ensures)
+    (m .before .before .if1 .left) (m .class-members .ensures)
 
 pub class-values-spec : {M : Type 1} → statement M
 class-values-spec =

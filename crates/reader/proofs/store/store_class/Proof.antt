@@ -22,6 +22,13 @@ part-stored : (n : ℕ) (list part one : List ℕ) → part ≡ one
     → take n list ++ (part ++ drop (n + 32 - n) (drop n list)) ≡ take n list ++ (one ++ drop 32 (drop n list))
 part-stored n list part one e = rw (e, part-size n)
 
+-- where the values were told, and where the call began
+abbrev values-told : tie.After-write-class-record-arg → tie.After-class-values
+values-told c = c .before .before .before
+
+abbrev entry : tie.After-class-values → tie.Start
+entry c = c .before .before .before .before
+
 slice-aggregate-class-values : tie.Need-slice-aggregate-class-values
 slice-aggregate-class-values c = search needs
 
@@ -48,8 +55,9 @@ part-write-class-record-end c = search needs
 
 write-class-record-requires : tie.Need-write-class-record-requires
 write-class-record-requires c κs =
-    let s = c .before .before .before .before .before .before .before in (
-      members-binary (c .before .before .before .class-values .ensures),
+    let told = values-told c in
+    let s = entry told in (
+      members-binary (told .class-values .ensures),
       part-length (32 * s .args .k) (s .args .classes .now) (s .pre .1),
     )
 
@@ -58,10 +66,11 @@ same-length c = search needs
 
 returns : tie.Need-returns
 returns c =
-    let s = c .before .before .before .before .before .before .before .before .before .before in
     let p = c .before .before in
+    let told = values-told (p .before) in
+    let s = entry told in
     part-stored (32 * s .args .k) (s .args .classes .now) (p .write-class-record .last .1 .0) _
-    (recorded-whole (c .before .before .before .before .before .before .class-values .ensures)
+    (recorded-whole (told .class-values .ensures)
     (p .write-class-record .kept .1 .0 ∙ part-length (32 * s .args .k) (s .args .classes .now) (s .pre .1))
     (p .write-class-record .ensures))
 

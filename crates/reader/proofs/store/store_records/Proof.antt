@@ -4,6 +4,13 @@ use borrow.Author.Needs.{needs}
 use Rattle.reader.proofs.store.store_records.Statement.{statement}
 use Rattle.reader.proofs.store.store_records.Tie as tie
 
+-- where the tree was measured, and where the call began
+abbrev measured : tie.After-write-records-arg → tie.After-piece-count
+measured c = c .before .before .before .before .before .before .before
+
+abbrev entry : tie.After-piece-count → tie.Start
+entry c = c .before .before .before .before .before .before
+
 slice-aggregate-piece-count : tie.Need-slice-aggregate-piece-count
 slice-aggregate-piece-count c = search needs
 
@@ -37,8 +44,8 @@ slice-aggregate-write-records-3 c = search needs
 
 write-records-requires : tie.Need-write-records-requires
 write-records-requires c κs =
-    let m = c .before .before .before .before .before .before .before in
-    let s = c .before .before .before .before .before .before .before .before .before .before .before .before .before in (
+    let m = measured c in
+    let s = entry m in (
       s .pre .0,
       (
         s .pre .1 .0,

@@ -24,17 +24,36 @@ use borrow.Author.Needs.{needs}
 use Rattle.reader.proofs.store.store_second.Statement.{statement}
 use Rattle.reader.proofs.store.store_second.Tie as tie
 
+-- where there is room for the records, where there is room for the classes too, and where the call began
+abbrev entry : tie.Else1 → tie.Start
+entry c = c .before .before .before .before .before
+
+abbrev room-for-records : tie.Else2 → tie.Else1
+room-for-records c = c .before
+
+abbrev room-for-both : tie.After-store-classes → tie.Else2
+room-for-both c = c .before .before .before
+
+-- where the class records were written, and where the labels were numbered
+abbrev classes-written : tie.After-number-classes → tie.After-store-classes
+classes-written c = c .before .before .before .before
+
+abbrev labels-numbered : tie.After-store-records-arg → tie.After-number-classes
+labels-numbered c = c .before .before .before
+
+-- where the call began, from the numbering on
+abbrev entry-of-numbering : tie.After-number-classes → tie.Start
+entry-of-numbering c = entry (room-for-records (room-for-both (classes-written c)))
+
 -- the labels are numbered where the records are written
 numbered : (c : tie.After-slice-known5)
-    → let s = c .before .before .before .before .before .before .before .before .before .before .before .before .before
-    .before .before in
-    let n = c .before .before in
+    → let n = c .before .before in
+    let s = entry-of-numbering n in
     take (s .args .count) (n .number-classes .last .0 ++ drop (s .args .count) (s .args .labels .now))
     ≡ relabelled (take (s .args .count) (s .args .labels .now)) 0
 numbered c =
-    let s = c .before .before .before .before .before .before .before .before .before .before .before .before .before
-    .before .before in
     let n = c .before .before in
+    let s = entry-of-numbering n in
     let fits = length-take-le (s .args .count) (s .args .labels .now) (omega (arith, s .pre .0, s .pre .1 .bounded)) in
     take-at (n .number-classes .last .0) (drop (s .args .count) (s .args .labels .now)) (s .args .count)
     (n .number-classes .kept .0 ∙ fits) ∙ n .number-classes .ensures
@@ -49,23 +68,23 @@ returns c =
 
 mul-if2 : tie.Need-mul-if2
 mul-if2 c =
-    let s = c .before .before .before .before .before in omega (arith, s .pre .1 .bounded, classes-bounded (s .pre .1))
+    let s = entry c in omega (arith, s .pre .1 .bounded, classes-bounded (s .pre .1))
 
 returns-2 : tie.Need-returns-2
 returns-2 c =
-    let s = c .before .before .before .before .before .before in
+    let s = entry (c .before) in
     second-few (s .pre .1) (s .args .records .now) (s .args .classes .now) (c .before .if1 .left) (omega arith)
 
 slice-reshare-prefix-store-classes : tie.Need-slice-reshare-prefix-store-classes
 slice-reshare-prefix-store-classes c =
-    let s = c .before .before .before .before .before .before in omega (arith, s .pre .0, s .pre .1 .bounded)
+    let s = entry (room-for-records c) in omega (arith, s .pre .0, s .pre .1 .bounded)
 
 slice-aggregate-store-classes : tie.Need-slice-aggregate-store-classes
 slice-aggregate-store-classes c = sym (length-take-le _ _ (slice-reshare-prefix-store-classes (c .before)))
 
 store-classes-requires : tie.Need-store-classes-requires
 store-classes-requires c κs =
-    let s = c .before .before .before .before .before .before .before .before in
+    let s = entry (room-for-records (c .before .before)) in
     let e = slice-aggregate-store-classes (c .before) in (
       second-placed (s .pre .1),
       (
@@ -76,7 +95,7 @@ store-classes-requires c κs =
 
 slice-relend-prefix-number-classes : tie.Need-slice-relend-prefix-number-classes
 slice-relend-prefix-number-classes c =
-    let s = c .before .before .before .before .before .before .before .before .before .before .before in
+    let s = entry (room-for-records (room-for-both (c .before .before))) in
     omega (arith, s .pre .0, s .pre .1 .bounded)
 
 slice-aggregate-number-classes : tie.Need-slice-aggregate-number-classes
@@ -84,7 +103,7 @@ slice-aggregate-number-classes c = sym (length-take-le _ _ (slice-relend-prefix-
 
 number-classes-requires : tie.Need-number-classes-requires
 number-classes-requires c κs =
-    let s = c .before .before .before .before .before .before .before .before .before .before .before .before in
+    let s = entry (room-for-records (room-for-both (c .before .before .before))) in
     rw (sym (slice-aggregate-number-classes c)) (s .pre .1 .bounded)
 
 slice-reshare-prefix-store-records : tie.Need-slice-reshare-prefix-store-records
@@ -95,8 +114,8 @@ slice-aggregate-store-records c = sym (length-take-le _ _ (slice-reshare-prefix-
 
 store-records-requires : tie.Need-store-records-requires
 store-records-requires c κs =
-    let s = c .before .before .before .before .before .before .before .before .before .before .before .before .before
-    .before .before .before .before in
+    let room = room-for-records (room-for-both (classes-written (labels-numbered (c .before)))) in
+    let s = entry room in
     let e = slice-aggregate-store-records (c .before) in
     let n = numbered (c .before .before) in (
       record {
@@ -106,9 +125,7 @@ store-records-requires c κs =
       },
       (
         rw (sym e) (s .pre .1 .bounded),
-        rw (sym e) (c .before .before .before .before .before .before .before .before .before .before .before .before
-            .if1
-            .left),
+        rw (sym e) (room .if1 .left),
       ),
     )
 
@@ -123,16 +140,15 @@ same-length-3 c = search needs
 
 returns-3 : tie.Need-returns-3
 returns-3 c =
-    let s = c .before .before .before .before .before .before .before .before .before .before .before .before .before
-    .before .before .before .before .before .before .before in
     let r = c .before .before in
-    let k = c .before .before .before .before .before .before .before .before .before .before .before in
-    let n = numbered (c .before .before .before .before .before) in
-    second-whole (s .pre .1) (s .args .records .now) (s .args .classes .now)
-    (c .before .before .before .before .before .before .before .before .before .before .before .before .before
-    .before .before .if1 .left) (c .before .before .before .before .before .before .before .before .before .before
-    .before .before .before .before .if2 .left)
-    (rw n at (r .store-records .ensures)) (rw (second-class-labels (s .pre .1)) at (k .store-classes .ensures))
+    let lent = r .before .before in
+    let k = classes-written (labels-numbered lent) in
+    let room = room-for-both k in
+    let s = entry (room-for-records room) in
+    let n = numbered (lent .before) in
+    second-whole (s .pre .1) (s .args .records .now) (s .args .classes .now) (room-for-records room .if1 .left)
+    (room .if2 .left) (rw n at (r .store-records .ensures))
+    (rw (second-class-labels (s .pre .1)) at (k .store-classes .ensures))
 
 pub store-second-spec : {M : Type 1} → statement M
 store-second-spec =
