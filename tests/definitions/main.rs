@@ -90,11 +90,9 @@ fn listed_edits(row: &str) -> Vec<String> {
     edits
 }
 
-/// The edits that there are: of a crate, tried by the gate, and of tests/edits, tried by hand.
+/// The edits that there are.
 fn edits() -> BTreeSet<String> {
-    let folders =
-        crates().into_iter().flat_map(|c| [(format!("crates/{c}/must-fail"), c.clone()), (format!("tests/edits/{c}"), c)]);
-    let entries = folders.filter_map(|(f, c)| Some((fs::read_dir(f).ok()?, c)));
+    let entries = crates().into_iter().filter_map(|c| Some((fs::read_dir(format!("crates/{c}/must-fail")).ok()?, c)));
     entries.flat_map(|(d, c)| d.flatten().map(move |e| format!("{c}/must-fail/{}", e.file_name().to_string_lossy()))).collect()
 }
 
