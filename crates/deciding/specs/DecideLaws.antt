@@ -15,6 +15,7 @@ use Rattle.tree.specs.Leaf.{Leaf}
 use Rattle.tree.specs.Limits.{most-pieces, most-records}
 use Rattle.tree.specs.Layout.{
   record-size,
+  two-bytes-limit,
   labelled-record,
   record-at,
   kind-at,
@@ -130,7 +131,7 @@ own-record t i h =
 module _ (ls list : List ℕ) (i left right label left-number right-number piece : ℕ) (sizes : List ℕ)
     (inside : i < length ls)
     (facts : (t : Tree Leaf) → ls ≡ labels t → Slots t i left right sizes × (piece ≡ seat-at (seats t 0 1) i .piece))
-    (is-label : label ≡ getD ls i 0) (small : label < 65536) (is-left : left-number ≡ child-number left)
+    (is-label : label ≡ getD ls i 0) (small : label < two-bytes-limit) (is-left : left-number ≡ child-number left)
     (is-right : right-number ≡ child-number right) where
   -- it is the tree's
   given-record : (t : Tree Leaf) → ls ≡ labels t → labelled-record label left-number right-number piece

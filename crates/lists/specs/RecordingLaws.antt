@@ -8,7 +8,7 @@ use lib.ListN.{length, getD, take, drop}
 use lib.Seq.{sets, take-add, take-at, take-all, drop-append-add, length-take-le, drop-drop}
 use Rattle.language.specs.Tree.{Tree, nodes}
 use Rattle.tree.specs.Leaf.{Leaf}
-use Rattle.tree.specs.Layout.{record-size, labelled-record}
+use Rattle.tree.specs.Layout.{record-size, two-bytes-limit, labelled-record}
 use Rattle.tree.specs.Fields.{record-put}
 use Rattle.tree.specs.Records.{labels, encode}
 use Rattle.tree.specs.Lengths.{length-labels, length-encode}
@@ -68,7 +68,7 @@ one-more list before part k whole inside next =
 
 -- the record that the slots of record i's children give is its seat's
 pub fields-are : (t : Tree Leaf) (i left right label left-number right-number piece : ℕ) (sizes : List ℕ)
-    → Slots t i left right sizes → label ≡ root-label (node t i) → label < 65536
+    → Slots t i left right sizes → label ≡ root-label (node t i) → label < two-bytes-limit
     → left-number ≡ child-number left → right-number ≡ child-number right → piece ≡ seat-at (seats t 0 1) i .piece
     → labelled-record label left-number right-number piece ≡ seat-record i (seat-at (seats t 0 1) i)
 fields-are t i left right label left-number right-number piece sizes k is-label small is-left is-right is-piece =
@@ -82,7 +82,7 @@ fields-are t i left right label left-number right-number piece sizes k is-label 
 pub written-more : (ls before after next : List ℕ) (i left right label left-number right-number piece : ℕ)
     (sizes : List ℕ) → i < length ls
     → ((t : Tree Leaf) → ls ≡ labels t → Slots t i left right sizes × (piece ≡ seat-at (seats t 0 1) i .piece))
-    → label ≡ getD ls i 0 → label < 65536
+    → label ≡ getD ls i 0 → label < two-bytes-limit
     → left-number ≡ child-number left → right-number ≡ child-number right
     → record-size * i + record-size ≤ length after
     → next ≡ sets after (record-size * i)

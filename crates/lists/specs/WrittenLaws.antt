@@ -15,6 +15,7 @@ use Rattle.tree.specs.Leaf.{Leaf}
 use Rattle.tree.specs.Cut.{one, wanted, cut-only, open-size}
 use Rattle.tree.specs.Layout.{
   record-size,
+  two-bytes-limit,
   record-of,
   labelled-record,
   no-child,
@@ -136,7 +137,7 @@ drop-written i (suc j) (x ∷ xs) h =
     (sym (ap (λ (k : ℕ). drop k (seat-record i x ++ rest)) next ∙ past (record-size * j + record-size)))
 
 -- the record that a leaf's label asks for is the leaf's
-leaf-labelled : (a : Leaf) (p : ℕ) → leaf-label a < 65536 → labelled-record (leaf-label a) no-child no-child p
+leaf-labelled : (a : Leaf) (p : ℕ) → leaf-label a < two-bytes-limit → labelled-record (leaf-label a) no-child no-child p
     ≡ record-of (leaf-kind a) (leaf-character a) (leaf-number a) no-child p
 leaf-labelled (Leaf.character a) p h =
     let no-class : (1 + 256 * a) % 8 ≡ 1 = omega arith in
@@ -150,7 +151,7 @@ leaf-labelled (Leaf.class k) p h =
     rw (kind, number)
 
 -- the record that a root's label asks for, with the numbers of its children, is its seat's
-pub labelled-seat : (u : Tree Leaf) (i p n left right : ℕ) → root-label u < 65536
+pub labelled-seat : (u : Tree Leaf) (i p n left right : ℕ) → root-label u < two-bytes-limit
     → left ≡ child-number (left-slot (root-label u) i (of-right nodes u))
     → right ≡ child-number (right-slot (root-label u) i)
     → labelled-record (root-label u) left right p ≡ seat-record i (seat u p n)

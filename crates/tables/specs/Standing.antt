@@ -12,6 +12,7 @@ use Rattle.tree.specs.Leaf.{Leaf}
 use Rattle.tree.specs.Limits.{most-pieces, most-records, most-states}
 use Rattle.tree.specs.Layout.{
   record-size,
+  two-bytes-limit,
   catenation-kind,
   union-kind,
   star-kind,
@@ -305,8 +306,8 @@ in-fine (step c m) h = in-fine m (child-fine c h)
 -- the root's record of a site in the list
 root-shows : {list : List ℕ} {s : Site} → Written list s → (r kind character left right own : ℕ)
     → r + 1 ≡ first s + size (tree s)
-    → root-record (tree s) (first s) (piece s) (new s) ≡ record-of kind character left right own → left < 65536
-    → right < 65536 → own < 65536
+    → root-record (tree s) (first s) (piece s) (new s) ≡ record-of kind character left right own → left < two-bytes-limit
+    → right < two-bytes-limit → own < two-bytes-limit
     → Shows list r kind character left right own
 root-shows {list} {s = site x f p n i} w r kind character left right own at e small-left small-right small-piece =
     let split : list ≡ (w .before ++ inner x f p n) ++ (record-of kind character left right own ++ w .after) =

@@ -8,6 +8,7 @@ use lib.ListN.{length, getD, take, drop}
 use lib.Seq.{getD-append-add, drop-cons, sets, sets-eq}
 use Rattle.tree.specs.Layout.{
   record-size,
+  two-bytes-limit,
   two-bytes,
   record-of,
   four-numbers,
@@ -26,7 +27,7 @@ byte-past before rest m k e = rw (← e) (getD-append-add before rest k 0)
 
 -- a record that stands in the list after r others shows its fields
 pub shows : (before after : List ℕ) (r kind character left right piece : ℕ) → length before ≡ record-size * r
-    → left < 65536 → right < 65536 → piece < 65536
+    → left < two-bytes-limit → right < two-bytes-limit → piece < two-bytes-limit
     → Shows (before ++ (record-of kind character left right piece ++ after)) r kind character left right piece
 shows before after r kind character left right piece e small-left small-right small-piece =
     let rest = record-of kind character left right piece ++ after in

@@ -36,6 +36,10 @@ class-record-size = 32
 abbrev pub no-child : ℕ
 no-child = 65535
 
+-- the numbers that two bytes hold are below this
+abbrev pub two-bytes-limit : ℕ
+two-bytes-limit = 65536
+
 -- a number in two bytes, the low one first
 abbrev pub two-bytes : ℕ → List ℕ
 two-bytes n = n % 256 ∷ n / 256 % 256 ∷ []
