@@ -9,12 +9,21 @@ pub fn say_number(number: u64) {
     io::print_decimal(STDOUT_FILENO, number);
 }
 
-// Says a refusal: its number and its place.
-pub fn say_refused(number: u8, place: usize) {
+// In hex, with at least so many digits.
+pub fn say_hex(number: u64, width: usize) {
+    io::print_hex(STDOUT_FILENO, number, width);
+}
+
+// Says a refusal, its number and its place, where there is one; answers whether there was.
+pub fn refused(number: u8, place: usize) -> bool {
+    if number == 0 {
+        return false;
+    }
     say(b"refused ");
     say_number(number as u64);
     say(b" at ");
     say_number(place as u64);
+    true
 }
 
 pub fn say_yes(yes: bool) {

@@ -1,11 +1,11 @@
--- `edges::marking::walk` is safe and ends: no call changes how many words are lent, and the measure is how many bytes
--- are left. Assumes nothing.
+-- `edges::calls::walk` is safe and ends: no call changes how many words are lent; the measure is how many bytes are
+-- left. Assumes nothing.
 use mathlib.Core.Path.{_≡_}
 use Prim.Native.Nat.{_-_}
 use borrow.Author.Needs.{needs}
 use lib.ListN.{length}
-use Rattle.edges.proofs.marking.walk.Statement.{statement}
-use Rattle.edges.proofs.marking.walk.Tie as tie
+use Rattle.edges.proofs.calls.walk.Statement.{statement}
+use Rattle.edges.proofs.calls.walk.Tie as tie
 
 abbrev Inv-loop : tie.InvT-loop
 Inv-loop list classes words₀ text answer₀ i₀ words answer i = length words ≡ length words₀

@@ -1,15 +1,15 @@
--- `edges::reading::say_list` is safe and ends: the measure is how many bytes are left. Assumes nothing.
+-- `edges::answers::say_bytes` is safe and ends: the measure is how many bytes are left. Assumes nothing.
 use Prim.Native.Nat.{_-_}
 use borrow.Author.Needs.{needs}
 use lib.ListN.{length}
-use Rattle.edges.proofs.reading.say_list.Statement.{statement}
-use Rattle.edges.proofs.reading.say_list.Tie as tie
+use Rattle.edges.proofs.answers.say_bytes.Statement.{statement}
+use Rattle.edges.proofs.answers.say_bytes.Tie as tie
 
 abbrev Inv-loop : tie.InvT-loop
-Inv-loop list i₀ i = Unit {0}
+Inv-loop bytes i₀ i = Unit {0}
 
 abbrev μ-loop : tie.MeasureT-loop
-μ-loop list i₀ i = length list - i
+μ-loop bytes i₀ i = length bytes - i
 
 loop-holds : tie.Need-loop-holds Inv-loop μ-loop
 loop-holds c = search needs
@@ -32,8 +32,8 @@ loop-again c = search needs
 returns : tie.Need-returns Inv-loop μ-loop
 returns c = search needs
 
-pub say-list-spec : {M : Type 1} → statement M
-say-list-spec =
+pub say-bytes-spec : {M : Type 1} → statement M
+say-bytes-spec =
     tie.close
     (tie.spec
     Inv-loop
