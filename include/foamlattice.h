@@ -2,8 +2,8 @@
  *
  * Every function takes slices as a pointer and a length, ends and answers on all bytes and words that it can be
  * handed, and keeps nothing between calls. It allocates nothing; what it needs it takes from the stack: 21 KB in
- * foam_check and foam_check2, 25 KB in foam_read and foam_read2, 68 KB in foam_match, foam_search, foam_start and
- * foam_step, 79 KB in foam_pick, as measured.
+ * foam_check and foam_check2, 25 KB in foam_read and foam_read2, 62 KB in foam_match, foam_search, foam_start and
+ * foam_step, 73 KB in foam_pick, as measured.
  *
  * What a caller must see to, since it cannot be checked: no pointer is null, also where its length is 0; each points to
  * as many bytes or words as its length says, words aligned as uint64_t; what is written through overlaps nothing else

@@ -1,12 +1,15 @@
 // Match and search over a list that is known to be good: its tables are made once, on the stack, for either, in one of
-// two sizes.
+// three sizes.
 use crate::part::Span;
 use crate::part::first_part;
 use crate::text::text_matches;
+use marks::inner::FEW_CODES;
+use marks::inner::FEW_MASKS;
+use marks::inner::FEW_PIECES;
+use marks::inner::SOME_CODES;
+use marks::inner::SOME_MASKS;
+use marks::inner::SOME_PIECES;
 use marks::inner::prepare;
-use tables::FEW_CODES;
-use tables::FEW_MASKS;
-use tables::FEW_PIECES;
 use tables::MASK_TABLE_SIZE;
 use tables::TABLE_SIZE;
 use tree::limits::MOST_PIECES;
@@ -18,7 +21,8 @@ ghost use Rattle.language.specs.Tree.{Tree};
 ghost use Rattle.tree.specs.Leaf.{Leaf, Matches};
 ghost use Rattle.tree.specs.Records.{Good};
 ghost use Rattle.tables.specs.Given.{Decided-good};
-ghost use Rattle.tables.specs.Tables.{few-pieces, Roomy};
+ghost use Rattle.tables.specs.Tables.{Roomy};
+ghost use Rattle.marks.specs.Inner.{few-pieces, some-pieces};
 ghost use Rattle.finder.specs.Found.{Answers};
 ghost use Rattle.finder.specs.Parts.{answer-of, is-part};
 
@@ -31,9 +35,9 @@ fn find_in(
     count: usize,
     reach: &mut [u64],
     codes: &mut [u16],
-    runs: &mut [u8],
-    stands: &mut [u8],
-    tops: &mut [u8],
+    runs: &mut [u8; MOST_PIECES],
+    stands: &mut [u8; MOST_PIECES],
+    tops: &mut [u8; MOST_PIECES],
     text: &[u8],
     whole: bool,
 ) -> Span
@@ -76,9 +80,45 @@ fn find_few(
 {
     let mut reach = [0u64; FEW_MASKS];
     let mut codes = [0u16; FEW_CODES];
-    let mut runs = [0u8; FEW_PIECES];
-    let mut stands = [0u8; FEW_PIECES];
-    let mut tops = [0u8; FEW_PIECES];
+    let mut runs = [0u8; MOST_PIECES];
+    let mut stands = [0u8; MOST_PIECES];
+    let mut tops = [0u8; MOST_PIECES];
+    find_in(
+        list,
+        classes,
+        cuts,
+        count,
+        &mut reach,
+        &mut codes,
+        &mut runs,
+        &mut stands,
+        &mut tops,
+        text,
+        whole,
+    )
+}
+
+// Of one of at most half as many pieces as there can be.
+fn find_some(
+    list: &[u8],
+    classes: &[u8],
+    cuts: &[u16],
+    count: usize,
+    text: &[u8],
+    whole: bool,
+) -> Span
+    requires { ⌜ Decided-good (now list) (now cuts) count ⌝ }
+    requires { ⌜ count ≤ some-pieces ⌝ }
+    ensures { λ r. ⌜ (whole ≡ true → (t : Tree Leaf) → Good (now (list .entry)) t
+        → (is-part r ≡ true) ↔ Matches (now (classes .entry)) t (now (text .entry))) ⌝ }
+    ensures { λ r. ⌜ (whole ≡ false → (t : Tree Leaf) → Good (now (list .entry)) t
+        → Answers (Matches (now (classes .entry)) t) (now (text .entry)) (answer-of r)) ⌝ }
+{
+    let mut reach = [0u64; SOME_MASKS];
+    let mut codes = [0u16; SOME_CODES];
+    let mut runs = [0u8; MOST_PIECES];
+    let mut stands = [0u8; MOST_PIECES];
+    let mut tops = [0u8; MOST_PIECES];
     find_in(
         list,
         classes,
@@ -152,6 +192,9 @@ pub fn find_good(
     }
     if room <= FEW_PIECES {
         return find_few(list, classes, cuts, count, text, whole);
+    }
+    if room <= SOME_PIECES {
+        return find_some(list, classes, cuts, count, text, whole);
     }
     find_many(list, classes, cuts, count, text, whole)
 }

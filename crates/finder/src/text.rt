@@ -15,9 +15,9 @@ ghost use Rattle.tables.specs.Tables.{Prepared, Ready};
 pub fn text_matches(
     reach: &[u64],
     codes: &[u16],
-    runs: &[u8],
-    stands: &[u8],
-    tops: &[u8],
+    runs: &[u8; MOST_PIECES],
+    stands: &[u8; MOST_PIECES],
+    tops: &[u8; MOST_PIECES],
     count: usize,
     classes: &[u8],
     text: &[u8],

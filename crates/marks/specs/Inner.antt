@@ -65,6 +65,13 @@ use Rattle.sweeping.specs.Simulated.{
 use Rattle.marks.specs.Texts.{all-words, holding-first, holding-next, accepting-answer}
 use Rattle.sweeping.specs.Visiting.{accepting-holds}
 
+-- lists of so few pieces take small tables, and those of so many tables of half the largest size
+abbrev pub few-pieces : ℕ
+few-pieces = 16
+
+abbrev pub some-pieces : ℕ
+some-pieces = 64
+
 -- a test that tells a fact passes exactly when the fact holds
 told-exactly : {P : Type 0} (answer : Bool) → Tells P answer → (answer ≡ true) ↔ P
 told-exactly true told = (told .holds, λ p. refl)

@@ -4,6 +4,7 @@ use closing::masks::note_all;
 use moving::moves::move_all;
 use sweeping::sweep::close_twice;
 use tables::plan::plan;
+use tree::limits::MOST_PIECES;
 ghost use Prim.Native.Nat.{ℕ, _≤_, _<_};
 ghost use mathlib.Core.Path.{_≡_};
 ghost use mathlib.Core.List.{List, _++_};
@@ -16,6 +17,19 @@ ghost use Rattle.tables.specs.Given.{Decided-good};
 ghost use Rattle.marks.specs.Promise.{Marks-of};
 ghost use Rattle.tables.specs.Tables.{Prepared, Roomy, Ready};
 ghost use Rattle.marks.specs.Inner.{Running, Begun, Advanced};
+
+// Lists of so few pieces take small tables, with room for so many codes and masks.
+pub const FEW_PIECES: usize = 16;
+
+pub const FEW_CODES: usize = 1024;
+
+pub const FEW_MASKS: usize = 48;
+// Those of more pieces, up to so many, take tables of half the largest size.
+pub const SOME_PIECES: usize = 64;
+
+pub const SOME_CODES: usize = 4096;
+
+pub const SOME_MASKS: usize = 192;
 
 // Makes the tables of a good list of `count` pieces, with the pieces below each record's node as deciding on the list
 // has left them.
@@ -64,9 +78,9 @@ pub struct Told {
 pub fn begin(
     reach: &[u64],
     codes: &[u16],
-    runs: &[u8],
-    stands: &[u8],
-    tops: &[u8],
+    runs: &[u8; MOST_PIECES],
+    stands: &[u8; MOST_PIECES],
+    tops: &[u8; MOST_PIECES],
     count: usize,
     words: &mut [u64],
 ) -> bool
@@ -90,9 +104,9 @@ pub fn begin(
 pub fn advance(
     reach: &[u64],
     codes: &[u16],
-    runs: &[u8],
-    stands: &[u8],
-    tops: &[u8],
+    runs: &[u8; MOST_PIECES],
+    stands: &[u8; MOST_PIECES],
+    tops: &[u8; MOST_PIECES],
     count: usize,
     classes: &[u8],
     words: &mut [u64],

@@ -4,14 +4,17 @@ pub mod inner;
 pub mod numbers;
 
 use crate::agree::agreeing;
+use crate::inner::FEW_CODES;
+use crate::inner::FEW_MASKS;
+use crate::inner::FEW_PIECES;
+use crate::inner::SOME_CODES;
+use crate::inner::SOME_MASKS;
+use crate::inner::SOME_PIECES;
 use crate::inner::advance;
 use crate::inner::begin;
 use crate::inner::prepare;
 use deciding::good::Decided;
 use deciding::good::decide_with;
-use tables::FEW_CODES;
-use tables::FEW_MASKS;
-use tables::FEW_PIECES;
 use tables::MASK_TABLE_SIZE;
 use tables::TABLE_SIZE;
 use tree::layout::CLASS_RECORD_SIZE;
@@ -30,8 +33,9 @@ ghost use Rattle.tree.specs.Layout.{record-size};
 ghost use Rattle.tree.specs.Records.{Good};
 ghost use Rattle.deciding.specs.Judged.{Room-to-decide};
 ghost use Rattle.tables.specs.Given.{Decided-good};
-ghost use Rattle.tables.specs.Tables.{few-pieces, Roomy};
+ghost use Rattle.tables.specs.Tables.{Roomy};
 ghost use Rattle.marks.specs.Answer.{numbers};
+ghost use Rattle.marks.specs.Inner.{few-pieces, some-pieces};
 ghost use Rattle.marks.specs.Promise.{Classed, Starts, Steps};
 
 // What a start or a step answers.
@@ -57,9 +61,9 @@ fn mark_in(
     count: usize,
     reach: &mut [u64],
     codes: &mut [u16],
-    runs: &mut [u8],
-    stands: &mut [u8],
-    tops: &mut [u8],
+    runs: &mut [u8; MOST_PIECES],
+    stands: &mut [u8; MOST_PIECES],
+    tops: &mut [u8; MOST_PIECES],
     words: &mut [u64],
     stepping: bool,
     byte: u8,
@@ -125,9 +129,49 @@ fn mark_few(
 {
     let mut reach = [0u64; FEW_MASKS];
     let mut codes = [0u16; FEW_CODES];
-    let mut runs = [0u8; FEW_PIECES];
-    let mut stands = [0u8; FEW_PIECES];
-    let mut tops = [0u8; FEW_PIECES];
+    let mut runs = [0u8; MOST_PIECES];
+    let mut stands = [0u8; MOST_PIECES];
+    let mut tops = [0u8; MOST_PIECES];
+    mark_in(
+        list,
+        classes,
+        cuts,
+        count,
+        &mut reach,
+        &mut codes,
+        &mut runs,
+        &mut stands,
+        &mut tops,
+        words,
+        stepping,
+        byte,
+    )
+}
+
+// On one of at most half as many pieces as there can be.
+fn mark_some(
+    list: &[u8],
+    classes: &[u8],
+    cuts: &[u16],
+    count: usize,
+    words: &mut [u64],
+    stepping: bool,
+    byte: u8,
+) -> MarksAnswer
+    requires { ⌜ Decided-good (now list) (now cuts) count ⌝ }
+    requires { ⌜ ((t : Tree Leaf) → Good (now list) t → Classed (now classes) t) ⌝ }
+    requires { ⌜ count ≤ some-pieces ⌝ }
+    ensures { λ r. ⌜ (stepping ≡ false
+        → Starts (now (list .entry)) (now (classes .entry)) (now (words .entry)) (now (words .exit)) (numbers r)) ⌝ }
+    ensures { λ r. ⌜ (stepping ≡ true
+        → Steps (now (list .entry)) (now (classes .entry)) byte (now (words .entry)) (now (words .exit))
+        (numbers r)) ⌝ }
+{
+    let mut reach = [0u64; SOME_MASKS];
+    let mut codes = [0u16; SOME_CODES];
+    let mut runs = [0u8; MOST_PIECES];
+    let mut stands = [0u8; MOST_PIECES];
+    let mut tops = [0u8; MOST_PIECES];
     mark_in(
         list,
         classes,
@@ -209,6 +253,9 @@ fn mark_good(
     }
     if room <= FEW_PIECES {
         return mark_few(list, classes, cuts, count, words, stepping, byte);
+    }
+    if room <= SOME_PIECES {
+        return mark_some(list, classes, cuts, count, words, stepping, byte);
     }
     mark_many(list, classes, cuts, count, words, stepping, byte)
 }

@@ -30,9 +30,9 @@ ghost use Rattle.picker.specs.Loop.{Print-space};
 pub fn texts(
     reach: &[u64],
     codes: &[u16],
-    runs: &[u8],
-    stands: &[u8],
-    tops: &[u8],
+    runs: &[u8; MOST_PIECES],
+    stands: &[u8; MOST_PIECES],
+    tops: &[u8; MOST_PIECES],
     pieces: usize,
     input: &[u8],
     start: usize,

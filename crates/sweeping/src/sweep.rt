@@ -3,6 +3,7 @@ use closing::bits::has_bit;
 use closing::bits::with_bit;
 use closing::close::close;
 use closing::close::close_after;
+use tree::limits::MOST_PIECES;
 ghost use mathlib.Core.Path.{_≡_};
 ghost use mathlib.Core.Bool.{true};
 ghost use Prim.Native.Nat.{ℕ, _+_, _*_, _≤_, _<_};
@@ -106,9 +107,9 @@ fn idle(word: u64, child: usize, to: usize) -> bool
 pub fn sweep(
     reach: &[u64],
     codes: &[u16],
-    runs: &[u8],
-    stands: &[u8],
-    tops: &[u8],
+    runs: &[u8; MOST_PIECES],
+    stands: &[u8; MOST_PIECES],
+    tops: &[u8; MOST_PIECES],
     piece: usize,
     from: usize,
     to: usize,
@@ -167,9 +168,9 @@ pub fn sweep(
 pub fn close_twice(
     reach: &[u64],
     codes: &[u16],
-    runs: &[u8],
-    stands: &[u8],
-    tops: &[u8],
+    runs: &[u8; MOST_PIECES],
+    stands: &[u8; MOST_PIECES],
+    tops: &[u8; MOST_PIECES],
     count: usize,
     from: usize,
     to: usize,

@@ -19,10 +19,6 @@ use Rattle.tables.specs.Plan.{row-size, Leads-on, Jumps, Is-leaf, Planne
 abbrev pub mask-count : ℕ
 mask-count = 3
 
--- lists of so few pieces take small tables
-abbrev pub few-pieces : ℕ
-few-pieces = 32
-
 -- the masks of the piece k, of n states, have the bits of those states whose codes say so
 pub record Noted (reach codes : List ℕ) (k n : ℕ) : Type 0 where
   pub on : (i : ℕ) → Bit (getD reach (mask-count * k) 0) i ↔ ((i < n) × Leads-on (getD codes (row-size * k + i) 0))

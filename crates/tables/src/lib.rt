@@ -10,9 +10,3 @@ pub const TABLE_SIZE: usize = 8192;
 pub const MASK_COUNT: usize = 3;
 // How many masks there are for as many pieces as a good list may have.
 pub const MASK_TABLE_SIZE: usize = 384;
-// Lists of so few pieces take small tables, with room for so many codes and masks.
-pub const FEW_PIECES: usize = 32;
-
-pub const FEW_CODES: usize = 2048;
-
-pub const FEW_MASKS: usize = 96;

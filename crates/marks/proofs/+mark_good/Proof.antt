@@ -9,6 +9,7 @@ use Rattle.marks.proofs.mark_good.Reads as mark-good
 use Rattle.marks.proofs.mark_good.Kinds as mark-good-kinds
 use Rattle.marks.proofs.+mark_good.Lts-mark_good as mark-good-lts
 use Rattle.marks.proofs.mark_few.Reads as mark-few-reads
+use Rattle.marks.proofs.mark_some.Reads as mark-some-reads
 use Rattle.marks.proofs.mark_many.Reads as mark-many-reads
 use Rattle.marks.proofs.+mark_good.{statement}
 use Rattle.marks.proofs.+mark_good.Tie.{close}
@@ -28,6 +29,8 @@ claims t = (
   mark-good.Post,
   mark-few-reads.Asked,
   mark-few-reads.Learnt,
+  mark-some-reads.Asked,
+  mark-some-reads.Learnt,
   mark-many-reads.Asked,
   mark-many-reads.Learnt,
 )
@@ -65,19 +68,31 @@ few-same-length t c = search needs
 few-returns : (t : ℕ) → mark-good-lts.Need-returns-2 (claims t) (mark-good-at t) mark-good.Post
 few-returns t c = c .before .before .mark-few .ensures
 
+some-requires : (t : ℕ) → mark-good-lts.Need-mark-some-requires (claims t) (mark-good-at t) mark-good.Post
+some-requires t c κs =
+    let taken = c .before in
+    let s = taken .before .before .before .before .before .before .before in
+    (s .pre .1 .0, (s .pre .1 .1 .0, omega (arith, taken .if3 .taken, taken .before .before .if1 .left)))
+
+some-same-length : (t : ℕ) → mark-good-lts.Need-same-length-3 (claims t) (mark-good-at t) mark-good.Post
+some-same-length t c = search needs
+
+some-returns : (t : ℕ) → mark-good-lts.Need-returns-3 (claims t) (mark-good-at t) mark-good.Post
+some-returns t c = c .before .before .mark-some .ensures
+
 many-requires : (t : ℕ) → mark-good-lts.Need-mark-many-requires (claims t) (mark-good-at t) mark-good.Post
-many-requires t c κs = let s = c .before .before .before .before .before .before .before in
+many-requires t c κs = let s = c .before .before .before .before .before .before .before .before in
     (s .pre .1 .0, s .pre .1 .1 .0)
 
-many-same-length : (t : ℕ) → mark-good-lts.Need-same-length-3 (claims t) (mark-good-at t) mark-good.Post
+many-same-length : (t : ℕ) → mark-good-lts.Need-same-length-4 (claims t) (mark-good-at t) mark-good.Post
 many-same-length t c = search needs
 
-many-returns : (t : ℕ) → mark-good-lts.Need-returns-3 (claims t) (mark-good-at t) mark-good.Post
+many-returns : (t : ℕ) → mark-good-lts.Need-returns-4 (claims t) (mark-good-at t) mark-good.Post
 many-returns t c = c .before .before .mark-many .ensures
 
 pub +mark-good-spec : {M : Type 1} → statement M
 +mark-good-spec =
     close μ-mark-good λ t.
     mark-good-lts.spec (claims t) (mark-good-at t) mark-good.Post (more-room t) (more-requires t) (more-same-length t)
-    (more-returns t) (few-requires t) (few-same-length t) (few-returns t) (many-requires t) (many-same-length t)
-    (many-returns t)
+    (more-returns t) (few-requires t) (few-same-length t) (few-returns t) (some-requires t) (some-same-length t)
+    (some-returns t) (many-requires t) (many-same-length t) (many-returns t)

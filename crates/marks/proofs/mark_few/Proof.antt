@@ -10,15 +10,6 @@ slice-aggregate-mark-in c = search needs
 slice-aggregate-mark-in-2 : tie.Need-slice-aggregate-mark-in-2
 slice-aggregate-mark-in-2 c = search needs
 
-slice-aggregate-mark-in-3 : tie.Need-slice-aggregate-mark-in-3
-slice-aggregate-mark-in-3 c = search needs
-
-slice-aggregate-mark-in-4 : tie.Need-slice-aggregate-mark-in-4
-slice-aggregate-mark-in-4 c = search needs
-
-slice-aggregate-mark-in-5 : tie.Need-slice-aggregate-mark-in-5
-slice-aggregate-mark-in-5 c = search needs
-
 mark-in-requires : tie.Need-mark-in-requires
 mark-in-requires c κs =
     let made = c .before .before .before .before .before .before in
@@ -43,7 +34,7 @@ same-length c = search needs
 returns : tie.Need-returns
 returns c =
     let back = c .before .before in
-    back .before .before .before .before .before .mark-in .ensures
+    back .before .before .mark-in .ensures
 
 pub mark-few-spec : {M : Type 1} → statement M
 mark-few-spec =
@@ -51,9 +42,6 @@ mark-few-spec =
     (tie.spec
     slice-aggregate-mark-in
     slice-aggregate-mark-in-2
-    slice-aggregate-mark-in-3
-    slice-aggregate-mark-in-4
-    slice-aggregate-mark-in-5
     mark-in-requires
     same-length
     returns)

@@ -25,19 +25,16 @@ use Rattle.marks.proofs.inner.advance.Reads as advance-reads
 use Rattle.marks.proofs.inner.begin.Reads as begin-reads
 use Rattle.marks.proofs.inner.prepare.Reads as prepare-reads
 
--- where the tables were made, where they were about to be lent, and where the call began
-abbrev tables-made : tie.After-slice-known11 → tie.After-prepare
-tables-made c = c .before .before .before .before .before .before .before .before .before .before
-
-abbrev not-lent : tie.After-prepare → tie.After-slice-known6
-not-lent c = c .before .before .before .before .before .before
+-- where the tables were made, and where the call began
+abbrev tables-made : tie.After-slice-known5 → tie.After-prepare
+tables-made c = c .before .before .before .before
 
 abbrev entry : tie.After-prepare → tie.Start
-entry c = not-lent c .before .before .before .before .before .before .before .before .before
+entry c = c .before .before .before .before .before .before .before .before .before .before .before .before
 
 -- there are words enough: before the marks are looked at, before the step, and before the start
-abbrev enough-to-look : tie.After-agreeing-arg4 → tie.Else1
-enough-to-look c = c .before .before .before .before .before
+abbrev enough-to-look : tie.After-agreeing-arg7 → tie.Else1
+enough-to-look c = c .before .before .before .before .before .before .before .before
 
 abbrev looked-at : tie.After-advance-arg6 → tie.Else3
 looked-at c = c .before .before .before .before .before .before
@@ -79,7 +76,7 @@ returns-2 c =
     let known = entry made .pre .0 in
     let prepared = made .prepare .ensures .1 (known .some) (known .good) in
     let told = prepared-told prepared (entry made .args .words .now) (c .before .agreeing .ensures) in (
-      λ starting. not-both (c .before .before .before .before .before .before .if2 .taken) starting,
+      λ starting. not-both (c .before .before .before .before .before .before .before .before .before .if2 .taken) starting,
       λ stepping. step-not-marks (record {
         because = (
           known .some,
@@ -120,7 +117,7 @@ returns-3 c =
     let marks : Marks-of (known .some) (entry made .args .words .now) =
     record { clean = both .0; agreeing = both .1 } in
     let on = advanced .advance .ensures (known .some) prepared marks in (
-      λ starting. not-both (looked .before .before .before .before .before .before .if2 .taken) starting,
+      λ starting. not-both (looked .before .before .before .before .before .before .before .before .before .if2 .taken) starting,
       λ stepping. stepped (record {
         made = record {
           t = known .some;
@@ -202,42 +199,6 @@ same-length-10 c = search needs
 same-length-11 : tie.Need-same-length-11
 same-length-11 c = search needs
 
-same-length-12 : tie.Need-same-length-12
-same-length-12 c = search needs
-
-same-length-13 : tie.Need-same-length-13
-same-length-13 c = search needs
-
-same-length-14 : tie.Need-same-length-14
-same-length-14 c = search needs
-
-same-length-15 : tie.Need-same-length-15
-same-length-15 c = search needs
-
-same-length-16 : tie.Need-same-length-16
-same-length-16 c = search needs
-
-same-length-17 : tie.Need-same-length-17
-same-length-17 c = search needs
-
-same-length-18 : tie.Need-same-length-18
-same-length-18 c = search needs
-
-same-length-19 : tie.Need-same-length-19
-same-length-19 c = search needs
-
-same-length-20 : tie.Need-same-length-20
-same-length-20 c = search needs
-
-same-length-21 : tie.Need-same-length-21
-same-length-21 c = search needs
-
-same-length-22 : tie.Need-same-length-22
-same-length-22 c = search needs
-
-same-length-23 : tie.Need-same-length-23
-same-length-23 c = search needs
-
 pub mark-in-spec : {M : Type 1} → statement M
 mark-in-spec =
     tie.close
@@ -245,31 +206,19 @@ mark-in-spec =
     prepare-requires
     same-length
     same-length-2
+    returns
+    agreeing-requires
     same-length-3
     same-length-4
     same-length-5
-    returns
-    agreeing-requires
+    returns-2
+    advance-requires
     same-length-6
     same-length-7
     same-length-8
+    returns-3
+    begin-requires
     same-length-9
     same-length-10
     same-length-11
-    returns-2
-    advance-requires
-    same-length-12
-    same-length-13
-    same-length-14
-    same-length-15
-    same-length-16
-    same-length-17
-    returns-3
-    begin-requires
-    same-length-18
-    same-length-19
-    same-length-20
-    same-length-21
-    same-length-22
-    same-length-23
     returns-4)

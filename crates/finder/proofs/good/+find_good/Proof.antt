@@ -9,6 +9,7 @@ use Rattle.finder.proofs.good.find_good.Reads as find-good
 use Rattle.finder.proofs.good.find_good.Kinds as find-good-kinds
 use Rattle.finder.proofs.good.+find_good.Lts-find_good as find-good-lts
 use Rattle.finder.proofs.good.find_few.Reads as find-few-reads
+use Rattle.finder.proofs.good.find_some.Reads as find-some-reads
 use Rattle.finder.proofs.good.find_many.Reads as find-many-reads
 use Rattle.finder.proofs.good.+find_good.{statement}
 use Rattle.finder.proofs.good.+find_good.Tie.{close}
@@ -28,6 +29,8 @@ claims t = (
   find-good.Post,
   find-few-reads.Asked,
   find-few-reads.Learnt,
+  find-some-reads.Asked,
+  find-some-reads.Learnt,
   find-many-reads.Asked,
   find-many-reads.Learnt,
 )
@@ -59,16 +62,25 @@ few-requires t c κs =
 few-returns : (t : ℕ) → find-good-lts.Need-returns-2 (claims t) (find-good-at t) find-good.Post
 few-returns t c = c .find-few .ensures
 
+some-requires : (t : ℕ) → find-good-lts.Need-find-some-requires (claims t) (find-good-at t) find-good.Post
+some-requires t c κs =
+    let taken = c in
+    let s = taken .before .before .before .before .before .before .before in
+    (s .pre .1 .0, omega (arith, taken .if3 .taken, taken .before .before .if1 .left))
+
+some-returns : (t : ℕ) → find-good-lts.Need-returns-3 (claims t) (find-good-at t) find-good.Post
+some-returns t c = c .find-some .ensures
+
 many-requires : (t : ℕ) → find-good-lts.Need-find-many-requires (claims t) (find-good-at t) find-good.Post
-many-requires t c κs = let s = c .before .before .before .before .before .before in
+many-requires t c κs = let s = c .before .before .before .before .before .before .before in
     s .pre .1 .0
 
-many-returns : (t : ℕ) → find-good-lts.Need-returns-3 (claims t) (find-good-at t) find-good.Post
+many-returns : (t : ℕ) → find-good-lts.Need-returns-4 (claims t) (find-good-at t) find-good.Post
 many-returns t c = c .find-many .ensures
 
 pub +find-good-spec : {M : Type 1} → statement M
 +find-good-spec =
     close μ-find-good λ t.
     find-good-lts.spec (claims t) (find-good-at t) find-good.Post (more-room t) (more-requires t)
-    (more-returns t) (few-requires t) (few-returns t) (many-requires t)
-    (many-returns t)
+    (more-returns t) (few-requires t) (few-returns t) (some-requires t)
+    (some-returns t) (many-requires t) (many-returns t)

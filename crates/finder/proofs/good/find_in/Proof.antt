@@ -12,15 +12,12 @@ use Rattle.finder.proofs.part.first_part.Reads as first-part-reads
 use Rattle.finder.proofs.text.text_matches.Reads as text-matches-reads
 use Rattle.marks.proofs.inner.prepare.Reads as prepare-reads
 
--- where the tables were made, where they were about to be lent, and where the call began
-abbrev tables-made : tie.After-slice-known10 → tie.After-prepare
-tables-made c = c .before .before .before .before .before .before .before .before .before .before
-
-abbrev not-lent : tie.After-prepare → tie.After-shared-slice-known4
-not-lent c = c .before .before .before .before .before .before
+-- where the tables were made, and where the call began
+abbrev tables-made : tie.After-slice-known4 → tie.After-prepare
+tables-made c = c .before .before .before .before
 
 abbrev entry : tie.After-prepare → tie.Start
-entry c = not-lent c .before .before .before .before .before .before .before .before .before
+entry c = c .before .before .before .before .before .before .before .before .before .before .before .before
 
 -- before the parts are looked at, and before the whole text is
 abbrev searching : tie.After-first-part-arg5 → tie.Then1
@@ -89,33 +86,6 @@ same-length-5 c = search needs
 same-length-6 : tie.Need-same-length-6
 same-length-6 c = search needs
 
-same-length-7 : tie.Need-same-length-7
-same-length-7 c = search needs
-
-same-length-8 : tie.Need-same-length-8
-same-length-8 c = search needs
-
-same-length-9 : tie.Need-same-length-9
-same-length-9 c = search needs
-
-same-length-10 : tie.Need-same-length-10
-same-length-10 c = search needs
-
-same-length-11 : tie.Need-same-length-11
-same-length-11 c = search needs
-
-same-length-12 : tie.Need-same-length-12
-same-length-12 c = search needs
-
-same-length-13 : tie.Need-same-length-13
-same-length-13 c = search needs
-
-same-length-14 : tie.Need-same-length-14
-same-length-14 c = search needs
-
-same-length-15 : tie.Need-same-length-15
-same-length-15 c = search needs
-
 pub find-in-spec : {M : Type 1} → statement M
 find-in-spec =
     tie.close
@@ -124,20 +94,11 @@ find-in-spec =
     first-part-requires
     same-length
     same-length-2
-    same-length-3
-    same-length-4
-    same-length-5
     returns
     text-matches-requires
-    same-length-6
-    same-length-7
-    same-length-8
-    same-length-9
-    same-length-10
+    same-length-3
+    same-length-4
     returns-2
-    same-length-11
-    same-length-12
-    same-length-13
-    same-length-14
-    same-length-15
+    same-length-5
+    same-length-6
     returns-3)

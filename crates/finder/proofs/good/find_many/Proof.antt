@@ -10,15 +10,6 @@ slice-aggregate-find-in c = search needs
 slice-aggregate-find-in-2 : tie.Need-slice-aggregate-find-in-2
 slice-aggregate-find-in-2 c = search needs
 
-slice-aggregate-find-in-3 : tie.Need-slice-aggregate-find-in-3
-slice-aggregate-find-in-3 c = search needs
-
-slice-aggregate-find-in-4 : tie.Need-slice-aggregate-find-in-4
-slice-aggregate-find-in-4 c = search needs
-
-slice-aggregate-find-in-5 : tie.Need-slice-aggregate-find-in-5
-slice-aggregate-find-in-5 c = search needs
-
 find-in-requires : tie.Need-find-in-requires
 find-in-requires c κs =
     let s = c .before .before .before .before .before .before .before .before .before in
@@ -34,7 +25,7 @@ find-in-requires c κs =
     )
 
 returns : tie.Need-returns
-returns c = c .before .before .before .before .before .find-in .ensures
+returns c = c .before .before .find-in .ensures
 
 pub find-many-spec : {M : Type 1} → statement M
 find-many-spec =
@@ -42,8 +33,5 @@ find-many-spec =
     (tie.spec
     slice-aggregate-find-in
     slice-aggregate-find-in-2
-    slice-aggregate-find-in-3
-    slice-aggregate-find-in-4
-    slice-aggregate-find-in-5
     find-in-requires
     returns)

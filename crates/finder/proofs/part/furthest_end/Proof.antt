@@ -31,7 +31,7 @@ abbrev μ-loop : tie.MeasureT-loop
 
 -- where the call began, seen from the copy of the first marks
 abbrev entry : tie.After-copy Inv-loop μ-loop → tie.Start Inv-loop μ-loop
-entry c = c .before .before .before .before .before .before .before .before .before .before
+entry c = c .before .before .before .before .before .before .before
 
 -- the loop, seen from a byte that was taken
 abbrev byte-taken : tie.After-advance Inv-loop μ-loop → tie.At-loop Inv-loop μ-loop

@@ -47,7 +47,7 @@ abbrev begun : tie.At-loop Inv-loop μ-loop → tie.After-begin Inv-loop μ-loop
 begun c = c .before .before
 
 abbrev entry : tie.At-loop Inv-loop μ-loop → tie.Start Inv-loop μ-loop
-entry c = begun c .before .before .before .before .before .before .before .before .before
+entry c = begun c .before .before .before .before .before .before
 
 abbrev byte-taken : tie.After-advance Inv-loop μ-loop → tie.At-loop Inv-loop μ-loop
 byte-taken c = c .before .before .before .before

@@ -15,7 +15,7 @@ abbrev moved : tie.After-close-twice-arg → tie.After-move-all
 moved c = c .before .before .before .before .before
 
 abbrev entry : tie.After-move-all → tie.Start
-entry c = c .before .before .before .before .before .before .before .before .before
+entry c = c .before .before .before .before .before .before
 
 move-all-requires : tie.Need-move-all-requires
 move-all-requires c κs = search needs
@@ -27,20 +27,20 @@ returns : tie.Need-returns
 returns c = λ t prepared marks.
     let went = c .before .before .before .before in
     advanced-none prepared marks (went .move-all .ensures .0) (went .move-all .ensures .1) (entry went .pre .enough)
-    (c .if1 .taken)
+    (omega (arith, c .if1 .taken))
 
 close-twice-requires : tie.Need-close-twice-requires
 close-twice-requires c κs =
     moved-closable (entry (moved c) .pre) (moved c .move-all .ensures .0) (moved c .move-all .ensures .1)
 
-shared-slice-read-top : tie.Need-shared-slice-read-top
-shared-slice-read-top c =
-    let ready = entry (moved (c .before .before .before .before)) .pre .ready in
+element-copy-out-top : tie.Need-element-copy-out-top
+element-copy-out-top c =
+    let ready = entry (moved (c .before .before .before)) .pre .ready in
     let tree = ready .of-tree in
     omega (arith, all-words (tree .0), tree .1 .counted, ready .roomy .tops-room)
 
 cast-top : tie.Need-cast-top
-cast-top c = omega (arith, c .shared-slice-known7 .given 0)
+cast-top c = omega (arith, top-low (entry (moved (c .before .before .before .before)) .pre .ready .of-tree .1))
 
 slice-read-has-bit : tie.Need-slice-read-has-bit
 slice-read-has-bit c =
@@ -79,7 +79,7 @@ advance-spec =
     same-length
     returns
     close-twice-requires
-    shared-slice-read-top
+    element-copy-out-top
     cast-top
     slice-read-has-bit
     has-bit-requires

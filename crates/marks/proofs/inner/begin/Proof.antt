@@ -22,7 +22,7 @@ abbrev closed : tie.After-copy → tie.After-close-twice
 closed c = c .before .before .before .before
 
 abbrev entry : tie.After-close-twice → tie.Start
-entry c = c .before .before .before .before .before .before .before .before
+entry c = c .before .before .before .before .before
 
 array-write-marks : tie.Need-array-write-marks
 array-write-marks c = search needs
@@ -31,7 +31,7 @@ slice-aggregate-close-twice : tie.Need-slice-aggregate-close-twice
 slice-aggregate-close-twice c = search needs
 
 close-twice-requires : tie.Need-close-twice-requires
-close-twice-requires c κs = start-closable (c .before .before .before .before .before .before .before .pre .0)
+close-twice-requires c κs = start-closable (c .before .before .before .before .pre .0)
 
 slice-aggregate-copy : tie.Need-slice-aggregate-copy
 slice-aggregate-copy c = search needs
@@ -39,14 +39,14 @@ slice-aggregate-copy c = search needs
 copy-requires : tie.Need-copy-requires
 copy-requires c κs = search needs
 
-shared-slice-read-top : tie.Need-shared-slice-read-top
-shared-slice-read-top c =
-    let ready = entry (closed (c .before .before .before)) .pre .0 in
+element-copy-out-top : tie.Need-element-copy-out-top
+element-copy-out-top c =
+    let ready = entry (closed (c .before .before)) .pre .0 in
     let tree = ready .of-tree in
     omega (arith, all-words (tree .0), tree .1 .counted, ready .roomy .tops-room)
 
 cast-top : tie.Need-cast-top
-cast-top c = omega (arith, c .shared-slice-known6 .given 0)
+cast-top c = omega (arith, top-low (entry (closed (c .before .before .before)) .pre .0 .of-tree .1))
 
 slice-read-has-bit : tie.Need-slice-read-has-bit
 slice-read-has-bit c = search (needs, all-words (entry (closed (copied c)) .pre .0 .of-tree .0))
@@ -74,7 +74,7 @@ begin-spec =
     close-twice-requires
     slice-aggregate-copy
     copy-requires
-    shared-slice-read-top
+    element-copy-out-top
     cast-top
     slice-read-has-bit
     has-bit-requires

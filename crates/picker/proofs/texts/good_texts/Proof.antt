@@ -47,15 +47,6 @@ slice-aggregate-texts c = search needs
 slice-aggregate-texts-2 : tie.Need-slice-aggregate-texts-2
 slice-aggregate-texts-2 c = search needs
 
-slice-aggregate-texts-3 : tie.Need-slice-aggregate-texts-3
-slice-aggregate-texts-3 c = search needs
-
-slice-aggregate-texts-4 : tie.Need-slice-aggregate-texts-4
-slice-aggregate-texts-4 c = search needs
-
-slice-aggregate-texts-5 : tie.Need-slice-aggregate-texts-5
-slice-aggregate-texts-5 c = search needs
-
 texts-requires : tie.Need-texts-requires
 texts-requires c κs =
     let tables-back = c .before .before .before .before .before .before in
@@ -90,9 +81,6 @@ good-texts-spec =
     prepare-requires
     slice-aggregate-texts
     slice-aggregate-texts-2
-    slice-aggregate-texts-3
-    slice-aggregate-texts-4
-    slice-aggregate-texts-5
     texts-requires
     same-length
     returns)

@@ -40,7 +40,7 @@ abbrev μ-loop : tie.MeasureT-loop
     length input - place
 
 abbrev begun : tie.At-loop Inv-loop μ-loop → tie.Start Inv-loop μ-loop
-begun c = c .before .before .before .before .before .before .before .before
+begun c = c .before .before .before .before .before
 
 -- a turn, up to the call that prints the text's line, and the loop's head before it
 abbrev turn : tie.After-next-line Inv-loop μ-loop → tie.After-text-line-arg Inv-loop μ-loop
@@ -61,7 +61,7 @@ counted c =
 
 loop-holds : tie.Need-loop-holds Inv-loop μ-loop
 loop-holds c =
-    (c .before .before .before .before .before .before .before .pre .1, refl, λ t prepared. so-far-none (matches []) t _ _ _)
+    (c .before .before .before .before .pre .1, refl, λ t prepared. so-far-none (matches []) t _ _ _)
 
 line-end-requires : tie.Need-line-end-requires Inv-loop μ-loop
 line-end-requires c κs = search needs

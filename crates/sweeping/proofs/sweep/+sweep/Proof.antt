@@ -96,7 +96,7 @@ Own-closed t = sweep-lts.After-close-from (sweep-claims t) (sweep-at t) sweep.Po
 
 abbrev start-of : (t : ℕ) → Own-closed t
     → sweep-lts.Start (sweep-claims t) (sweep-at t) sweep.Post sweep-Inv-loop sweep-μ-loop
-start-of t c = c .before .before .before .before .before .before .before .before
+start-of t c = c .before .before .before .before .before
 
 -- there, with the own word closed, the words are a run to be swept
 begun : (t : ℕ) (c : Own-closed t) → let s = start-of t c in
@@ -234,17 +234,17 @@ sweep-returns t c =
           none e,
     )
 
-sweep-shared-slice-read-stand : (t : ℕ)
-    → sweep-lts.Need-shared-slice-read-stand (sweep-claims t) (sweep-at t) sweep.Post sweep-Inv-loop sweep-μ-loop
-sweep-shared-slice-read-stand t c = search (needs, room t (idle-loop t (c .before .before)))
+sweep-element-copy-out-stand : (t : ℕ)
+    → sweep-lts.Need-element-copy-out-stand (sweep-claims t) (sweep-at t) sweep.Post sweep-Inv-loop sweep-μ-loop
+sweep-element-copy-out-stand t c = search (needs, room t (idle-loop t (c .before)))
 
 sweep-cast-stand : (t : ℕ) → sweep-lts.Need-cast-stand (sweep-claims t) (sweep-at t) sweep.Post sweep-Inv-loop
     sweep-μ-loop
 sweep-cast-stand t c = search (needs, room t (idle-loop t (c .before .before)))
 
-sweep-shared-slice-read-next : (t : ℕ) → sweep-lts.Need-shared-slice-read-next (sweep-claims t) (sweep-at t) sweep.Post
+sweep-element-copy-out-next : (t : ℕ) → sweep-lts.Need-element-copy-out-next (sweep-claims t) (sweep-at t) sweep.Post
     sweep-Inv-loop sweep-μ-loop
-sweep-shared-slice-read-next t c = search (needs, room t (idle-loop t (c .before .before .before)))
+sweep-element-copy-out-next t c = search (needs, room t (idle-loop t (c .before .before)))
 
 sweep-cast-next : (t : ℕ) → sweep-lts.Need-cast-next (sweep-claims t) (sweep-at t) sweep.Post sweep-Inv-loop
     sweep-μ-loop
@@ -285,9 +285,9 @@ sweep-at-rest-requires t c κs = let r =
       omega (arith, r .child-few),
     )
 
-sweep-shared-slice-read-top : (t : ℕ) → sweep-lts.Need-shared-slice-read-top (sweep-claims t) (sweep-at t) sweep.Post
+sweep-element-copy-out-top : (t : ℕ) → sweep-lts.Need-element-copy-out-top (sweep-claims t) (sweep-at t) sweep.Post
     sweep-Inv-loop sweep-μ-loop
-sweep-shared-slice-read-top t c = search (needs, room t (at-rest-loop t (c .before .before)))
+sweep-element-copy-out-top t c = search (needs, room t (at-rest-loop t (c .before)))
 
 sweep-cast-top : (t : ℕ) → sweep-lts.Need-cast-top (sweep-claims t) (sweep-at t) sweep.Post sweep-Inv-loop sweep-μ-loop
 sweep-cast-top t c = search (needs, room t (at-rest-loop t (c .before .before)))
@@ -511,9 +511,9 @@ pub +sweep-spec : {M : Type 1} → statement M
     (sweep-idle-requires t)
     (sweep-same-length t)
     (sweep-returns t)
-    (sweep-shared-slice-read-stand t)
+    (sweep-element-copy-out-stand t)
     (sweep-cast-stand t)
-    (sweep-shared-slice-read-next t)
+    (sweep-element-copy-out-next t)
     (sweep-cast-next t)
     (sweep-add-next t)
     (sweep-slice-read-missed t)
@@ -523,7 +523,7 @@ pub +sweep-spec : {M : Type 1} → statement M
     (sweep-slice-read-at-rest-2 t)
     (sweep-add-at-rest t)
     (sweep-at-rest-requires t)
-    (sweep-shared-slice-read-top t)
+    (sweep-element-copy-out-top t)
     (sweep-cast-top t)
     (sweep-slice-read-pass t)
     (sweep-mul-pass t)

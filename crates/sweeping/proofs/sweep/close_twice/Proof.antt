@@ -11,7 +11,7 @@ use Rattle.sweeping.proofs.sweep.close_twice.Statement.{statement}
 use Rattle.sweeping.proofs.sweep.close_twice.Tie as tie
 
 abbrev start-of : tie.After-sweep → tie.Start
-start-of c = c .before .before .before .before .before .before .before .before
+start-of c = c .before .before .before .before .before
 
 -- after the first sweep the words can be closed still
 again : (c : tie.After-sweep) → let s = start-of c in
@@ -24,10 +24,10 @@ slice-relend-prefix-sweep : tie.Need-slice-relend-prefix-sweep
 slice-relend-prefix-sweep c = search needs
 
 slice-aggregate-sweep : tie.Need-slice-aggregate-sweep
-slice-aggregate-sweep c = sym (length-take-le _ _ (c .before .before .before .before .before .before .before .pre .enough))
+slice-aggregate-sweep c = sym (length-take-le _ _ (c .before .before .before .before .pre .enough))
 
 sweep-requires : tie.Need-sweep-requires
-sweep-requires c κs = run-ready _ _ _ _ _ _ _ _ _ (c .before .before .before .before .before .before .before .pre)
+sweep-requires c κs = run-ready _ _ _ _ _ _ _ _ _ (c .before .before .before .before .pre)
 
 same-length : tie.Need-same-length
 same-length c = search needs
