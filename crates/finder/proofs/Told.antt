@@ -21,9 +21,9 @@ use Rattle.finder.specs.declared.Searched.the-variants.{
   TooLong as Search-too-long,
 }
 use Rattle.finder.proofs.Searched.{the-type as searched-type}
-use Rattle.finder.specs.declared.part.Span.{Span}
-use Rattle.finder.specs.declared.part.Span.the-variants.{At, Nothing}
-use Rattle.finder.proofs.part.Span.{the-type as part-type}
+use Rattle.matching.specs.declared.part.Span.{Span}
+use Rattle.matching.specs.declared.part.Span.the-variants.{At, Nothing}
+use Rattle.matching.proofs.part.Span.{the-type as part-type}
 
 -- nothing was found
 pub told-nothing : (part : Span) → tagOf part-type part ≡ 1 → part ≡ Nothing

@@ -1,6 +1,5 @@
 -- What match and search answer: a text in the language, the earliest and then the longest part of a text that is.
 -- First the definitions that the contracts rest on, then what follows from them.
-pub mod Found
 pub mod Answer
 pub mod Promise
 pub mod Refusals
@@ -13,9 +12,3 @@ pub mod Searched
 pub mod Computed
 pub mod Held
 pub mod Leaving
--- how the code comes to its answer: open to this crate's own code and proofs, which a private module is not
-pub mod PartLaws
-pub mod Progress
-pub mod Taken
-pub mod Parts
-pub mod Answering

@@ -14,7 +14,7 @@ use Rattle.tree.specs.Limits.{longest-text}
 use Rattle.tree.specs.Records.{Good}
 use Rattle.lists.specs.Readback.{good-unique}
 use Rattle.marks.specs.Promise.{Not-good, Classed, Too-few-classes}
-use Rattle.finder.specs.Found.{Found, Nothing-found}
+use Rattle.matching.specs.Found.{Found, Nothing-found}
 use Rattle.finder.specs.Answer.{answering, finding}
 use Rattle.finder.specs.declared.numbers.Numbers.{Numbers}
 use Rattle.finder.specs.Promise.{

@@ -5,7 +5,7 @@ use mathlib.Core.List.{List}
 use native.Mathlib.Nat.{le-antisymm}
 use native.Mathlib.Decide.{decLt}
 use native.Mathlib.Omega.{arith}
-use Rattle.finder.specs.Found.{Found, Search-outcome, at, nothing, Answers}
+use Rattle.matching.specs.Found.{Found, Search-outcome, at, nothing, Answers}
 
 module _ (L : List ℕ → Type 0) (text : List ℕ) where
   -- of two that begin earliest the one does not begin later

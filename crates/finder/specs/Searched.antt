@@ -8,9 +8,9 @@ use mathlib.Core.Option.{Option, none, some}
 use mathlib.Core.List.{List}
 use native.Mathlib.Omega.{arith}
 use lib.ListN.{length}
-use Rattle.finder.specs.Found.{part, None-before, Search-outcome, at, nothing, Answers}
+use Rattle.matching.specs.Found.{part, None-before, Search-outcome, at, nothing, Answers}
 use Rattle.finder.specs.SearchUnique.{search-unique}
-use Rattle.finder.specs.Progress.{
+use Rattle.matching.specs.Progress.{
   better,
   Says-part,
   Best-so-far,

@@ -10,7 +10,7 @@ use Rattle.language.specs.Tree.{Tree}
 use Rattle.tree.specs.RefusalNumbers.{list-not-good, text-too-long, class-buffer-too-short}
 use Rattle.tree.specs.Leaf.{Leaf, Matches}
 use Rattle.lists.specs.Readback.{good-unique}
-use Rattle.finder.specs.Found.{Search-outcome, at, nothing}
+use Rattle.matching.specs.Found.{Search-outcome, at, nothing}
 use Rattle.finder.specs.SearchUnique.{search-unique}
 use Rattle.finder.specs.Answer.{refusing, answering, finding, match-numbers, search-numbers}
 use Rattle.finder.specs.Promise.{

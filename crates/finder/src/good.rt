@@ -1,8 +1,5 @@
 // Match and search over a list that is known to be good: its tables are made once, on the stack, for either, in one of
 // three sizes.
-use crate::part::Span;
-use crate::part::first_part;
-use crate::text::text_matches;
 use marks::inner::FEW_CODES;
 use marks::inner::FEW_MASKS;
 use marks::inner::FEW_PIECES;
@@ -10,6 +7,9 @@ use marks::inner::SOME_CODES;
 use marks::inner::SOME_MASKS;
 use marks::inner::SOME_PIECES;
 use marks::inner::prepare;
+use matching::part::Span;
+use matching::part::first_part;
+use matching::text::text_matches;
 use tables::MASK_TABLE_SIZE;
 use tables::TABLE_SIZE;
 use tree::limits::MOST_PIECES;
@@ -23,8 +23,8 @@ ghost use Rattle.tree.specs.Records.{Good};
 ghost use Rattle.tables.specs.Given.{Decided-good};
 ghost use Rattle.tables.specs.Tables.{Roomy};
 ghost use Rattle.marks.specs.Inner.{few-pieces, some-pieces};
-ghost use Rattle.finder.specs.Found.{Answers};
-ghost use Rattle.finder.specs.Parts.{answer-of, is-part};
+ghost use Rattle.matching.specs.Found.{Answers};
+ghost use Rattle.matching.specs.Parts.{answer-of, is-part};
 
 // The part in the language that starts earliest and then ends furthest; of the whole text alone where `whole` says so.
 // The tables are made in those that are lent.

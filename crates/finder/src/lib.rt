@@ -1,11 +1,8 @@
 // Whole-text match and search over good lists.
 mod good;
 pub mod numbers;
-mod part;
-mod text;
 
-use part::Span;
-pub use text::text_matches;
+use matching::part::Span;
 ghost use Prim.Native.Nat.{_/_, _≤_, _<_};
 ghost use mathlib.Core.Path.{_≡_};
 ghost use mathlib.Core.Bool.{true, false};

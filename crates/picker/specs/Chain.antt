@@ -29,7 +29,7 @@ use Rattle.reader.specs.SecondKept.{Second-kept, second-kept}
 use Rattle.reader.specs.declared.answer.ReadAnswer.the-variants.{Read}
 use Rattle.reader.specs.declared.answer.CountedAnswer.the-variants.{Counted}
 use Rattle.marks.specs.Promise.{Classed}
-use Rattle.finder.specs.Found.{Part-in-language, Found, Nothing-found}
+use Rattle.matching.specs.Found.{Part-in-language, Found, Nothing-found}
 use Rattle.finder.specs.Answer.{answering, finding}
 use Rattle.finder.specs.Promise.{Of-good, Match-answers, Search-answers}
 use Rattle.finder.specs.Refusals.{match-exactly, search-found-exactly, search-nothing-exactly}

@@ -23,7 +23,7 @@ use Rattle.reader.specs.Answer.{answer-for, answered, records-after}
 use Rattle.reader.specs.Kept.{kept}
 use Rattle.tables.specs.Tables.{Holding, Answered}
 use Rattle.marks.specs.Promise.{Classed, Starts, Steps}
-use Rattle.finder.specs.Found.{Search-outcome, at, nothing, Answers}
+use Rattle.matching.specs.Found.{Search-outcome, at, nothing, Answers}
 use Rattle.finder.specs.Promise.{
   Of-good,
   Match-answers,

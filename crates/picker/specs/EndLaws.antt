@@ -10,8 +10,8 @@ use lib.ListN.{length, getD, take, drop, drop-of-length-le, length-drop, take-ap
 use lib.Dec.{eqb}
 use borrow.Author.Tests.{eqb-true, ne-eqb}
 use lib.Seq.{take-nil, take-add, take-all, drop-at, drop-drop, drop-append-le, length-take-le}
-use Rattle.finder.specs.Found.{part}
-use Rattle.finder.specs.PartLaws.{part-length}
+use Rattle.matching.specs.Found.{part}
+use Rattle.matching.specs.PartLaws.{part-length}
 use Rattle.picker.specs.Lines.{begins-end, lines, expression, texts}
 use Rattle.picker.specs.Ends.{end-size, Ends, after}
 use Rattle.picker.specs.LineLaws.{lines-end, lines-ended, lines-last}

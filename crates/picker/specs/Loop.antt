@@ -8,7 +8,7 @@ use native.Mathlib.Omega.{arith}
 use lib.ListN.{length, take, drop}
 use Rattle.language.specs.Tree.{Tree}
 use Rattle.tree.specs.Leaf.{Leaf, Matches}
-use Rattle.finder.specs.Found.{part}
+use Rattle.matching.specs.Found.{part}
 use Rattle.finder.specs.Decide.{matches}
 use Rattle.finder.specs.DecideExactly.{matches-answer}
 use Rattle.picker.specs.Lines.{lines}

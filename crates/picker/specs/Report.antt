@@ -21,7 +21,7 @@ use Rattle.reader.specs.Drawn.{drawn}
 use Rattle.reader.specs.DrawnLaws.{drawn-size, drawn-refusal}
 use Rattle.reader.specs.Answer.{Numbers, refusing, reading, answer-for, answered as answers}
 use Rattle.reader.specs.Kept.{Kept}
-use Rattle.finder.specs.Found.{part}
+use Rattle.matching.specs.Found.{part}
 use Rattle.finder.specs.Decide.{matches}
 use Rattle.picker.specs.Lines.{lines, expression, texts}
 use Rattle.picker.specs.LineLaws.{texts-count}

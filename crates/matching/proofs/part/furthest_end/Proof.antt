@@ -1,4 +1,4 @@
--- `finder::part::furthest_end` meets its contract: at each end the words hold the marks after the part, and `best` is
+-- `matching::part::furthest_end` meets its contract: at each end the words hold the marks after the part, and `best` is
 -- the latest end so far. The measure is what is left of the text.
 use Prim.Native.Nat.{ℕ, _≤_, _-_}
 use mathlib.Core.Path.{_≡_}
@@ -11,15 +11,15 @@ use Rattle.tree.specs.Leaf.{Leaf}
 use Rattle.tables.specs.Tables.{Prepared, Ready}
 use Rattle.marks.specs.Texts.{nothing-left}
 use Rattle.marks.specs.Inner.{running, holding-marks, answered-copy, answered-next}
-use Rattle.finder.specs.Parts.{end-of}
-use Rattle.finder.specs.Answering.{Looking, standing-first, standing-next, settled-early, settled-at-end}
-use Rattle.finder.proofs.part.furthest_end.Statement.{statement}
-use Rattle.finder.proofs.part.furthest_end.Tie as tie
-use Rattle.finder.proofs.part.furthest_end.Reads as reads
-use Rattle.finder.proofs.part.furthest_end.Lts as lts
+use Rattle.matching.specs.Parts.{end-of}
+use Rattle.matching.specs.Answering.{Looking, standing-first, standing-next, settled-early, settled-at-end}
+use Rattle.matching.proofs.part.furthest_end.Statement.{statement}
+use Rattle.matching.proofs.part.furthest_end.Tie as tie
+use Rattle.matching.proofs.part.furthest_end.Reads as reads
+use Rattle.matching.proofs.part.furthest_end.Lts as lts
 use Rattle.marks.proofs.inner.advance.Reads as advance-reads
 use Rattle.marks.proofs.inner.copy.Reads as copy-reads
-use Rattle.finder.proofs.part.with_end.Reads as with-end-reads
+use Rattle.matching.proofs.part.with_end.Reads as with-end-reads
 
 abbrev Inv-loop : tie.InvT-loop
 Inv-loop reach codes runs stands tops count classes first empty text start words₀ best₀ end₀ words best end = (start ≤ end)

@@ -1,4 +1,4 @@
--- `finder::part::first_part` meets its contract: no part starts before the place at hand. The measure is what is left
+-- `matching::part::first_part` meets its contract: no part starts before the place at hand. The measure is what is left
 -- of the text.
 use Prim.Native.Nat.{ℕ, _≤_, _-_, _+_}
 use mathlib.Core.Path.{_≡_, refl}
@@ -13,17 +13,17 @@ use mathlib.Core.List.{[]}
 use Rattle.tree.specs.Limits.{most-pieces}
 use Rattle.tables.specs.Tables.{Prepared, Ready, Answered}
 use Rattle.marks.specs.Inner.{answered-first}
-use Rattle.finder.specs.Found.{None-before}
-use Rattle.finder.specs.Parts.{end-of}
-use Rattle.finder.specs.declared.part.End.{End}
-use Rattle.finder.specs.declared.part.End.the-variants.{At, Nowhere}
-use Rattle.finder.proofs.part.End.{the-type}
-use Rattle.finder.specs.Progress.{settled-found, settled-next}
-use Rattle.finder.proofs.part.first_part.Statement.{statement}
-use Rattle.finder.proofs.part.first_part.Tie as tie
-use Rattle.finder.proofs.part.first_part.Reads as reads
-use Rattle.finder.proofs.part.first_part.Lts as lts
-use Rattle.finder.proofs.part.furthest_end.Reads as furthest-end-reads
+use Rattle.matching.specs.Found.{None-before}
+use Rattle.matching.specs.Parts.{end-of}
+use Rattle.matching.specs.declared.part.End.{End}
+use Rattle.matching.specs.declared.part.End.the-variants.{At, Nowhere}
+use Rattle.matching.proofs.part.End.{the-type}
+use Rattle.matching.specs.Progress.{settled-found, settled-next}
+use Rattle.matching.proofs.part.first_part.Statement.{statement}
+use Rattle.matching.proofs.part.first_part.Tie as tie
+use Rattle.matching.proofs.part.first_part.Reads as reads
+use Rattle.matching.proofs.part.first_part.Lts as lts
+use Rattle.matching.proofs.part.furthest_end.Reads as furthest-end-reads
 
 -- where the answer was not `At` there is no end
 nowhere : (end : End) → tagOf the-type end ≡ 1 → end-of end ≡ none

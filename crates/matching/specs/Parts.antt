@@ -2,11 +2,11 @@
 use Prim.Native.Nat.{ℕ}
 use mathlib.Core.Bool.{Bool, true, false}
 use mathlib.Core.Option.{Option, none, some}
-use Rattle.finder.specs.Found.{Search-outcome, at, nothing}
-use Rattle.finder.specs.declared.part.Span.{Span}
-use Rattle.finder.specs.declared.part.Span.the-variants.{At, Nothing}
-use Rattle.finder.specs.declared.part.End.{End}
-use Rattle.finder.specs.declared.part.End.the-variants.{At as End-at, Nowhere}
+use Rattle.matching.specs.Found.{Search-outcome, at, nothing}
+use Rattle.matching.specs.declared.part.Span.{Span}
+use Rattle.matching.specs.declared.part.Span.the-variants.{At, Nothing}
+use Rattle.matching.specs.declared.part.End.{End}
+use Rattle.matching.specs.declared.part.End.the-variants.{At as End-at, Nowhere}
 
 -- the furthest end, if any
 abbrev pub end-of : End → Option ℕ

@@ -12,9 +12,9 @@ ghost use Rattle.tree.specs.Leaf.{Leaf, Matches};
 ghost use mathlib.Core.List.{[]};
 ghost use Rattle.tree.specs.Limits.{most-pieces};
 ghost use Rattle.tables.specs.Tables.{Prepared, Ready, Answered};
-ghost use Rattle.finder.specs.Progress.{Furthest, better};
-ghost use Rattle.finder.specs.Found.{Answers};
-ghost use Rattle.finder.specs.Parts.{end-of, answer-of};
+ghost use Rattle.matching.specs.Progress.{Furthest, better};
+ghost use Rattle.matching.specs.Found.{Answers};
+ghost use Rattle.matching.specs.Parts.{end-of, answer-of};
 
 // A part of a text, or nothing.
 pub enum Span {

@@ -6,7 +6,7 @@ use native.Mathlib.Numerals.{add-one}
 use native.Mathlib.Omega.{arith}
 use lib.ListN.{length, getD, take, drop, take-append-drop}
 use lib.Seq.{take-suc, take-take, drop-append-le, length-take-le, slice-empty, length-slice}
-use Rattle.finder.specs.Found.{part}
+use Rattle.matching.specs.Found.{part}
 
 -- a part from a place to the same place is empty
 pub part-empty : (s : ℕ) (text : List ℕ) → part s s text ≡ []

@@ -1,4 +1,4 @@
--- `finder::text::text_matches` meets its contract: before byte i the words hold the marks after the first i bytes, and
+-- `matching::text::text_matches` meets its contract: before byte i the words hold the marks after the first i bytes, and
 -- `yes` says whether these are in the language. The measure is what is left of the text.
 use Prim.Native.Nat.{ℕ, _≤_, _-_, _+_}
 use mathlib.Core.Path.{_≡_, sym, subst}
@@ -9,17 +9,17 @@ use native.Mathlib.Omega.{arith}
 use borrow.Author.Needs.{needs}
 use lib.ListN.{length, take, drop, take-append-drop}
 use lib.Seq.{take-all}
-use Rattle.finder.specs.Taken.{take-next}
+use Rattle.matching.specs.Taken.{take-next}
 use Rattle.marks.specs.Texts.{nothing-left}
 use Rattle.language.specs.Tree.{Tree}
 use Rattle.tree.specs.Limits.{most-pieces}
 use Rattle.tree.specs.Leaf.{Leaf, Matches}
 use Rattle.tables.specs.Tables.{Prepared, Ready, Answered}
 use Rattle.marks.specs.Inner.{running, holding-marks, answered-first, answered-next}
-use Rattle.finder.proofs.text.text_matches.Statement.{statement}
-use Rattle.finder.proofs.text.text_matches.Tie as tie
-use Rattle.finder.proofs.text.text_matches.Reads as reads
-use Rattle.finder.proofs.text.text_matches.Lts as lts
+use Rattle.matching.proofs.text.text_matches.Statement.{statement}
+use Rattle.matching.proofs.text.text_matches.Tie as tie
+use Rattle.matching.proofs.text.text_matches.Reads as reads
+use Rattle.matching.proofs.text.text_matches.Lts as lts
 use Rattle.marks.proofs.inner.advance.Reads as advance-reads
 use Rattle.marks.proofs.inner.begin.Reads as begin-reads
 

@@ -8,7 +8,7 @@ use mathlib.Core.List.{List}
 use native.Mathlib.Decide.{decLt}
 use native.Mathlib.Omega.{arith}
 use lib.ListN.{length}
-use Rattle.finder.specs.Found.{Part-in-language, None-before, Found, Nothing-found}
+use Rattle.matching.specs.Found.{Part-in-language, None-before, Found, Nothing-found}
 
 -- the latest end so far, once a test has looked at the end e
 abbrev pub better : Bool → ℕ → Option ℕ → Option ℕ

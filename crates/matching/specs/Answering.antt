@@ -10,9 +10,9 @@ use lib.ListN.{length, getD}
 use Rattle.language.specs.Tree.{Tree}
 use Rattle.tree.specs.Leaf.{Leaf, Matches}
 use Rattle.tables.specs.Tables.{Holding, Answered}
-use Rattle.finder.specs.Found.{part, Part-in-language}
-use Rattle.finder.specs.PartLaws.{part-empty, part-next, part-join}
-use Rattle.finder.specs.Progress.{
+use Rattle.matching.specs.Found.{part, Part-in-language}
+use Rattle.matching.specs.PartLaws.{part-empty, part-next, part-join}
+use Rattle.matching.specs.Progress.{
   better,
   Says-part,
   Best-so-far,

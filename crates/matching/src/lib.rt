@@ -1,0 +1,3 @@
+// Whole-text match and search over the tables of a list.
+pub mod part;
+pub mod text;
