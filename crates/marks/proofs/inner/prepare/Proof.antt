@@ -6,24 +6,37 @@ use borrow.Author.Needs.{needs}
 use Rattle.marks.proofs.inner.prepare.Statement.{statement}
 use Rattle.marks.proofs.inner.prepare.Tie as tie
 
--- where the call began
+-- where all slices were known, where all were lent for the plan, and where the call began
+abbrev known : tie.After-plan-arg4 → tie.After-slice-known5
+known c = c .before .before .before .before
+
+abbrev entry-of-known : tie.After-slice-known5 → tie.Start
+entry-of-known c = c .before .before .before .before .before .before .before
+
 abbrev entry : tie.After-plan → tie.Start
-entry c = c .before .before .before .before .before .before .before .before .before .before .before .before
+entry c = entry-of-known (known (c .before))
+
+-- where the plan was made, from where all was lent for the masks
+abbrev plan-back : tie.After-note-all-arg3 → tie.After-slice-known9
+plan-back c = c .before .before .before
+
+abbrev plan-made : tie.After-slice-known9 → tie.After-plan
+plan-made c = c .before .before .before .before .before .before .before .before
 
 plan-requires : tie.Need-plan-requires
-plan-requires c κs = let start = c .before .before .before .before .before .before .before .before .before .before .before in (start .pre .0, pieces-room (start .pre .1))
+plan-requires c κs = let start = entry-of-known (known c) in (start .pre .0, pieces-room (start .pre .1))
 
 note-all-requires : tie.Need-note-all-requires
 note-all-requires c κs =
-    let planned = c .before .before .before .before .before .before .before .before .before .before .before in
-    let known = entry planned .pre .0 in
+    let planned = plan-made (plan-back c) in
+    let list = entry planned .pre .0 in
     let roomy = entry planned .pre .1 in
     let kept = planned .plan .kept .1 .1 .1 in
-    let made = planned .plan .ensures (known .some) (known .good) in (
+    let made = planned .plan .ensures (list .some) (list .good) in (
       roomy .reach-room,
       omega (arith, roomy .codes-room, kept .0),
       omega (arith, roomy .tops-room, kept .1 .1 .1 .0),
-      tops-low (known .some) made,
+      tops-low (list .some) made,
     )
 
 same-length : tie.Need-same-length
@@ -44,7 +57,7 @@ same-length-5 c = search needs
 returns : tie.Need-returns
 returns c =
     let noted = c .before .before in
-    let planned = noted .before .before .before .before .before .before .before .before .before .before .before .before in
+    let planned = plan-made (plan-back (noted .before)) in
     let roomy = entry planned .pre .1 in
     let kept = planned .plan .kept .1 .1 .1 in (
       record {
