@@ -4,15 +4,16 @@ use crate::bits::lowest;
 use crate::bits::with_bit;
 use tables::MASK_COUNT;
 use tables::ROW_SIZE;
+ghost use mathlib.Core.Path.{_≡_};
 ghost use Prim.Native.Nat.{ℕ, _+_, _*_, _^_, _≤_, _<_};
 ghost use lib.ListN.{length};
 ghost use Rattle.language.specs.Nested.{Nested};
-ghost use Rattle.tree.specs.Limits.{most-states};
 ghost use Rattle.tree.specs.Limits.{most-states};
 ghost use Rattle.tree.specs.Leaf.{Leaf};
 ghost use Rattle.tables.specs.Words.{width};
 ghost use Rattle.tables.specs.Plan.{row-size, Closes};
 ghost use Rattle.tables.specs.Tables.{mask-count};
+ghost use Rattle.closing.specs.BitsOfWords.Bits.{Tells};
 ghost use Rattle.closing.specs.Passes.RunOn.{Ran-on};
 ghost use Rattle.closing.specs.Passes.Jumping.{Jumped};
 ghost use Rattle.closing.specs.Passes.Laid.{Lays};
@@ -69,12 +70,23 @@ pub fn close_after(reach: &[u64], codes: &[u16], piece: usize, word: u64, done: 
     closed
 }
 
-// The word of a piece, closed.
-pub fn close(reach: &[u64], codes: &[u16], piece: usize, word: u64) -> u64
+// A closed word of a piece, and whether it is zero.
+pub struct Closed {
+    pub word: u64,
+    pub zero: bool,
+}
+
+// The word of a piece, closed, and whether nothing is marked in it.
+pub fn close(reach: &[u64], codes: &[u16], piece: usize, word: u64) -> Closed
     requires { ⌜ (mask-count * piece + mask-count ≤ length (now reach))
         × (row-size * piece + row-size ≤ length (now codes)) ⌝ }
     ensures { λ r. ⌜ ((x : Nested Leaf) → width x ≤ most-states → Lays (now (reach .entry)) (now (codes .entry)) x piece
-        → word < 2 ^ width x → Closes x word r) ⌝ }
+        → word < 2 ^ width x → Closes x word (r .word)) ⌝ }
+    ensures { λ r. ⌜ Tells (r .word ≡ 0) (r .zero) ⌝ }
 {
-    close_after(reach, codes, piece, word, 0)
+    let closed = close_after(reach, codes, piece, word, 0);
+    Closed {
+        word: closed,
+        zero: closed == 0,
+    }
 }

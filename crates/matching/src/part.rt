@@ -88,8 +88,7 @@ fn furthest_end(
 }
 
 // The part that starts earliest and then ends furthest, among the parts in the language of the tree that the tables are
-// of. The marks to start
-// with are made once for all places.
+// of. The marks to start with are made once for all places.
 pub fn first_part(
     reach: &[u64],
     codes: &[u16],

@@ -1,11 +1,13 @@
 -- Where marks are left after a move: gathered word by word, as each piece is moved and closed.
 use Prim.Native.Nat.{ℕ, _+_, _-_, _≤_, _<_}
 use mathlib.Core.Path.{_≡_, refl, sym, ap, _∙_, subst}
+use mathlib.Core.Bool.{Bool, true, false}
 use mathlib.Core.List.{List}
 use native.Mathlib.Omega.{arith}
 use native.Mathlib.Decide.{ℕ-discrete, decLt}
 use lib.ListN.{length, getD, set}
 use lib.Seq.{getD-set-same, getD-set-other}
+use Rattle.closing.specs.BitsOfWords.Bits.{Tells}
 
 -- of the first n words those before `from` are 0 and those from `to` on; where there is a mark, the word before `to`
 -- has one
@@ -16,11 +18,11 @@ pub record Spans (words : List ℕ) (n from to : ℕ) : Type 0 where
   pub within : to ≤ n
   pub ordered : from ≤ to
 
--- what the word of one piece more makes of `from` and `to`
-pub data Widened (from to piece word : ℕ) : (from′ to′ : ℕ) → Type 0 where
-  no-mark : word ≡ 0 → Widened from to piece word from to
-  first-mark : (word ≡ 0 → ⊥) → to ≡ 0 → Widened from to piece word piece (piece + 1)
-  later-mark : (word ≡ 0 → ⊥) → (to ≡ 0 → ⊥) → Widened from to piece word from (piece + 1)
+-- what one piece more makes of `from` and `to`, by whether its word is zero
+pub data Widened (from to piece : ℕ) (zero : Bool) : (from′ to′ : ℕ) → Type 0 where
+  no-mark : zero ≡ true → Widened from to piece zero from to
+  first-mark : zero ≡ false → to ≡ 0 → Widened from to piece zero piece (piece + 1)
+  later-mark : zero ≡ false → (to ≡ 0 → ⊥) → Widened from to piece zero from (piece + 1)
 
 -- at first there are none
 pub spans-none : (words : List ℕ) → Spans words 0 0 0
@@ -41,28 +43,29 @@ module _ {words : List ℕ} {n from to : ℕ} (word : ℕ) (spans : Spans words 
   put = getD-set-same words n word 0 inside
 
   -- so one word more is gathered
-  pub spans-more : {from′ to′ : ℕ} → Widened from to n word from′ to′ → Spans (set words n word) (n + 1) from′ to′
-  spans-more (no-mark none) = record {
+  pub spans-more : {zero : Bool} {from′ to′ : ℕ} → Tells (word ≡ 0) zero → Widened from to n zero from′ to′
+      → Spans (set words n word) (n + 1) from′ to′
+  spans-more told (no-mark none) = record {
     none-before = λ o l. kept o (omega (arith, spans .ordered, spans .within)) ∙ spans .none-before o l;
     none-after = λ o l h. elim (ℕ-discrete o n) [
-      | yes e ↦ ap (λ (j : ℕ). getD (set words n word) j 0) e ∙ put ∙ none
+      | yes e ↦ ap (λ (j : ℕ). getD (set words n word) j 0) e ∙ put ∙ told .holds none
       | no other ↦ kept o (omega arith) ∙ spans .none-after o l (omega arith)
     ];
     some-last = λ some e. spans .some-last some (sym (kept (to - 1) (omega (arith, spans .within))) ∙ e);
     within = omega (arith, spans .within);
     ordered = spans .ordered;
   }
-  spans-more (first-mark mark none) = record {
+  spans-more told (first-mark mark none) = record {
     none-before = λ o l. kept o l ∙ spans .none-after o (omega arith) l;
     none-after = λ o l h. absurd (omega arith);
-    some-last = λ some e. mark (sym put ∙ ap (λ (j : ℕ). getD (set words n word) j 0) (omega arith) ∙ e);
+    some-last = λ some e. told .fails mark (sym put ∙ ap (λ (j : ℕ). getD (set words n word) j 0) (omega arith) ∙ e);
     within = omega arith;
     ordered = omega arith;
   }
-  spans-more (later-mark mark some-before) = record {
+  spans-more told (later-mark mark some-before) = record {
     none-before = λ o l. kept o (omega (arith, spans .ordered, spans .within)) ∙ spans .none-before o l;
     none-after = λ o l h. absurd (omega arith);
-    some-last = λ some e. mark (sym put ∙ ap (λ (j : ℕ). getD (set words n word) j 0) (omega arith) ∙ e);
+    some-last = λ some e. told .fails mark (sym put ∙ ap (λ (j : ℕ). getD (set words n word) j 0) (omega arith) ∙ e);
     within = omega arith;
     ordered = omega (arith, spans .ordered, spans .within);
   }

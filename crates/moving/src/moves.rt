@@ -3,6 +3,7 @@
 use crate::classes::takes_byte;
 use closing::bits::lowest;
 use closing::bits::with_bit;
+use closing::close::Closed;
 use closing::close::close;
 use tables::MASK_COUNT;
 use tables::ROW_SIZE;
@@ -15,6 +16,7 @@ ghost use Rattle.tree.specs.Leaf.{Leaf};
 ghost use Rattle.tables.specs.Words.{width};
 ghost use Rattle.tables.specs.Plan.{row-size, Moves};
 ghost use Rattle.tables.specs.Tables.{mask-count};
+ghost use Rattle.closing.specs.BitsOfWords.Bits.{Tells};
 ghost use Rattle.closing.specs.Passes.Laid.{Lays};
 ghost use Rattle.moving.specs.WordsMovedClosed.{Word-after, Moved-closed};
 ghost use Rattle.moving.specs.Spans.{Widened, Spans};
@@ -41,8 +43,8 @@ pub fn moved(reach: &[u64], codes: &[u16], classes: &[u8], piece: usize, word: u
     picked << 1
 }
 
-// The word of a piece after the byte: moved, and closed in the piece. A word of no marks stays one, and its tables are
-// not looked at.
+// The word of a piece after the byte: moved, and closed in the piece, which also says whether it is zero. A word of no
+// marks stays one, and its tables are not looked at.
 fn word_after(
     reach: &[u64],
     codes: &[u16],
@@ -50,13 +52,18 @@ fn word_after(
     piece: usize,
     word: u64,
     byte: u8,
-) -> u64
+) -> Closed
     requires { ⌜ (mask-count * piece + mask-count ≤ length (now reach))
         × (row-size * piece + row-size ≤ length (now codes)) ⌝ }
-    ensures { λ r. ⌜ Word-after (now (reach .entry)) (now (classes .entry)) (now (codes .entry)) piece word byte r ⌝ }
+    ensures { λ r. ⌜ Word-after (now (reach .entry)) (now (classes .entry)) (now (codes .entry)) piece word byte
+        (r .word) ⌝ }
+    ensures { λ r. ⌜ Tells (r .word ≡ 0) (r .zero) ⌝ }
 {
     if word == 0 {
-        return 0;
+        return Closed {
+            word: 0,
+            zero: true,
+        };
     }
     let moved = moved(reach, codes, classes, piece, word, byte);
     close(reach, codes, piece, moved)
@@ -68,12 +75,12 @@ pub struct Span {
     pub to: usize,
 }
 
-// The span with the closed word of one piece more.
-fn widened(span: Span, piece: usize, word: u64) -> Span
+// The span with one piece more, of whose closed word it is known whether it is zero.
+fn widened(span: Span, piece: usize, zero: bool) -> Span
     requires { ⌜ piece < most-pieces ⌝ }
-    ensures { λ r. ⌜ Widened (span .from) (span .to) piece word (r .from) (r .to) ⌝ }
+    ensures { λ r. ⌜ Widened (span .from) (span .to) piece zero (r .from) (r .to) ⌝ }
 {
-    if word == 0 {
+    if zero {
         return span;
     }
     if span.to == 0 {
@@ -108,9 +115,9 @@ pub fn move_all(
     let mut span = Span { from: 0, to: 0 };
     let mut piece = 0;
     while piece < pieces {
-        let word = word_after(reach, codes, classes, piece, words[piece], byte);
-        words[piece] = word;
-        span = widened(span, piece, word);
+        let after = word_after(reach, codes, classes, piece, words[piece], byte);
+        words[piece] = after.word;
+        span = widened(span, piece, after.zero);
         piece += 1;
     }
     span

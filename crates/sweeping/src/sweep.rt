@@ -35,7 +35,7 @@ fn close_from(reach: &[u64], codes: &[u16], piece: usize, word: u64, state: usiz
     ensures { λ r. ⌜ Closes-from (now (reach .entry)) (now (codes .entry)) piece word state r ⌝ }
 {
     if has_bit(word, state) {
-        word | close(reach, codes, piece, with_bit(0, state))
+        word | close(reach, codes, piece, with_bit(0, state)).word
     } else {
         word
     }
@@ -61,8 +61,7 @@ fn apart(one: u64, other: u64) -> bool
 }
 
 // Whether a child piece whose run goes up to `end` has nothing to do: its stand-in's start is not marked, and no mark
-// is in its run, which is
-// a single word without one, or outside of `from` up to `to`.
+// is in its run, which is a single word without one, or outside of `from` up to `to`.
 fn at_rest(
     word: u64,
     stand: usize,
@@ -98,12 +97,10 @@ fn idle(word: u64, child: usize, to: usize) -> bool
 }
 
 // Sweeps the run of the piece: closes the piece itself, then goes through its child pieces from left to right, whose
-// runs stand one after the
-// other behind its own word. A marked start is passed down, the child is swept, a marked accepting state is passed up,
-// and the piece is closed again.
-// Marks of the child pieces are among the words `from` to `to` only, counted from piece 0: a run with none of them is
-// passed over if its start is
-// not marked. Answers whether all starts were marked in time, so that another sweep would change nothing.
+// runs stand one after the other behind its own word. A marked start is passed down, the child is swept, a marked
+// accepting state is passed up, and the piece is closed again. Marks of the child pieces are among the words `from` to
+// `to` only, counted from piece 0: a run with none of them is passed over if its start is not marked. Answers whether
+// all starts were marked in time, so that another sweep would change nothing.
 pub fn sweep(
     reach: &[u64],
     codes: &[u16],

@@ -47,8 +47,9 @@ loop-again c =
     let word = c .before in
     let at = word .before .before .before .loop .inv in (
       omega arith,
-      moving-more (omega arith) (at .1) (word .word-after .ensures),
-      spans-more _ (at .2) (omega (arith, at .1 .moves .same-length, at .1 .closes .same-length)) (c .widened .ensures),
+      moving-more (omega arith) (at .1) (word .word-after .ensures .0),
+      spans-more _ (at .2) (omega (arith, at .1 .moves .same-length, at .1 .closes .same-length))
+          (word .word-after .ensures .1) (c .widened .ensures),
     )
 
 same-length : tie.Need-same-length Inv-loop μ-loop

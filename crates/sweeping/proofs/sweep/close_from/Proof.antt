@@ -15,9 +15,10 @@ close-requires c κs = search needs
 
 returns : tie.Need-returns
 returns c =
-    let marked = c .before .before in
+    let closed = c .before in
+    let marked = closed .before .before in
     closes-marked _ _ _ _ _ _ _ (marked .before .has-bit .ensures .holds (marked .if1 .taken))
-    (c .before .with-bit .ensures) (c .close .ensures)
+    (closed .before .with-bit .ensures) (closed .close .ensures .0)
 
 returns-2 : tie.Need-returns-2
 returns-2 c = closes-unmarked _ _ _ _ _ (c .before .has-bit .ensures .fails (c .if1 .left))
