@@ -3,6 +3,17 @@
 pub mod Tree
 pub mod Meaning
 pub mod Language
+pub mod SignedTree
+pub mod StandsFor
+pub mod StandsForLaws
+mod JoinedTexts
+mod CountedTexts
+pub mod SameTexts
+pub mod PlainSigns
+pub mod WithLeaves
+pub mod WithLeavesLaws
+pub mod SignedSize
+pub mod SignedSizeLaws
 pub mod Automaton
 pub mod Nested
 pub mod Simulation
