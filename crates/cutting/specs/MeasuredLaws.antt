@@ -1,5 +1,5 @@
 -- The slots of the records are measured one after the other, each from its children's.
-use Prim.Native.Nat.{ℕ, _+_, _-_, _%_, _≤_, _<_}
+use Prim.Native.Nat.{ℕ, _+_, _-_, _≤_, _<_}
 use mathlib.Core.Path.{_≡_, refl, ap, sym, _∙_}
 use mathlib.Core.Bool.{Bool, true, false, cond, _||_}
 use mathlib.Core.List.{List}
@@ -7,14 +7,14 @@ use native.Mathlib.Omega.{arith}
 use native.Mathlib.Nat.{le-refl, le-trans}
 use native.Mathlib.Decide.{decLe}
 use native.Mathlib.Numerals.{add-one}
-use lib.Dec.{eqb}
+use lib.Dec.{eqb, ltb}
 use lib.ListN.{length, getD, set, length-set}
 use lib.Seq.{getD-set-same, getD-set-other}
 use Rattle.language.specs.Tree.{Tree, leaf, catenation, union, star, nodes}
 use Rattle.tree.specs.Leaf.{Leaf}
 use Rattle.tree.specs.Cut.{open-size}
 use Rattle.tree.specs.Limits.{most-nodes, most-labels}
-use Rattle.tree.specs.Layout.{label-of, character-kind, catenation-kind, union-kind}
+use Rattle.tree.specs.Layout.{label-of, catenation-kind, union-kind, star-kind}
 use Rattle.tree.specs.Records.{labels, piece-count}
 use Rattle.tree.specs.Lengths.{length-labels}
 use Rattle.tree.specs.Choice.{open-at-most}
@@ -87,7 +87,7 @@ right-slot-le l i = by-test (eqb l (label-of catenation-kind 0) || eqb l (label-
 
 -- nor is a left child's
 pub left-slot-le : (l i size : ℕ) → left-slot l i size ≤ i
-left-slot-le l i size = by-test (eqb (l % 4) character-kind)
+left-slot-le l i size = by-test (ltb l (label-of catenation-kind 0) || ltb (label-of star-kind 0) l)
   where
     by-test : (b : Bool) → cond b 0 (i - size) ≤ i
     by-test true = omega arith

@@ -2,16 +2,16 @@
 -- tree's seats stand in the order of its records. A slot is a record's number plus 1, and slot 0 stands for a child
 -- that is not there: so a star is a pair without a right child, a leaf a pair without any, and one rule serves all
 -- kinds.
-use Prim.Native.Nat.{ℕ, _+_, _-_, _%_, _≤_, _<_}
+use Prim.Native.Nat.{ℕ, _+_, _-_, _≤_, _<_}
 use mathlib.Core.Path.{_≡_}
 use mathlib.Core.Bool.{Bool, cond, _||_}
 use mathlib.Core.List.{List, [], _∷_, _++_, map}
-use lib.Dec.{eqb}
+use lib.Dec.{eqb, ltb}
 use lib.ListN.{length, getD}
 use Rattle.language.specs.Tree.{Tree, leaf, catenation, union, star, nodes}
 use Rattle.tree.specs.Leaf.{Leaf}
 use Rattle.tree.specs.Cut.{cuts, one, wanted, cut-left, cut-right, open-size}
-use Rattle.tree.specs.Layout.{label-of, character-kind, catenation-kind, union-kind, star-kind}
+use Rattle.tree.specs.Layout.{label-of, catenation-kind, union-kind, star-kind}
 use Rattle.tree.specs.Numbering.{child-piece, Nodewise, at-root, at-left, at-right, Walker, walked}
 use Rattle.tree.specs.Records.{leaf-label}
 
@@ -141,10 +141,10 @@ of-right-seat f x =
 abbrev pub right-slot : (label i : ℕ) → ℕ
 right-slot label i = cond (eqb label (label-of catenation-kind 0) || eqb label (label-of union-kind 0)) i 0
 
--- the slot of the left or only child, when the right child has `size` nodes; a leaf's label is 1 more than a multiple
--- of 4, and no other is
+-- the slot of the left or only child, when the right child has `size` nodes; the labels of catenation, union and star
+-- stand next to each other, and no leaf's is among them
 abbrev pub left-slot : (label i size : ℕ) → ℕ
-left-slot label i size = cond (eqb (label % 4) character-kind) 0 (i - size)
+left-slot label i size = cond (ltb label (label-of catenation-kind 0) || ltb (label-of star-kind 0) label) 0 (i - size)
 
 -- where the children of record i, with the seat x, are found
 pub record Around (xs : List Seat) (i : ℕ) (x : Seat) : Type 0 where

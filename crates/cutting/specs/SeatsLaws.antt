@@ -1,12 +1,12 @@
 -- Each seat of a tree's list stands behind all that is under it, so a record's children are found by their slots.
-use Prim.Native.Nat.{ℕ, zero, suc, _+_, _*_, _-_, _%_, _<_}
+use Prim.Native.Nat.{ℕ, zero, suc, _+_, _*_, _-_, _<_}
 use mathlib.Core.Path.{_≡_, refl, ap, sym, _∙_}
 use mathlib.Core.Bool.{Bool}
 use mathlib.Core.List.{List, [], _∷_, _++_, map, map-append, append-assoc, append-nil}
 use native.Mathlib.Omega.{arith}
 use native.Mathlib.Nat.{not-suc-le-zero, le-of-suc-le-suc, sub-zero, zero-add}
 use native.Mathlib.Decide.{decLt}
-use borrow.Author.Tests.{ne-eqb}
+use borrow.Author.Tests.{ne-eqb, lt-ltb, le-ltb}
 use lib.ListN.{length, length-append, List·getD-append}
 use lib.Seq.{getD-append-add, getD-at, getD-append-seam}
 use Rattle.language.specs.Tree.{Tree, leaf, catenation, union, star, nodes}
@@ -183,12 +183,16 @@ held-whole f t p n =
 
 -- a leaf has no child
 pub leaf-left : (a : Leaf) (i size : ℕ) → left-slot (leaf-label a) i size ≡ 0
-leaf-left (Leaf.character a) i size = let kind : (1 + 256 * a) % 4 ≡ 1 = omega arith in rw kind
-leaf-left (Leaf.class k) i size = let kind : (5 + 8 * k) % 4 ≡ 1 = omega arith in rw kind
+leaf-left (Leaf.character zero) i size = refl
+leaf-left (Leaf.character (suc a)) i size =
+    rw (le-ltb (1 + 256 * suc a) 2 (omega arith), lt-ltb 4 (1 + 256 * suc a) (omega arith))
+leaf-left (Leaf.class k) i size = rw (le-ltb (5 + 8 * k) 2 (omega arith), lt-ltb 4 (5 + 8 * k) (omega arith))
+leaf-left Leaf.empty-text i size = refl
 
 pub leaf-right : (a : Leaf) (i : ℕ) → right-slot (leaf-label a) i ≡ 0
 leaf-right (Leaf.character a) i = rw (ne-eqb (1 + 256 * a) 2 (omega arith), ne-eqb (1 + 256 * a) 3 (omega arith))
 leaf-right (Leaf.class k) i = rw (ne-eqb (5 + 8 * k) 2 (omega arith), ne-eqb (5 + 8 * k) 3 (omega arith))
+leaf-right Leaf.empty-text i = refl
 
 -- a pair's children end at its own record and where the right child begins
 pair-around : (xs before after : List Seat) (i : ℕ) (l r x : Seat) → xs ≡ before ++ (under l ++ under r ++ (x ∷ []))

@@ -1,7 +1,7 @@
 // Slots: record i has slot i + 1, and slot 0 stands for a child that is not there.
 use tree::layout::CATENATION_LABEL;
-use tree::layout::CHARACTER_LABEL;
 use tree::layout::NO_CHILD;
+use tree::layout::STAR_LABEL;
 use tree::layout::UNION_LABEL;
 ghost use mathlib.Core.Path.{_≡_};
 ghost use Prim.Native.Nat.{_≤_};
@@ -27,7 +27,10 @@ pub fn left_slot(label: u16, i: usize, size: u16) -> usize
     requires { ⌜ size ≤ i ⌝ }
     ensures { λ r. ⌜ (r ≡ left-slot label i size) × (r ≤ i) ⌝ }
 {
-    if label % 4 == CHARACTER_LABEL {
+    if label < CATENATION_LABEL {
+        return 0;
+    }
+    if STAR_LABEL < label {
         return 0;
     }
     i - size as usize

@@ -6,7 +6,7 @@ use lib.ListN.{length, getD}
 use lib.Dec.{eqb}
 use Rattle.language.specs.Tree.{Tree, leaf, catenation, union, star}
 use Rattle.tree.specs.Layout.{class-record-size}
-use Rattle.tree.specs.Leaf.{Leaf, character, class, has-empty}
+use Rattle.tree.specs.Leaf.{Leaf, character, class, empty-text, has-empty}
 
 -- some way to split the text into two passes the test
 unfoldable pub any-split : (List ℕ → List ℕ → Bool) → List ℕ → Bool
@@ -43,6 +43,7 @@ module _ {A : Type 0} (tests : Tests A) where
 abbrev pub takes-byte : (classes : List ℕ) → Leaf → ℕ → Bool
 takes-byte classes (character c) b = eqb c b
 takes-byte classes (class k) b = eqb (getD classes (class-record-size * k + b / 8) 0 / 2 ^ (b % 8) % 2) 1
+takes-byte classes empty-text b = false
 
 -- the tests on a leaf of an expression's tree
 abbrev pub leaf-tests : (classes : List ℕ) → Tests Leaf

@@ -10,7 +10,7 @@ use borrow.Author.Tests.{eqb-true, eq-eqb}
 use Rattle.language.specs.Tree.{Tree, leaf, catenation, union, star}
 use Rattle.language.specs.Meaning.{Meaning}
 use Rattle.language.specs.Language.{Repeated, none, more, Language}
-use Rattle.tree.specs.Leaf.{Leaf, character, class, meaning, Matches}
+use Rattle.tree.specs.Leaf.{Leaf, character, class, empty-text, meaning, Matches}
 use Rattle.finder.specs.Decide.{
   any-split,
   any-repeat,
@@ -155,6 +155,7 @@ module _ (classes : List ℕ) where
   pub takes-exactly : (a : Leaf) (b : ℕ) → (takes-byte classes a b ≡ true) ↔ (meaning classes) .Takes a b
   takes-exactly (character c) b = (eqb-true c b, eq-eqb c b)
   takes-exactly (class k) b = (eqb-true _ 1, eq-eqb _ 1)
+  takes-exactly empty-text b = (λ e. absurd (false≢true e), λ takes. absurd takes)
 
   -- the tests on such a leaf say exactly what it means
   abbrev pub leaf-exact : Exact (meaning classes)

@@ -40,6 +40,7 @@ numbers-labels (leaf (Leaf.class k)) =
     let kind : (5 + 8 * k) % 8 ≡ 5 = omega arith in
     let number : (5 + 8 * k) / 8 ≡ k = omega arith in
     rw (kind, number)
+numbers-labels (leaf Leaf.empty-text) = refl
 numbers-labels (catenation s t) =
     let left = numbers-labels s in let right = numbers-labels t in simp (numbers-append, append-nil, left, right)
 numbers-labels (union s t) =

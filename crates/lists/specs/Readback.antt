@@ -40,6 +40,7 @@ kind-shown t r h = rw add-zero at (byte-of-record t r 0 h)
 root-kinds : (u : Tree Leaf) → eqb (root-kind u) class-kind ≡ eqb (root-label u % 8) class-kind
 root-kinds (leaf (Leaf.character a)) = let kind : (1 + 256 * a) % 8 ≡ 1 = omega arith in rw kind
 root-kinds (leaf (Leaf.class k)) = let kind : (5 + 8 * k) % 8 ≡ 5 = omega arith in rw kind
+root-kinds (leaf Leaf.empty-text) = refl
 root-kinds (catenation s t) = refl
 root-kinds (union s t) = refl
 root-kinds (star s) = refl
@@ -61,6 +62,7 @@ root-labels (leaf (Leaf.class k)) before rank =
     let number : (5 + 8 * k) / 8 ≡ before = rank (omega arith) in
     let same : k ≡ before = omega arith in
     rw same
+root-labels (leaf Leaf.empty-text) before rank = refl
 root-labels (catenation s t) before rank = refl
 root-labels (union s t) before rank = refl
 root-labels (star s) before rank = refl

@@ -149,6 +149,7 @@ leaf-labelled (Leaf.class k) p h =
     let kind : (5 + 8 * k) % 8 ≡ 5 = omega arith in
     let number : (5 + 8 * k) / 8 ≡ k = omega arith in
     rw (kind, number)
+leaf-labelled Leaf.empty-text p h = refl
 
 -- the record that a root's label asks for, with the numbers of its children, is its seat's
 pub labelled-seat : (u : Tree Leaf) (i p n left right : ℕ) → root-label u < two-bytes-limit

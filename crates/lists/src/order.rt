@@ -2,6 +2,7 @@
 use tree::layout::CATENATION_LABEL;
 use tree::layout::CHARACTER_LABEL;
 use tree::layout::CLASS_LABEL;
+use tree::layout::EMPTY_LABEL;
 use tree::layout::STAR_LABEL;
 use tree::layout::UNION_LABEL;
 ghost use mathlib.Core.Path.{_≡_};
@@ -39,6 +40,9 @@ fn depth_with(label: u16, depth: usize) -> usize
         return depth;
     }
     if label % 8 == CLASS_LABEL {
+        return depth + 1;
+    }
+    if label == EMPTY_LABEL {
         return depth + 1;
     }
     0

@@ -9,7 +9,7 @@ use lib.ListN.{length, getD, List·getD-eq-default}
 use Rattle.language.specs.Automaton.{State, start, accepting, left, right, Reads}
 use Rattle.language.specs.Nested.{Nested, leaf, catenation, union, star, below, given, Own-reads}
 use Rattle.tree.specs.Layout.{class-record-size}
-use Rattle.tree.specs.Leaf.{Leaf, character, class, In-class, Takes-byte, meaning}
+use Rattle.tree.specs.Leaf.{Leaf, character, class, empty-text, In-class, Takes-byte, meaning}
 use Rattle.tables.specs.Words.{Bit, width, Own, number}
 use Rattle.tables.specs.Plan.{start-code, takes}
 use Rattle.tables.specs.Entries.{length-takes}
@@ -56,7 +56,7 @@ told-past classes k b past =
     (subst (λ (v : ℕ). Bit v (b % 8)) (List·getD-eq-default classes 0 {n = class-record-size * k + b / 8} past) bit))
 
 module _ {classes : List ℕ} {b : ℕ} where
-  -- 0 is the code of no leaf
+  -- 0 is the code of no leaf that takes a byte
   pub no-leaf-takes : {code : ℕ} → Code-takes classes code b → code ≡ 0 → ⊥
   no-leaf-takes (of-character e) none = omega arith
   no-leaf-takes (of-class odd bit) none = omega arith
@@ -87,11 +87,13 @@ module _ {classes : List ℕ} {b : ℕ} where
   leaf-taken : (a : Leaf) → Takes-byte classes a b → Code-takes classes (start-code a) b
   leaf-taken (character c) e = of-character (ap (λ (n : ℕ). 2 * (n + 1)) e)
   leaf-taken (class k) bit = of-class (omega arith) (subst (λ (n : ℕ). In-class classes n b) (omega arith) bit)
+  leaf-taken empty-text takes' = absurd takes'
 
   leaf-takes : (a : Leaf) → Code-takes classes (start-code a) b → Takes-byte classes a b
   leaf-takes (character c) takes' = let e = even-takes takes' (omega arith) in omega arith
   leaf-takes (class k) takes' =
       subst (λ (n : ℕ). In-class classes n b) (omega arith) (odd-takes takes' (omega arith))
+  leaf-takes empty-text takes' = no-leaf-takes takes' refl
 
 module _ (classes : List ℕ) (b : ℕ) where
   -- a transition that reads b leads from a state whose code takes b to the next in number

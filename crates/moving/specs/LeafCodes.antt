@@ -7,7 +7,7 @@ use native.Mathlib.Omega.{arith}
 use lib.ListN.{getD}
 use Rattle.language.specs.Automaton.{State, start, accepting, left, right}
 use Rattle.language.specs.Nested.{Nested, leaf, catenation, union, star, below}
-use Rattle.tree.specs.Leaf.{Leaf, character, class}
+use Rattle.tree.specs.Leaf.{Leaf, character, class, empty-text}
 use Rattle.tables.specs.Words.{width, Own, number}
 use Rattle.tables.specs.Plan.{leads-on, jumps-to, leads-and-jumps, codes-of, takes}
 use Rattle.closing.specs.Passes.Transitions.{left-code, right-code, end-code, inside-code, last-code}
@@ -48,6 +48,8 @@ leaf-numbers (leaf (character c)) i exit none start o = λ n some. (λ e. omega 
 leaf-numbers (leaf (character c)) i exit none accepting o = none-same none
 leaf-numbers (leaf (class k)) i exit none start o = λ n some. (λ e. omega arith, λ e. omega arith)
 leaf-numbers (leaf (class k)) i exit none accepting o = none-same none
+leaf-numbers (leaf empty-text) i exit none start o = none-same on-leafless
+leaf-numbers (leaf empty-text) i exit none accepting o = none-same none
 leaf-numbers (catenation x y) i exit none start o = none-same on-leafless
 leaf-numbers (catenation x y) i exit none accepting o =
     same-as (end-code _ exit x y _ _ _ _) (numbers.end-code x y) (none-same none)

@@ -7,7 +7,7 @@ use lib.ListN.{length, getD, length-append, List·getD-append}
 use lib.Seq.{getD-append-add}
 use Rattle.language.specs.Tree.{Tree, nodes}
 use Rattle.language.specs.Nested.{Nested, leaf, catenation, union, star, below, own}
-use Rattle.tree.specs.Leaf.{Leaf, character, class}
+use Rattle.tree.specs.Leaf.{Leaf, character, class, empty-text}
 use Rattle.tree.specs.Limits.{most-pieces, most-records, most-states}
 use Rattle.tree.specs.Layout.{record-size}
 use Rattle.tree.specs.Records.{Good, Ranked, piece-count, class-numbers, class-count}
@@ -63,6 +63,7 @@ small-sound (below x) h = (small-plain x (h .0), small-narrow x (h .0), small-so
 few-classes : (t : Tree Leaf) → class-count t ≤ nodes t
 few-classes (Tree.leaf (character c)) = omega arith
 few-classes (Tree.leaf (class k)) = omega arith
+few-classes (Tree.leaf empty-text) = omega arith
 few-classes (Tree.catenation s t) = simp length-append (omega (arith, few-classes s, few-classes t))
 few-classes (Tree.union s t) = simp length-append (omega (arith, few-classes s, few-classes t))
 few-classes (Tree.star s) = omega (arith, few-classes s)
@@ -84,6 +85,7 @@ low-second l m low j inside =
 leaves-low : (t : Tree Leaf) → All-low (class-numbers t) → Low-numbers t
 leaves-low (Tree.leaf (character c)) low = tt
 leaves-low (Tree.leaf (class k)) low = low 0 (omega arith)
+leaves-low (Tree.leaf empty-text) low = tt
 leaves-low (Tree.catenation s t) low =
     (leaves-low s (low-first (class-numbers s) _ low), leaves-low t (low-second (class-numbers s) _ low))
 leaves-low (Tree.union s t) low =

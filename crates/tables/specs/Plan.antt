@@ -9,7 +9,7 @@ use mathlib.Core.List.{List, [], _∷_, _++_}
 use lib.ListN.{getD, take, drop}
 use Rattle.language.specs.Automaton.{State, Path-of}
 use Rattle.language.specs.Nested.{Nested, leaf, catenation, union, star, below, Own-empty, Own-reads}
-use Rattle.tree.specs.Leaf.{Leaf, character, class, has-empty, meaning, byteless}
+use Rattle.tree.specs.Leaf.{Leaf, character, class, empty-text, has-empty, meaning, byteless}
 use Rattle.tables.specs.Words.{word-bits, Bit, width, run, Own, number}
 
 -- how many entries a piece has in a table: one for each bit of a word, of which those of its states come first
@@ -40,10 +40,12 @@ Jumps code = code / 2 % 2 ≡ 1
 abbrev pub Is-leaf : ℕ → Type 0
 Is-leaf code = (code % 4 ≡ 0) × (code ≡ 0 → ⊥)
 
--- a leaf's number: even and not 0 for a character, odd for a class, so that it gives back its leaf
+-- a leaf's number: even and not 0 for a character, odd for a class, so that it gives back its leaf; 0 for the leaf of
+-- the empty text, which takes no byte
 abbrev pub start-code : Leaf → ℕ
 start-code (character c) = 2 * (c + 1)
 start-code (class k) = 2 * k + 1
+start-code empty-text = 0
 
 -- the code of a leaf's start: it leads on where the leaf has the empty text, else the leaf's number stands above the
 -- two bits, which are 0
@@ -64,7 +66,8 @@ codes-of (star x) i exit =
     leads-and-jumps (i + (1 + width x)) ∷ (codes-of x (i + 1) (leads-and-jumps (i + 1)) ++ (exit ∷ []))
 codes-of (below x) i exit = 0 ∷ exit ∷ []
 
--- the numbers of the leaves: a leaf's at its start, else 0, which is no leaf's: a stand-in reads no byte
+-- the numbers of the leaves: a leaf's at its start, else 0, which is no number of a leaf that takes a byte: a stand-in
+-- reads none
 abbrev pub takes : Nested Leaf → List ℕ
 takes (leaf a) = start-code a ∷ 0 ∷ []
 takes (catenation x y) = 0 ∷ (takes x ++ takes y ++ (0 ∷ []))

@@ -148,6 +148,7 @@ Sound (below x) = Plain x × (width x ≤ most-states) × Sound x
 abbrev pub Low-numbers : Tree Leaf → Type 0
 Low-numbers (Tree.leaf (Leaf.character c)) = Unit {0}
 Low-numbers (Tree.leaf (Leaf.class k)) = k < most-records
+Low-numbers (Tree.leaf Leaf.empty-text) = Unit {0}
 Low-numbers (Tree.catenation s t) = Low-numbers s × Low-numbers t
 Low-numbers (Tree.union s t) = Low-numbers s × Low-numbers t
 Low-numbers (Tree.star s) = Low-numbers s
@@ -326,6 +327,8 @@ module _ {list : List ℕ} {f p n i : ℕ} {room : ℕ} where
       root-shows (h .written) r _ _ _ _ _ at refl (omega arith) (omega arith) (omega arith)
   leaf-shows (Leaf.class k) h r at =
       root-shows (h .written) r _ _ _ _ _ at refl (omega (arith, h .numbers)) (omega arith) (omega arith)
+  leaf-shows Leaf.empty-text h r at =
+      root-shows (h .written) r _ _ _ _ _ at refl (omega arith) (omega arith) (omega arith)
 
   pub catenation-shows : {x y : Nested Leaf} → Fine list room (site (catenation x y) f p n i) → (r : ℕ)
       → r + 1 ≡ f + size (catenation x y) → Shows list r catenation-kind 0 (f + size x - 1) (f + size x + size y - 1) p

@@ -7,20 +7,23 @@ use native.Mathlib.Omega.{arith}
 use lib.ListN.{length, getD, set}
 use lib.Dec.{eqb}
 use Rattle.language.specs.Nested.{Nested, leaf, catenation, union, star, below}
-use Rattle.tree.specs.Leaf.{Leaf, character, class}
+use Rattle.tree.specs.Leaf.{Leaf, character, class, empty-text}
 use Rattle.tree.specs.Limits.{most-records, most-states}
 use Rattle.tree.specs.Layout.{
   record-size,
   character-kind,
-  class-kind,
+  catenation-kind,
+  union-kind,
   star-kind,
+  class-kind,
+  empty-kind,
   kind-at,
   character-at,
   left-at,
   right-at,
   piece-at,
 }
-use Rattle.tables.specs.Plan.{row-size, leaf-code}
+use Rattle.tables.specs.Plan.{row-size, leads-on, leaf-code}
 use Rattle.tables.specs.Entries.{wide, thrice}
 use Rattle.tables.specs.Standing.{
   size,
@@ -126,7 +129,8 @@ stand-few {node = node} (sits {x = below x} h e) = omega (arith, below-shows h n
 -- the code that a record shows: that of its leaf, or 0 where it is not a leaf's
 abbrev pub code-at : List ℕ → (node : ℕ) → ℕ
 code-at list node = cond (eqb (kind-at list node) character-kind) (4 * (2 * (character-at list node + 1)))
-    (cond (eqb (kind-at list node) class-kind) (4 * (2 * left-at list node + 1)) 0)
+    (cond (eqb (kind-at list node) class-kind) (4 * (2 * left-at list node + 1))
+    (cond (eqb (kind-at list node) empty-kind) leads-on 0))
 
 -- the record is in the list, its kind is known, and the number of a class is low
 pub record Code-readable (list : List ℕ) (node kind : ℕ) : Type 0 where
@@ -146,12 +150,25 @@ class-code list node e =
     cond-different (kind-at list node) character-kind _ _ (λ f. omega arith)
     ∙ cond-equal (kind-at list node) class-kind _ _ e
 
+-- that of the empty text
+empty-code : (list : List ℕ) (node : ℕ) → kind-at list node ≡ empty-kind → code-at list node ≡ leads-on
+empty-code list node e =
+    cond-different (kind-at list node) character-kind _ _ (λ f. omega arith)
+    ∙ cond-different (kind-at list node) class-kind _ _ (λ f. omega arith)
+    ∙ cond-equal (kind-at list node) empty-kind _ _ e
+
+-- a kind that is no leaf's
+pub record No-leaf-kind (kind : ℕ) : Type 0 where
+  pub no-character : kind ≡ character-kind → ⊥
+  pub no-class : kind ≡ class-kind → ⊥
+  pub no-empty : kind ≡ empty-kind → ⊥
+
 -- a record of another kind has none
-no-code : (list : List ℕ) (node : ℕ) → (kind-at list node ≡ character-kind → ⊥) → (kind-at list node ≡ class-kind → ⊥)
-    → code-at list node ≡ 0
-no-code list node other other' =
-    cond-different (kind-at list node) character-kind _ _ other ∙ cond-different (kind-at list node) class-kind _
-    _ other'
+no-code : (list : List ℕ) (node : ℕ) → No-leaf-kind (kind-at list node) → code-at list node ≡ 0
+no-code list node other =
+    cond-different (kind-at list node) character-kind _ _ (other .no-character)
+    ∙ cond-different (kind-at list node) class-kind _ _ (other .no-class)
+    ∙ cond-different (kind-at list node) empty-kind _ _ (other .no-empty)
 
 -- so it is by the kind that was read
 module _ {list : List ℕ} {node kind : ℕ} (readable : Code-readable list node kind) where
@@ -161,9 +178,11 @@ module _ {list : List ℕ} {node kind : ℕ} (readable : Code-readable list node
   pub code-of-class : kind ≡ class-kind → code-at list node ≡ 4 * (2 * left-at list node + 1)
   code-of-class e = class-code list node (sym (readable .of-kind) ∙ e)
 
-  pub code-of-none : (kind ≡ character-kind → ⊥) → (kind ≡ class-kind → ⊥) → code-at list node ≡ 0
-  code-of-none other other' =
-      no-code list node (λ e. other (readable .of-kind ∙ e)) (λ e. other' (readable .of-kind ∙ e))
+  pub code-of-empty : kind ≡ empty-kind → code-at list node ≡ leads-on
+  code-of-empty e = empty-code list node (sym (readable .of-kind) ∙ e)
+
+  pub code-of-none : No-leaf-kind kind → code-at list node ≡ 0
+  code-of-none other = no-code list node (subst No-leaf-kind (readable .of-kind) other)
 
 -- the code that a leaf's record shows is its own
 shown-code : {list : List ℕ} {f p n i : ℕ} {room : ℕ} (a : Leaf) → Fine list room (site (leaf a) f p n i) → (r : ℕ) → r
@@ -175,16 +194,27 @@ shown-code {list} (character c) h r e =
 shown-code {list} (class k) h r e =
     let shown = leaf-shows (class k) h r e in
     class-code list r (shown .kind-is) ∙ ap (λ (d : ℕ). 4 * (2 * d + 1)) (shown .left-is)
+shown-code {list} empty-text h r e = empty-code list r (leaf-shows empty-text h r e .kind-is)
 
 -- and is not 0
 coded : (a : Leaf) → leaf-code a ≡ 0 → ⊥
 coded (character c) e = omega arith
 coded (class k) e = omega arith
+coded empty-text e = omega arith
+
+-- nodes with children have such a kind
+catenation-no-leaf : No-leaf-kind catenation-kind
+catenation-no-leaf = record { no-character = λ e. omega arith; no-class = λ e. omega arith; no-empty = λ e. omega arith }
+
+union-no-leaf : No-leaf-kind union-kind
+union-no-leaf = record { no-character = λ e. omega arith; no-class = λ e. omega arith; no-empty = λ e. omega arith }
+
+star-no-leaf : No-leaf-kind star-kind
+star-no-leaf = record { no-character = λ e. omega arith; no-class = λ e. omega arith; no-empty = λ e. omega arith }
 
 -- the record of a node with children shows 0
-inner-code : (list : List ℕ) (node kind : ℕ) → kind-at list node ≡ kind → (kind ≡ character-kind → ⊥)
-    → (kind ≡ class-kind → ⊥) → code-at list node ≡ 0
-inner-code list node kind e other other' = no-code list node (λ f. other (sym e ∙ f)) (λ f. other' (sym e ∙ f))
+inner-code : (list : List ℕ) (node kind : ℕ) → kind-at list node ≡ kind → No-leaf-kind kind → code-at list node ≡ 0
+inner-code list node kind e other = no-code list node (subst No-leaf-kind (sym e) other)
 
 -- where it shows a code, the site is a leaf
 pub visit-leaf : {list : List ℕ} {node piece at : ℕ} {s : Site} {room : ℕ} → Sits list room node piece at s
@@ -194,11 +224,11 @@ visit-leaf {list} {node} {piece} {at} (sits {x = leaf a} {f = f} {n = n} h e) ow
     subst (λ (b : ℕ). Filled (site (leaf a) f piece n at) t (start-entry t (row-size * piece + at) b) (at + 2))
     (sym (shown-code a h node e)) (fill-leaf h t full)
 visit-leaf {list} {node} (sits {x = catenation x y} h e) own code t full =
-    absurd (code (inner-code list node _ (catenation-shows h node e .kind-is) (λ f. omega arith) (λ f. omega arith)))
+    absurd (code (inner-code list node _ (catenation-shows h node e .kind-is) catenation-no-leaf))
 visit-leaf {list} {node} (sits {x = union x y} h e) own code t full =
-    absurd (code (inner-code list node _ (union-shows h node e .kind-is) (λ f. omega arith) (λ f. omega arith)))
+    absurd (code (inner-code list node _ (union-shows h node e .kind-is) union-no-leaf))
 visit-leaf {list} {node} (sits {x = star x} h e) own code t full =
-    absurd (code (inner-code list node _ (star-shows h node e .kind-is) (λ f. omega arith) (λ f. omega arith)))
+    absurd (code (inner-code list node _ (star-shows h node e .kind-is) star-no-leaf))
 visit-leaf {node = node} (sits {x = below x} h e) own code t full = absurd (below-differs h node e own)
 
 -- the number of a class is low, so that its code can be read
@@ -208,6 +238,8 @@ visit-class {node = node} (sits {x = leaf (character c)} h e) own kind =
     absurd (omega (arith, leaf-shows (character c) h node e .kind-is))
 visit-class {node = node} (sits {x = leaf (class k)} h e) own kind =
     omega (arith, leaf-shows (class k) h node e .left-is, h .numbers)
+visit-class {node = node} (sits {x = leaf empty-text} h e) own kind =
+    absurd (omega (arith, leaf-shows empty-text h node e .kind-is))
 visit-class {node = node} (sits {x = catenation x y} h e) own kind =
     absurd (omega (arith, catenation-shows h node e .kind-is))
 visit-class {node = node} (sits {x = union x y} h e) own kind = absurd (omega (arith, union-shows h node e .kind-is))
@@ -265,7 +297,7 @@ pub visit-star : {list : List ℕ} {node piece at : ℕ} {s : Site} {room : ℕ}
     → Visited-within list room (left-at list node) piece (at + 1) t after last
     → Filled s t (joined after (row-size * piece) (kind-at list node) at last last) (last + 1)
 visit-star {list} {node} (sits {x = leaf a} h e) own kind t after full last done =
-    absurd (coded a (sym (shown-code a h node e) ∙ inner-code list node _ kind (λ f. omega arith) (λ f. omega arith)))
+    absurd (coded a (sym (shown-code a h node e) ∙ inner-code list node _ kind star-no-leaf))
 visit-star {node = node} (sits {x = catenation x y} h e) own kind t after full last done =
     absurd (omega (arith, catenation-shows h node e .kind-is))
 visit-star {node = node} (sits {x = union x y} h e) own kind t after full last done =

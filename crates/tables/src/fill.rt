@@ -4,6 +4,7 @@ use crate::ROW_SIZE;
 use tree::layout::CATENATION;
 use tree::layout::CHARACTER;
 use tree::layout::CLASS;
+use tree::layout::EMPTY;
 use tree::layout::STAR;
 use tree::layout::character_at;
 use tree::layout::kind_at;
@@ -99,6 +100,9 @@ fn code_at(list: &[u8], node: usize, kind: u8) -> u16
     }
     if kind == CLASS {
         return class_code(left_at(list, node));
+    }
+    if kind == EMPTY {
+        return LEADS_ON;
     }
     0
 }

@@ -28,6 +28,9 @@ star-kind = 4
 abbrev pub class-kind : ℕ
 class-kind = 5
 
+abbrev pub empty-kind : ℕ
+empty-kind = 6
+
 -- how many bytes a class record has: a bit for each value of a byte
 abbrev pub class-record-size : ℕ
 class-record-size = 32

@@ -12,7 +12,15 @@ use lib.Seq.{append-snoc}
 use borrow.Author.Tests.{eqb-true, ne-eqb}
 use Rattle.language.specs.Tree.{Tree, leaf, catenation, union, star}
 use Rattle.tree.specs.Leaf.{Leaf}
-use Rattle.tree.specs.Layout.{label-of, character-kind, catenation-kind, union-kind, star-kind, class-kind}
+use Rattle.tree.specs.Layout.{
+  label-of,
+  character-kind,
+  catenation-kind,
+  union-kind,
+  star-kind,
+  class-kind,
+  empty-kind,
+}
 use Rattle.tree.specs.Records.{labels, leaf-label}
 
 -- what a label asks for: a leaf, a node over the last two trees or over the last one, or nothing that
@@ -31,7 +39,8 @@ asked label =
     (cond (eqb label (label-of catenation-kind 0)) a-catenation
     (cond (eqb label (label-of union-kind 0)) a-union
     (cond (eqb label (label-of star-kind 0)) a-star
-    (cond (eqb (label % 8) class-kind) (a-leaf (Leaf.class (label / 8))) nothing))))
+    (cond (eqb (label % 8) class-kind) (a-leaf (Leaf.class (label / 8)))
+    (cond (eqb label (label-of empty-kind 0)) (a-leaf Leaf.empty-text) nothing)))))
 
 -- the stack, last tree first, after one label; none where the trees that it asks for are not there
 abbrev pub pushed : Asked → List (Tree Leaf) → Option (List (Tree Leaf))
@@ -76,6 +85,7 @@ asked-leaf (Leaf.class k) =
     let kind : (5 + 8 * k) % 8 ≡ 5 = omega arith in
     let number : (5 + 8 * k) / 8 ≡ k = omega arith in
     rw (no-character, no-catenation, no-union, no-star, kind, number)
+asked-leaf Leaf.empty-text = refl
 
 -- the labels of a tree put that tree on the stack
 pub built-labels : (t : Tree Leaf) (rest : List ℕ) (stack : List (Tree Leaf)) → built (labels t ++ rest) stack
@@ -102,25 +112,28 @@ Asks label a-union = label ≡ label-of union-kind 0
 Asks label a-star = label ≡ label-of star-kind 0
 Asks label nothing = Unit {0}
 
--- by the five tests
-tested : (label : ℕ) (is-character is-catenation is-union is-star is-class : Bool)
+-- by the six tests
+tested : (label : ℕ) (is-character is-catenation is-union is-star is-class is-empty : Bool)
     → eqb (label % 256) character-kind ≡ is-character → eqb label (label-of catenation-kind 0) ≡ is-catenation
     → eqb label (label-of union-kind 0) ≡ is-union → eqb label (label-of star-kind 0) ≡ is-star
-    → eqb (label % 8) class-kind ≡ is-class
+    → eqb (label % 8) class-kind ≡ is-class → eqb label (label-of empty-kind 0) ≡ is-empty
     → Asks label
     (cond is-character (a-leaf (Leaf.character (label / 256)))
     (cond is-catenation a-catenation
-    (cond is-union a-union (cond is-star a-star (cond is-class (a-leaf (Leaf.class (label / 8))) nothing)))))
-tested label true b c d l e f g h m = omega (arith, eqb-true (label % 256) character-kind e)
-tested label false true c d l e f g h m = eqb-true _ _ f
-tested label false false true d l e f g h m = eqb-true _ _ g
-tested label false false false true l e f g h m = eqb-true _ _ h
-tested label false false false false true e f g h m = omega (arith, eqb-true (label % 8) class-kind m)
-tested label false false false false false e f g h m = tt
+    (cond is-union a-union
+    (cond is-star a-star
+    (cond is-class (a-leaf (Leaf.class (label / 8))) (cond is-empty (a-leaf Leaf.empty-text) nothing))))))
+tested label true b c d l k e f g h m n = omega (arith, eqb-true (label % 256) character-kind e)
+tested label false true c d l k e f g h m n = eqb-true _ _ f
+tested label false false true d l k e f g h m n = eqb-true _ _ g
+tested label false false false true l k e f g h m n = eqb-true _ _ h
+tested label false false false false true k e f g h m n = omega (arith, eqb-true (label % 8) class-kind m)
+tested label false false false false false true e f g h m n = eqb-true _ _ n
+tested label false false false false false false e f g h m n = tt
 
 -- what a label asks for has that label
 pub asked-says : (label : ℕ) → Asks label (asked label)
-asked-says label = tested label _ _ _ _ _ refl refl refl refl refl
+asked-says label = tested label _ _ _ _ _ _ refl refl refl refl refl refl
 
 -- the trees of a stack, if there is one, have these labels
 abbrev pub Holds-labels : Option (List (Tree Leaf)) → List ℕ → Type 0

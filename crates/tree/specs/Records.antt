@@ -15,6 +15,7 @@ use Rattle.tree.specs.Layout.{
   union-kind,
   star-kind,
   class-kind,
+  empty-kind,
   class-label,
 }
 use Rattle.tree.specs.Cut.{pieces, wanted}
@@ -24,16 +25,19 @@ use Rattle.tree.specs.Numbering.{Numbers, at-root, at-left, at-right, nu
 abbrev pub leaf-kind : Leaf → ℕ
 leaf-kind (Leaf.character c) = character-kind
 leaf-kind (Leaf.class k) = class-kind
+leaf-kind Leaf.empty-text = empty-kind
 
--- its character: 0 for a class
+-- its character: 0 for a class and for the empty text
 abbrev pub leaf-character : Leaf → ℕ
 leaf-character (Leaf.character c) = c
 leaf-character (Leaf.class k) = 0
+leaf-character Leaf.empty-text = 0
 
 -- what stands where a node has its left child: a class has its number there
 abbrev pub leaf-number : Leaf → ℕ
 leaf-number (Leaf.character c) = no-child
 leaf-number (Leaf.class k) = k
+leaf-number Leaf.empty-text = no-child
 
 -- the records of t, whose nodes are in the pieces that x tells. Its first record has the number `first`
 abbrev pub records : Tree Leaf → Numbers → (first : ℕ) → List ℕ
@@ -63,6 +67,7 @@ piece-count t = pieces t (wanted t)
 abbrev pub class-numbers : Tree Leaf → List ℕ
 class-numbers (leaf (Leaf.character c)) = []
 class-numbers (leaf (Leaf.class k)) = k ∷ []
+class-numbers (leaf Leaf.empty-text) = []
 class-numbers (catenation s t) = class-numbers s ++ class-numbers t
 class-numbers (union s t) = class-numbers s ++ class-numbers t
 class-numbers (star s) = class-numbers s
@@ -86,6 +91,7 @@ pub record Good (bytes : List ℕ) (t : Tree Leaf) : Type 0 where
 abbrev pub leaf-label : Leaf → ℕ
 leaf-label (Leaf.character c) = label-of character-kind c
 leaf-label (Leaf.class k) = class-label k
+leaf-label Leaf.empty-text = label-of empty-kind 0
 
 -- the labels of a tree's records, in their order: what remains of a list when child and piece numbers are left out
 abbrev pub labels : Tree Leaf → List ℕ

@@ -9,7 +9,7 @@ expression-empty = 1
 abbrev pub expression-too-long : ℕ
 expression-too-long = 2
 
--- an operand is due, and a `|`, `*`, `)` or the end stands there
+-- an operand is due, and a `|`, `)`, a sign that follows its operand, or the end stands there
 abbrev pub operand-missing : ℕ
 operand-missing = 3
 
@@ -60,3 +60,11 @@ class-faulty = 14
 -- the class buffer is shorter than the class records
 abbrev pub class-buffer-too-short : ℕ
 class-buffer-too-short = 15
+
+-- a count is not of its form, is left open, or is out of its bounds; or a `}` outside a count
+abbrev pub count-faulty : ℕ
+count-faulty = 16
+
+-- the tree has more nodes than a tree may have
+abbrev pub too-many-nodes : ℕ
+too-many-nodes = 17

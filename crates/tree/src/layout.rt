@@ -38,6 +38,8 @@ pub const STAR: u8 = 4;
 
 pub const CLASS: u8 = 5;
 
+pub const EMPTY: u8 = 6;
+
 // How many bytes a class record has.
 pub const CLASS_RECORD_SIZE: usize = 32;
 
@@ -51,6 +53,8 @@ pub const UNION_LABEL: u16 = UNION as u16;
 pub const STAR_LABEL: u16 = STAR as u16;
 
 pub const CLASS_LABEL: u16 = CLASS as u16;
+
+pub const EMPTY_LABEL: u16 = EMPTY as u16;
 
 // What stands in the place of a child's record number where there is no child.
 pub const NO_CHILD: u16 = 65535;

@@ -4,7 +4,7 @@
 pub const EXPRESSION_EMPTY: u8 = 1;
 // It has more bytes than an expression may have.
 pub const EXPRESSION_TOO_LONG: u8 = 2;
-// An operand is due, and a `|`, `*`, `)` or the end stands there.
+// An operand is due, and a `|`, `)`, a sign that follows its operand, or the end stands there.
 pub const OPERAND_MISSING: u8 = 3;
 // The end comes after an operand, with a group open.
 pub const GROUP_LEFT_OPEN: u8 = 4;
@@ -30,3 +30,7 @@ pub const WORDS_NOT_MARKS: u8 = 13;
 pub const CLASS_FAULTY: u8 = 14;
 // The class buffer is shorter than the class records.
 pub const CLASS_BUFFER_TOO_SHORT: u8 = 15;
+// A count is not of its form, or a `}` stands outside a count.
+pub const COUNT_FAULTY: u8 = 16;
+// The tree has more nodes than a tree may have.
+pub const TOO_MANY_NODES: u8 = 17;

@@ -2,6 +2,7 @@
 use mathlib.Core.Path.{_∙_}
 use borrow.Author.Tests.{eq-eqb, ne-eqb}
 use borrow.Author.Needs.{needs}
+use Rattle.tree.specs.Layout.{label-of, empty-kind}
 use Rattle.lists.proofs.order.depth_with.Statement.{statement}
 use Rattle.lists.proofs.order.depth_with.Tie as tie
 
@@ -49,13 +50,30 @@ returns-5 c = simp (
   eq-eqb _ _ (c .if5 .taken),
 )
 
+add-result-3 : tie.Need-add-result-3
+add-result-3 c = search needs
+
 returns-6 : tie.Need-returns-6
-returns-6 c = simp (
-  ne-eqb _ _ (c .before .before .before .before .if1 .left),
-  ne-eqb _ _ (c .before .before .before .if2 .left),
-  ne-eqb _ _ (c .before .before .if3 .left),
-  ne-eqb _ _ (c .before .if4 .left),
-  ne-eqb _ _ (c .if5 .left),
+returns-6 c =
+    let no-leaf-yet = c .before in
+    let label = no-leaf-yet .before .before .before .before .before .args .label in
+    simp (
+      ne-eqb _ _ (no-leaf-yet .before .before .before .before .if1 .left),
+      ne-eqb _ _ (no-leaf-yet .before .before .before .if2 .left),
+      ne-eqb _ _ (no-leaf-yet .before .before .if3 .left),
+      ne-eqb _ _ (no-leaf-yet .before .if4 .left),
+      ne-eqb _ _ (no-leaf-yet .if5 .left),
+      eq-eqb label (label-of empty-kind 0) (c .if6 .taken),
+    )
+
+returns-7 : tie.Need-returns-7
+returns-7 c = simp (
+  ne-eqb _ _ (c .before .before .before .before .before .if1 .left),
+  ne-eqb _ _ (c .before .before .before .before .if2 .left),
+  ne-eqb _ _ (c .before .before .before .if3 .left),
+  ne-eqb _ _ (c .before .before .if4 .left),
+  ne-eqb _ _ (c .before .if5 .left),
+  ne-eqb _ _ (c .if6 .left),
 )
 
 pub depth-with-spec : {M : Type 1} → statement M
@@ -71,4 +89,6 @@ depth-with-spec =
     returns-4
     add-result-2
     returns-5
-    returns-6)
+    add-result-3
+    returns-6
+    returns-7)

@@ -1,9 +1,9 @@
--- `tables::fill::code_at` meets its contract: the three ways through it are the cases of the definition.
+-- `tables::fill::code_at` meets its contract: the four ways through it are the cases of the definition.
 use Prim.Native.Nat.{ℕ, _+_, _*_}
 use mathlib.Core.Path.{_∙_, sym, ap}
 use native.Mathlib.Omega.{arith}
 use borrow.Author.Needs.{needs}
-use Rattle.tables.specs.Walking.{code-of-character, code-of-class, code-of-none}
+use Rattle.tables.specs.Walking.{code-of-character, code-of-class, code-of-empty, code-of-none}
 use Rattle.tables.proofs.fill.code_at.Statement.{statement}
 use Rattle.tables.proofs.fill.code_at.Tie as tie
 
@@ -35,7 +35,14 @@ returns-2 c =
     ∙ sym (code-of-class (kind .before .before .before .pre) (kind .if2 .taken))
 
 returns-3 : tie.Need-returns-3
-returns-3 c = sym (code-of-none (c .before .before .before .pre) (c .before .if1 .left) (c .if2 .left))
+returns-3 c =
+    let leads = code-of-empty (c .before .before .before .before .pre) (c .if3 .taken) in
+    omega (arith, leads)
+
+returns-4 : tie.Need-returns-4
+returns-4 c =
+    sym (code-of-none (c .before .before .before .before .pre)
+    (record { no-character = c .before .before .if1 .left; no-class = c .before .if2 .left; no-empty = c .if3 .left }))
 
 pub code-at-spec : {M : Type 1} → statement M
 code-at-spec =
@@ -47,4 +54,5 @@ code-at-spec =
     left-at-requires
     class-code-requires
     returns-2
-    returns-3)
+    returns-3
+    returns-4)
