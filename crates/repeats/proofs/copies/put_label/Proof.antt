@@ -1,0 +1,33 @@
+-- `repeats::copies::put_label` meets its contract: there is room for one more, or the count is one past the most.
+use mathlib.Core.Path.{refl}
+use native.Mathlib.Omega.{arith}
+use Rattle.repeats.specs.LabelledLaws.{put-written, put-left}
+use borrow.Author.Needs.{needs}
+use Rattle.repeats.proofs.copies.put_label.Statement.{statement}
+use Rattle.repeats.proofs.copies.put_label.Tie as tie
+
+returns : tie.Need-returns
+returns c =
+    let s = c .before in
+    put-left (s .args .labels .now) (s .args .labels .now) (s .args .count) _ _ refl (omega (arith, c .if1 .taken))
+
+mul-labels : tie.Need-mul-labels
+mul-labels c = search needs
+
+slice-write-labels : tie.Need-slice-write-labels
+slice-write-labels c = search needs
+
+add-result : tie.Need-add-result
+add-result c = search needs
+
+same-length : tie.Need-same-length
+same-length c = search needs
+
+returns-2 : tie.Need-returns-2
+returns-2 c =
+    let s = c .before in
+    put-written (s .args .labels .now) (s .args .count) (s .args .label) (s .pre .long) (omega (arith, c .if1 .left))
+
+pub put-label-spec : {M : Type 1} → statement M
+put-label-spec =
+    tie.close (tie.spec returns mul-labels slice-write-labels add-result same-length returns-2)
