@@ -1,6 +1,6 @@
 -- The two descriptions of the syntax agree: the scanner gives the tree that the grammar reads, and there is one at
 -- most.
-use Prim.Native.Nat.{ℕ, suc, _+_, _*_, _≤_, _<_}
+use Prim.Native.Nat.{ℕ, suc, _≤_, _<_}
 use mathlib.Core.Path.{_≡_, refl}
 use mathlib.Core.Logic.{_↔_, _⊎_, inl}
 use mathlib.Core.Bool.{Bool, true, false, cond}
@@ -9,12 +9,13 @@ use native.Mathlib.Omega.{arith}
 use lib.ListN.{length}
 use lib.Dec.{ltb}
 use borrow.Author.Tests.{ltb-true, ltb-false}
-use Rattle.language.specs.Tree.{Tree, nodes}
+use Rattle.language.specs.SignedTree.{Signed-tree, Well-counted}
 use Rattle.tree.specs.RefusalNumbers.{
   expression-empty,
   expression-too-long,
   backslash-before-no-sign,
   class-faulty,
+  count-faulty,
 }
 use Rattle.tree.specs.Limits.{longest-expression}
 use Rattle.scanner.specs.Bytes.{Syntax}
@@ -33,6 +34,7 @@ use Rattle.classes.specs.ClassGrammar.{
   all-but-these,
 }
 use Rattle.classes.specs.Class.{Item, Class}
+use Rattle.repeats.specs.CountComplete.{count-shorter, count-bounds}
 use Rattle.scanner.specs.Scanner.{Atom, Outcome, tree, refused, due, nothing, scan, scanned}
 use Rattle.scanner.specs.Grammar.{
   Level,
@@ -43,8 +45,11 @@ use Rattle.scanner.specs.Grammar.{
   any-but-line-end,
   bracketed,
   group,
-  no-star,
+  no-sign,
   one-star,
+  one-or-more,
+  none-or-one,
+  so-many,
   one-factor,
   next-factor,
   one-branch,
@@ -55,12 +60,12 @@ use Rattle.scanner.specs.Sound.{no-tree, scanner-reads}
 use Rattle.scanner.specs.Faults.{highest, seven-given, refused-cases}
 
 -- the scanner gives t exactly when the bytes are a written t
-pub scanner-exactly : (syntax : Syntax) (bytes : List ℕ) (t : Tree Atom)
+pub scanner-exactly : (syntax : Syntax) (bytes : List ℕ) (t : Signed-tree Atom)
     → (scan syntax bytes 0 due nothing [] ≡ tree t) ↔ Written syntax bytes t
 scanner-exactly syntax bytes t = (scanner-reads syntax bytes t, scanner-gives)
 
 -- bytes are written one tree at most: the scanner gives one outcome
-pub grammar-unique : {syntax : Syntax} {bytes : List ℕ} {s t : Tree Atom} → Written syntax bytes s
+pub grammar-unique : {syntax : Syntax} {bytes : List ℕ} {s t : Signed-tree Atom} → Written syntax bytes s
     → Written syntax bytes t → s ≡ t
 grammar-unique p q = cc (scanner-gives p, scanner-gives q)
 
@@ -77,34 +82,52 @@ items-shorter : {bytes rest : List ℕ} {items : List Item} → Spells-items byt
 items-shorter (one-item r) = item-shorter r
 items-shorter (next-item r q) = omega (arith, items-shorter r, item-shorter q)
 
-class-shorter : {bytes rest : List ℕ} {class : Class} → Spells-class bytes rest class → length rest < length bytes
+pub class-shorter : {bytes rest : List ℕ} {class : Class} → Spells-class bytes rest class → length rest < length bytes
 class-shorter (these r h) = omega (arith, items-shorter r)
 class-shorter (all-but-these r h) = omega (arith, items-shorter r)
 
--- a written tree has fewer than two nodes for each of its bytes: a leaf takes a byte, a star its `*`, and a catenation
--- or a union joins two
-reads-size : {syntax : Syntax} {depth : ℕ} {level : Level} {bytes rest : List ℕ} {t : Tree Atom}
-    → Spells syntax depth level bytes rest t
-    → nodes t + 1 + 2 * length rest ≤ 2 * length bytes
-reads-size (itself p) = omega arith
-reads-size (escaped p) = omega arith
-reads-size (any-but-line-end p) = omega arith
-reads-size (bracketed p r) = omega (arith, class-shorter r)
-reads-size (group h r) = omega (arith, reads-size r)
-reads-size (no-star r) = reads-size r
-reads-size (one-star r) = omega (arith, reads-size r)
-reads-size (one-factor r) = reads-size r
-reads-size (next-factor r q) = omega (arith, reads-size r, reads-size q)
-reads-size (one-branch r) = reads-size r
-reads-size (next-branch r q) = omega (arith, reads-size r, reads-size q)
+-- a written tree takes a byte at least
+reads-shorter : {syntax : Syntax} {depth : ℕ} {level : Level} {bytes rest : List ℕ} {t : Signed-tree Atom}
+    → Spells syntax depth level bytes rest t → length rest < length bytes
+reads-shorter (itself p) = omega arith
+reads-shorter (escaped p) = omega arith
+reads-shorter (any-but-line-end p) = omega arith
+reads-shorter (bracketed p r) = omega (arith, class-shorter r)
+reads-shorter (group h r) = omega (arith, reads-shorter r)
+reads-shorter (no-sign r) = reads-shorter r
+reads-shorter (one-star r) = omega (arith, reads-shorter r)
+reads-shorter (one-or-more p r) = omega (arith, reads-shorter r)
+reads-shorter (none-or-one p r) = omega (arith, reads-shorter r)
+reads-shorter (so-many p r q) = omega (arith, reads-shorter r, count-shorter q)
+reads-shorter (one-factor r) = reads-shorter r
+reads-shorter (next-factor r q) = omega (arith, reads-shorter r, reads-shorter q)
+reads-shorter (one-branch r) = reads-shorter r
+reads-shorter (next-branch r q) = omega (arith, reads-shorter r, reads-shorter q)
 
--- so an expression of 1,024 bytes has at most 2,047 nodes
-pub written-size : {syntax : Syntax} {bytes : List ℕ} {t : Tree Atom} → Written syntax bytes t
-    → nodes t + 1 ≤ 2 * length bytes
-written-size w = omega (arith, reads-size w)
+-- in every written count the fewest are at most the most, and the most are at least 1
+reads-counted : {syntax : Syntax} {depth : ℕ} {level : Level} {bytes rest : List ℕ} {t : Signed-tree Atom}
+    → Spells syntax depth level bytes rest t → Well-counted t
+reads-counted (itself p) = tt
+reads-counted (escaped p) = tt
+reads-counted (any-but-line-end p) = tt
+reads-counted (bracketed p r) = tt
+reads-counted (group h r) = reads-counted r
+reads-counted (no-sign r) = reads-counted r
+reads-counted (one-star r) = reads-counted r
+reads-counted (one-or-more p r) = reads-counted r
+reads-counted (none-or-one p r) = reads-counted r
+reads-counted (so-many p r q) = let b = count-bounds q in (b .ordered, b .some, reads-counted r)
+reads-counted (one-factor r) = reads-counted r
+reads-counted (next-factor r q) = (reads-counted r, reads-counted q)
+reads-counted (one-branch r) = reads-counted r
+reads-counted (next-branch r q) = (reads-counted r, reads-counted q)
+
+pub written-counted : {syntax : Syntax} {bytes : List ℕ} {t : Signed-tree Atom} → Written syntax bytes t
+    → Well-counted t
+written-counted w = reads-counted w
 
 -- what scanning a whole expression comes to: 1 for no bytes, 2 for more than 1,024, and else what the scan gives
-pub data Case (syntax : Syntax) (bytes : List ℕ) : Outcome Atom → Type 0 where
+pub data Case (syntax : Syntax) (bytes : List ℕ) : Outcome (Signed-tree Atom) → Type 0 where
   empty : bytes ≡ [] → Case syntax bytes (refused expression-empty 0)
   long : longest-expression < length bytes → Case syntax bytes (refused expression-too-long longest-expression)
   usual : 0 < length bytes → length bytes ≤ longest-expression → Case syntax bytes (scan syntax bytes 0 due nothing [])
@@ -122,7 +145,7 @@ cases syntax (b ∷ rest) = go (ltb longest-expression (suc (length rest))) refl
     go false e = usual (omega arith) (ltb-false longest-expression (suc (length rest)) e)
 
 -- an outcome that is a tree comes from a written expression of at most 1,024 bytes
-tree-case : {syntax : Syntax} {bytes : List ℕ} {outcome : Outcome Atom} {t : Tree Atom} → Case syntax bytes outcome
+tree-case : {syntax : Syntax} {bytes : List ℕ} {outcome : Outcome (Signed-tree Atom)} {t : Signed-tree Atom} → Case syntax bytes outcome
     → outcome ≡ tree t
     → (length bytes ≤ longest-expression) × Written syntax bytes t
 tree-case (empty p) e = no-tree e
@@ -130,37 +153,37 @@ tree-case (long h) e = no-tree e
 tree-case {syntax} {bytes} {t = t} (usual h k) e = (k, scanner-reads syntax bytes t e)
 
 -- a written expression of at most 1,024 bytes has its tree for an outcome
-written-case : {syntax : Syntax} {bytes : List ℕ} {outcome : Outcome Atom} {t : Tree Atom} → Case syntax bytes outcome
+written-case : {syntax : Syntax} {bytes : List ℕ} {outcome : Outcome (Signed-tree Atom)} {t : Signed-tree Atom} → Case syntax bytes outcome
     → length bytes ≤ longest-expression
     → Written syntax bytes t → outcome ≡ tree t
 written-case {bytes = bytes} (empty p) h w = let none : length bytes ≡ 0 =
-    rw p in absurd (omega (arith, written-size w))
+    rw p in absurd (omega (arith, reads-shorter w))
 written-case (long k) h w = absurd (omega arith)
 written-case (usual k l) h w = scanner-gives w
 
 -- an expression is taken with the tree t exactly when it has at most 1,024 bytes and is a written t
-pub scanned-exactly : (syntax : Syntax) (bytes : List ℕ) (t : Tree Atom) → (scanned syntax bytes ≡ tree t)
+pub scanned-exactly : (syntax : Syntax) (bytes : List ℕ) (t : Signed-tree Atom) → (scanned syntax bytes ≡ tree t)
     ↔ ((length bytes ≤ longest-expression) × Written syntax bytes t)
 scanned-exactly syntax bytes t = (tree-case (cases syntax bytes), λ (h, w). written-case (cases syntax bytes) h w)
 
 -- the number of a refusal tells the case apart, since the scan itself gives none below 3
 module _ {syntax : Syntax} {bytes : List ℕ} {place : ℕ} where
   -- 1 comes from no bytes alone
-  empty-case : {outcome : Outcome Atom} → Case syntax bytes outcome → outcome ≡ refused expression-empty place
+  empty-case : {outcome : Outcome (Signed-tree Atom)} → Case syntax bytes outcome → outcome ≡ refused expression-empty place
       → (bytes ≡ []) × (place ≡ 0)
   empty-case (empty p) e = (p, cc)
   empty-case (long h) e = let z : _≡_ {A = ℕ} 2 1 = cc in absurd (omega arith)
   empty-case (usual h k) e = absurd (omega (arith, refused-cases syntax bytes 1 place e))
 
   -- 2 comes from more than 1,024 bytes alone
-  long-case : {outcome : Outcome Atom} → Case syntax bytes outcome → outcome ≡ refused expression-too-long place
+  long-case : {outcome : Outcome (Signed-tree Atom)} → Case syntax bytes outcome → outcome ≡ refused expression-too-long place
       → (longest-expression < length bytes) × (place ≡ longest-expression)
   long-case (empty p) e = let z : _≡_ {A = ℕ} 1 2 = cc in absurd (omega arith)
   long-case (long h) e = (h, cc)
   long-case (usual h k) e = absurd (omega (arith, refused-cases syntax bytes 2 place e))
 
   -- and more than 1,024 bytes give 2
-  long-given : {outcome : Outcome Atom} → Case syntax bytes outcome → longest-expression < length bytes → place
+  long-given : {outcome : Outcome (Signed-tree Atom)} → Case syntax bytes outcome → longest-expression < length bytes → place
       ≡ longest-expression → outcome ≡ refused expression-too-long place
   long-given (empty p) h q = let none : length bytes ≡ 0 = rw p in absurd (omega arith)
   long-given (long k) h q = rw q
@@ -178,12 +201,12 @@ pub two-exactly : (syntax : Syntax) (bytes : List ℕ) (place : ℕ)
     ↔ ((longest-expression < length bytes) × (place ≡ longest-expression))
 two-exactly syntax bytes place = (long-case (cases syntax bytes), λ (h, q). long-given (cases syntax bytes) h q)
 
--- a refusal of an expression by its bytes alone: its number is one of 1 to 7, or 14, and not above the syntax's
+-- a refusal of an expression by its bytes alone: its number is one of 1 to 7, 14 or 16, and not above the syntax's
 -- highest; its place is at most 1,024
 pub record Refusal (syntax : Syntax) (number place : ℕ) : Type 0 where
   pub least : 1 ≤ number
   pub most : number ≤ highest syntax
-  pub named : (number ≤ backslash-before-no-sign) ⊎ (number ≡ class-faulty)
+  pub named : (number ≤ backslash-before-no-sign) ⊎ ((number ≡ class-faulty) ⊎ (number ≡ count-faulty))
   pub inside : place ≤ longest-expression
 
 -- 1 and 2 are such
@@ -193,7 +216,7 @@ early {syntax} l m i =
     record { least = l; most = omega (arith, seven-given syntax); named = inl (omega arith); inside = i }
 
 -- in each of the three cases
-refusal-case : {syntax : Syntax} {bytes : List ℕ} {outcome : Outcome Atom} {number place : ℕ}
+refusal-case : {syntax : Syntax} {bytes : List ℕ} {outcome : Outcome (Signed-tree Atom)} {number place : ℕ}
     → Case syntax bytes outcome → outcome ≡ refused number place → Refusal syntax number place
 refusal-case {number = number} {place = place} (empty p) e =
     let n : expression-empty ≡ number = cc in

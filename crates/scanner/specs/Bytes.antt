@@ -3,18 +3,25 @@ use Prim.Native.Nat.{ℕ}
 use mathlib.Core.Bool.{Bool, true, false, cond}
 use lib.Dec.{eqb}
 
--- the syntax of each of the two readers: the second has the dot and classes
+-- the syntax of each of the two readers: the second has the dot, classes, and the signs `+`, `?` and `{m,n}`
 pub data Syntax : Type 0 where
   first second : Syntax
 
 -- what a byte is where no `\` stands before it
 pub data Sign : Type 0 where
-  opening closing bar asterisk backslash dot bracket end-bracket plain : Sign
+  opening closing bar asterisk backslash dot bracket end-bracket plus question brace end-brace plain : Sign
 
--- `.` `[` `]` are special in the second syntax alone
-abbrev pub sign-of-class : Syntax → ℕ → Sign
-sign-of-class first b = plain
-sign-of-class second b = cond (eqb b 46) dot (cond (eqb b 91) bracket (cond (eqb b 93) end-bracket plain))
+-- `.` `[` `]` `+` `?` `{` `}` are special in the second syntax alone
+abbrev pub sign-of-second : Syntax → ℕ → Sign
+sign-of-second first b = plain
+sign-of-second second b =
+    cond (eqb b 46) dot
+    (cond (eqb b 91) bracket
+    (cond (eqb b 93) end-bracket
+    (cond (eqb b 43) plus
+    (cond (eqb b 63) question
+    (cond (eqb b 123) brace
+    (cond (eqb b 125) end-brace plain))))))
 
 -- `(` `)` `|` `*` `\`, the signs of the second syntax, and every other byte
 abbrev pub sign-of : Syntax → ℕ → Sign
@@ -23,7 +30,7 @@ sign-of syntax b =
     (cond (eqb b 41) closing
     (cond (eqb b 124) bar
     (cond (eqb b 42) asterisk
-    (cond (eqb b 92) backslash (sign-of-class syntax b)))))
+    (cond (eqb b 92) backslash (sign-of-second syntax b)))))
 
 -- whether a byte is special
 abbrev pub special : Sign → Bool
@@ -35,6 +42,10 @@ special backslash = true
 special dot = true
 special bracket = true
 special end-bracket = true
+special plus = true
+special question = true
+special brace = true
+special end-brace = true
 special plain = false
 
 -- the syntax that the readers are told by a flag

@@ -1,33 +1,41 @@
--- What reading a whole expression gives: its tree's labels, or the first refusal of 1 to 7.
+-- What reading a whole expression gives: the labels of the tree that it stands for, or the first refusal of 1 to 7, 14
+-- and 16.
 use Prim.Native.Nat.{ℕ, _<_, _≤_}
 use native.Mathlib.Omega.{arith}
-use mathlib.Core.Path.{_≡_, refl, ap, _∙_}
+use mathlib.Core.Path.{_≡_, refl, ap, sym, _∙_}
 use mathlib.Core.Bool.{Bool, cond}
 use mathlib.Core.List.{List, [], _∷_}
 use lib.ListN.{length, take}
 use borrow.Author.Tests.{lt-ltb, le-ltb}
-use Rattle.language.specs.Tree.{Tree}
+use Rattle.language.specs.Tree.{Tree, nodes}
+use Rattle.language.specs.SignedTree.{Signed-tree}
+use Rattle.language.specs.StandsFor.{stands-for}
+use Rattle.language.specs.SignedSize.{capped}
+use Rattle.language.specs.WithLeavesLaws.{stands-for-leaves, every-stands-for}
 use Rattle.tree.specs.RefusalNumbers.{expression-empty, expression-too-long, closing-without-group}
 use Rattle.tree.specs.Limits.{longest-expression, most-labels}
 use Rattle.tree.specs.Leaf.{Leaf}
 use Rattle.tree.specs.Records.{labels}
 use Rattle.scanner.specs.Bytes.{Syntax}
-use Rattle.scanner.specs.Placed.{written-at, Placed}
-use Rattle.scanner.specs.Scanner.{tree, refused, due, nothing, scan, scanned}
+use Rattle.scanner.specs.Placed.{atom-at, Leaf-placed, written-at, Placed, signs-at}
+use Rattle.scanner.specs.Scanner.{Atom, no-text, tree, refused, due, nothing, scan, scanned}
 use Rattle.scanner.specs.Grammar.{united}
 use Rattle.scanner.specs.Stopping.{closes-united}
 use Rattle.scanner.specs.Surroundings.{from, Fails, accepts, closes-none}
-use Rattle.scanner.specs.Reading.{Whole}
+use Rattle.scanner.specs.Reading.{whole-tree, Whole}
 use Rattle.scanner.specs.declared.part.Part.{Part}
 use Rattle.scanner.specs.declared.part.Part.the-variants.{Read, Refused}
 
--- the expression has a tree, and the first `total` labels are the tree's
+-- the expression has a tree of signs, and the labels are those of the tree that it stands for, while there is room: one
+-- more than there is room for says that it has more nodes
 pub record Expression-read (syntax : Syntax) (bytes later : List ℕ) (total : ℕ) : Type 0 where
+  pub signs : Signed-tree Atom
+  pub scans : scanned syntax bytes ≡ tree signs
   pub read : Tree Leaf
-  pub scans : scanned syntax bytes ≡ tree (written-at bytes read)
+  pub stands : written-at bytes read ≡ stands-for no-text signs
   pub placed : Placed bytes read
-  pub written : take total later ≡ labels read
-  pub bounded : total ≤ most-labels
+  pub counted : total ≡ capped most-labels (nodes read)
+  pub written : total ≤ most-labels → take total later ≡ labels read
 
 -- the expression is refused
 pub record Expression-refused (syntax : Syntax) (bytes : List ℕ) (number place : ℕ) : Type 0 where
@@ -85,10 +93,14 @@ module _ (syntax : Syntax) (bytes : List ℕ) (some : length bytes ≡ 0
 
     -- the end
     pub accepted : next ≡ length bytes → Expression-read syntax bytes later total
-    accepted e = record {
-      read = w .went .read;
-      scans = sized syntax bytes some few ∙ accepts syntax bytes next (w .went .leads) e;
-      placed = w .went .placed;
-      written = w .went .written;
-      bounded = omega arith;
-    }
+    accepted e =
+        let r = w .went in
+        record {
+          signs = signs-at bytes (r .read);
+          scans = sized syntax bytes some few ∙ accepts syntax bytes next (r .leads) e;
+          read = whole-tree (r .read);
+          stands = sym (stands-for-leaves (atom-at bytes) Leaf.empty-text (r .read));
+          placed = every-stands-for (Leaf-placed bytes) Leaf.empty-text tt (r .read) (r .placed);
+          counted = omega (arith, r .labelled .counted);
+          written = r .labelled .written;
+        }

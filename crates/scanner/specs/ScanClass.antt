@@ -2,7 +2,7 @@
 use Prim.Native.Nat.{ℕ, _+_}
 use mathlib.Core.Path.{_≡_, refl}
 use mathlib.Core.List.{List, [], _∷_}
-use Rattle.language.specs.Tree.{leaf}
+use Rattle.language.specs.SignedTree.{Signed-tree, leaf}
 use Rattle.tree.specs.RefusalNumbers.{class-faulty}
 use Rattle.scanner.specs.Bytes.{Syntax}
 use Rattle.classes.specs.Class.{Class, Inside, Step, goes-on, whole, faulty, class-step}
@@ -11,7 +11,7 @@ use Rattle.classes.specs.ClassRun.{Ran, found, failed, ran-on, run}
 
 module _ (syntax : Syntax) (begin : ℕ) (before : Before) (groups : List Group) where
   -- how the scan goes on after a class whose `[` stands at `begin`
-  abbrev pub after-class : Ran → Outcome Atom
+  abbrev pub after-class : Ran → Outcome (Signed-tree Atom)
   after-class (found class rest next) = scan syntax rest next (after (leaf (one-of class))) before groups
   after-class failed = refused class-faulty begin
 

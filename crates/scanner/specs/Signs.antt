@@ -17,12 +17,16 @@ use Rattle.scanner.specs.Bytes.{
   dot,
   bracket,
   end-bracket,
+  plus,
+  question,
+  brace,
+  end-brace,
   plain,
   sign-of,
-  sign-of-class,
+  sign-of-second,
 }
 
--- the byte that a special sign belongs to; three belong to the second syntax
+-- the byte that a special sign belongs to; seven belong to the second syntax
 abbrev pub Means : Syntax → ℕ → Sign → Type 0
 Means syntax b opening = b ≡ 40
 Means syntax b closing = b ≡ 41
@@ -32,6 +36,10 @@ Means syntax b backslash = b ≡ 92
 Means syntax b dot = (syntax ≡ second) × (b ≡ 46)
 Means syntax b bracket = (syntax ≡ second) × (b ≡ 91)
 Means syntax b end-bracket = (syntax ≡ second) × (b ≡ 93)
+Means syntax b plus = (syntax ≡ second) × (b ≡ 43)
+Means syntax b question = (syntax ≡ second) × (b ≡ 63)
+Means syntax b brace = (syntax ≡ second) × (b ≡ 123)
+Means syntax b end-brace = (syntax ≡ second) × (b ≡ 125)
 Means syntax b plain = Unit {0}
 
 -- what holds of the first sign where the test passes, and of the other, holds of the one picked
@@ -39,12 +47,17 @@ picked : (P : Sign → Type 0) (test : Bool) (s r : Sign) → (test ≡ true →
 picked P true s r taken other = taken refl
 picked P false s r taken other = other
 
-class-means : (syntax : Syntax) (b : ℕ) → Means syntax b (sign-of-class syntax b)
-class-means first b = tt
-class-means second b =
+-- the byte of a sign that only the second syntax has
+second-means : (syntax : Syntax) (b : ℕ) → Means syntax b (sign-of-second syntax b)
+second-means first b = tt
+second-means second b =
     picked (Means second b) (eqb b 46) dot _ (λ e. (refl, eqb-true b 46 e))
     (picked (Means second b) (eqb b 91) bracket _ (λ e. (refl, eqb-true b 91 e))
-    (picked (Means second b) (eqb b 93) end-bracket plain (λ e. (refl, eqb-true b 93 e)) tt))
+    (picked (Means second b) (eqb b 93) end-bracket _ (λ e. (refl, eqb-true b 93 e))
+    (picked (Means second b) (eqb b 43) plus _ (λ e. (refl, eqb-true b 43 e))
+    (picked (Means second b) (eqb b 63) question _ (λ e. (refl, eqb-true b 63 e))
+    (picked (Means second b) (eqb b 123) brace _ (λ e. (refl, eqb-true b 123 e))
+    (picked (Means second b) (eqb b 125) end-brace plain (λ e. (refl, eqb-true b 125 e)) tt))))))
 
 -- every byte is the one that its sign belongs to: each test in `sign-of` compares with that byte
 pub sign-means : (syntax : Syntax) (b : ℕ) → Means syntax b (sign-of syntax b)
@@ -53,4 +66,4 @@ sign-means syntax b =
     (picked (Means syntax b) (eqb b 41) closing _ (eqb-true b 41)
     (picked (Means syntax b) (eqb b 124) bar _ (eqb-true b 124)
     (picked (Means syntax b) (eqb b 42) asterisk _ (eqb-true b 42)
-    (picked (Means syntax b) (eqb b 92) backslash _ (eqb-true b 92) (class-means syntax b)))))
+    (picked (Means syntax b) (eqb b 92) backslash _ (eqb-true b 92) (second-means syntax b)))))

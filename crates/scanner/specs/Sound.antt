@@ -10,7 +10,7 @@ use native.Mathlib.Omega.{arith}
 use lib.ListN.{length}
 use lib.Dec.{ltb}
 use borrow.Author.Tests.{ltb-true}
-use Rattle.language.specs.Tree.{Tree, leaf, star}
+use Rattle.language.specs.SignedTree.{Signed-tree, leaf, star, one-or-more as more, optional, counted}
 use Rattle.tree.specs.RefusalNumbers.{too-many-groups, backslash-before-no-sign}
 use Rattle.tree.specs.Limits.{most-groups}
 use Rattle.scanner.specs.Bytes.{
@@ -24,6 +24,10 @@ use Rattle.scanner.specs.Bytes.{
   dot,
   bracket,
   end-bracket,
+  plus,
+  question,
+  brace,
+  end-brace,
   plain,
   sign-of,
   special,
@@ -40,8 +44,17 @@ use Rattle.classes.specs.Class.{
   faulty,
   class-step,
 }
-use Rattle.classes.specs.ClassGrammar.{Spells-class}
 use Rattle.classes.specs.ClassSound.{So-far, at-opened, Kept, step-kept}
+use Rattle.repeats.specs.Count.{
+  Counting,
+  fewest-due,
+  Count-step,
+  goes-on as counts-on,
+  whole as count-whole,
+  faulty as count-wrong,
+  count-step,
+}
+use Rattle.repeats.specs.CountSound.{So-far as Count-so-far, at-opened as at-brace, Kept as Count-kept, step-kept as count-kept}
 use Rattle.scanner.specs.Signs.{Means, sign-means}
 use Rattle.scanner.specs.Scanner.{
   Atom,
@@ -54,6 +67,7 @@ use Rattle.scanner.specs.Scanner.{
   due,
   escaping,
   in-class,
+  in-count,
   after,
   Before,
   Group,
@@ -68,6 +82,7 @@ use Rattle.scanner.specs.Scanner.{
   closed,
   follow,
   classed,
+  recounted,
   byte-at,
   end-at,
   scan,
@@ -83,8 +98,11 @@ use Rattle.scanner.specs.Grammar.{
   any-but-line-end,
   bracketed,
   group,
-  no-star,
+  no-sign,
   one-star,
+  one-or-more,
+  none-or-one,
+  so-many,
   one-factor,
   next-factor,
   one-branch,
@@ -92,12 +110,12 @@ use Rattle.scanner.specs.Grammar.{
 }
 
 -- the union collected: the bytes hold it up to a `|` and go on with `between`, or nothing is collected
-abbrev pub Branches : Syntax → ℕ → List ℕ → List ℕ → Option (Tree Atom) → Type 0
+abbrev pub Branches : Syntax → ℕ → List ℕ → List ℕ → Option (Signed-tree Atom) → Type 0
 Branches syntax depth bytes between none = bytes ≡ between
 Branches syntax depth bytes between (some s) = Spells syntax depth united bytes (124 ∷ between) s
 
 -- the catenation collected: the bytes hold it and go on with the rest, or nothing is collected
-abbrev pub Factors : Syntax → ℕ → List ℕ → List ℕ → Option (Tree Atom) → Type 0
+abbrev pub Factors : Syntax → ℕ → List ℕ → List ℕ → Option (Signed-tree Atom) → Type 0
 Factors syntax depth between rest none = between ≡ rest
 Factors syntax depth between rest (some s) = Spells syntax depth joined between rest s
 
@@ -116,7 +134,7 @@ pub data Read-around (syntax : Syntax) (whole : List ℕ) : List Group → List 
       → Read-around syntax whole (g ∷ groups) inside
 
 -- what the scanner's state says of the bytes before the rest, by its phase: where an operand is due, after a `\`, in a
--- class, after an operand
+-- class, in a count, after an operand
 pub data Read-so-far (syntax : Syntax) (whole : List ℕ) : List ℕ → Phase → Before → List Group → Type 0 where
   at-operand : {inside rest : List ℕ} {before : Before} {groups : List Group} → Read-around syntax whole groups inside
       → Read-before syntax (length groups) inside rest before → Read-so-far syntax whole rest due before groups
@@ -129,7 +147,13 @@ pub data Read-so-far (syntax : Syntax) (whole : List ℕ) : List ℕ → Phase �
       → Read-before syntax (length groups) inside (b ∷ from) before → sign-of syntax b ≡ bracket
       → So-far from rest (class .all-but) (class .items) inner
       → Read-so-far syntax whole rest (in-class place class inner) before groups
-  past-operand : {inside from rest : List ℕ} {before : Before} {groups : List Group} {t : Tree Atom}
+  at-count : {place b : ℕ} {counting : Counting} {inside from after-sign rest : List ℕ} {before : Before}
+      {groups : List Group} {t : Signed-tree Atom} → Read-around syntax whole groups inside
+      → Read-before syntax (length groups) inside from before
+      → Spells syntax (length groups) starred from (b ∷ after-sign) t → sign-of syntax b ≡ brace
+      → Count-so-far after-sign rest counting
+      → Read-so-far syntax whole rest (in-count place t counting) before groups
+  past-operand : {inside from rest : List ℕ} {before : Before} {groups : List Group} {t : Signed-tree Atom}
       → Read-around syntax whole groups inside → Read-before syntax (length groups) inside from before
       → Spells syntax (length groups) starred from rest t → Read-so-far syntax whole rest (after t) before groups
 
@@ -138,23 +162,23 @@ started : {syntax : Syntax} {depth : ℕ} {bytes : List ℕ} → Read-before syn
 started {bytes = bytes} = record { between = bytes; branches = refl; factors = refl }
 
 -- one more factor makes the catenation
-one-more-factor : {syntax : Syntax} {depth : ℕ} {between from rest : List ℕ} {t : Tree Atom} (collected : Option
-    (Tree Atom))
+one-more-factor : {syntax : Syntax} {depth : ℕ} {between from rest : List ℕ} {t : Signed-tree Atom} (collected : Option
+    (Signed-tree Atom))
     → Factors syntax depth between from collected → Spells syntax depth starred from rest t
     → Spells syntax depth joined between rest (catenated collected t)
 one-more-factor none e r = rw e (one-factor r)
 one-more-factor (some s) q r = next-factor q r
 
 -- one more branch makes the union
-one-more-branch : {syntax : Syntax} {depth : ℕ} {bytes between rest : List ℕ} {t : Tree Atom} (collected : Option
-    (Tree Atom))
+one-more-branch : {syntax : Syntax} {depth : ℕ} {bytes between rest : List ℕ} {t : Signed-tree Atom} (collected : Option
+    (Signed-tree Atom))
     → Branches syntax depth bytes between collected → Spells syntax depth joined between rest t
     → Spells syntax depth united bytes rest (branched collected t)
 one-more-branch none e r = rw e (one-branch r)
 one-more-branch (some s) q r = next-branch q r
 
 -- the last operand makes the whole expression of a group
-complete : {syntax : Syntax} {depth : ℕ} {bytes from rest : List ℕ} {before : Before} {t : Tree Atom}
+complete : {syntax : Syntax} {depth : ℕ} {bytes from rest : List ℕ} {before : Before} {t : Signed-tree Atom}
     → Read-before syntax depth bytes from before
     → Spells syntax depth starred from rest t → Spells syntax depth united bytes rest (finished before t)
 complete {before = before} w r =
@@ -162,7 +186,7 @@ complete {before = before} w r =
 
 module _ {syntax : Syntax} {whole rest : List ℕ} {before : Before} {groups : List Group} where
   -- where another operand begins, the one read joins the catenation
-  joins : {t : Tree Atom} → Read-so-far syntax whole rest (after t) before groups
+  joins : {t : Signed-tree Atom} → Read-so-far syntax whole rest (after t) before groups
       → Read-so-far syntax whole rest due (with-factor before t) groups
   joins (past-operand around w r) =
       at-operand around
@@ -174,21 +198,38 @@ module _ {syntax : Syntax} {whole rest : List ℕ} {before : Before} {groups : L
       })
 
   -- a `*` makes a star of the operand
-  stars : {t : Tree Atom} → Read-so-far syntax whole (42 ∷ rest) (after t) before groups
+  stars : {t : Signed-tree Atom} → Read-so-far syntax whole (42 ∷ rest) (after t) before groups
       → Read-so-far syntax whole rest (after (star t)) before groups
   stars (past-operand around w r) = past-operand around w (one-star r)
 
+  -- a `+` and a `?` after the operand
+  takes-plus : {b : ℕ} {t : Signed-tree Atom} → sign-of syntax b ≡ plus
+      → Read-so-far syntax whole (b ∷ rest) (after t) before groups
+      → Read-so-far syntax whole rest (after (more t)) before groups
+  takes-plus p (past-operand around w r) = past-operand around w (one-or-more p r)
+
+  takes-question : {b : ℕ} {t : Signed-tree Atom} → sign-of syntax b ≡ question
+      → Read-so-far syntax whole (b ∷ rest) (after t) before groups
+      → Read-so-far syntax whole rest (after (optional t)) before groups
+  takes-question p (past-operand around w r) = past-operand around w (none-or-one p r)
+
+  -- a `{` begins its count
+  opens-count : {b place : ℕ} {t : Signed-tree Atom} → sign-of syntax b ≡ brace
+      → Read-so-far syntax whole (b ∷ rest) (after t) before groups
+      → Read-so-far syntax whole rest (in-count place t fewest-due) before groups
+  opens-count p (past-operand around w r) = at-count around w r p (at-brace refl)
+
   -- a `|` ends the branch
-  ends-branch : {t : Tree Atom} → Read-so-far syntax whole (124 ∷ rest) (after t) before groups
+  ends-branch : {t : Signed-tree Atom} → Read-so-far syntax whole (124 ∷ rest) (after t) before groups
       → Read-so-far syntax whole rest due (next-union before t) groups
   ends-branch (past-operand around w r) =
       at-operand around (record { between = rest; branches = complete w r; factors = refl })
 
   -- a `)` ends the group: what it held is an operand of what stands around it
-  ends-group : {t : Tree Atom} {g : Group} → Read-so-far syntax whole (41 ∷ rest) (after t) before (g ∷ groups)
+  ends-group : {t : Signed-tree Atom} {g : Group} → Read-so-far syntax whole (41 ∷ rest) (after t) before (g ∷ groups)
       → Read-so-far syntax whole rest (after (finished before t)) (g .outside) groups
   ends-group (past-operand (in-group h around out) w r) =
-      past-operand around out (no-star (group h (rw (← (add-one (length groups))) at (complete w r))))
+      past-operand around out (no-sign (group h (rw (← (add-one (length groups))) at (complete w r))))
 
   -- a `(` opens a group
   opens-group : {place : ℕ} → length groups < most-groups → Read-so-far syntax whole (40 ∷ rest) due before groups
@@ -204,17 +245,17 @@ module _ {syntax : Syntax} {whole rest : List ℕ} {before : Before} {groups : L
   takes-special : {b place : ℕ} → special (sign-of syntax b) ≡ true → Read-so-far syntax whole (b ∷ rest)
       (escaping place) before groups
       → Read-so-far syntax whole rest (after (leaf (literal b))) before groups
-  takes-special p (at-escape around w) = past-operand around w (no-star (escaped p))
+  takes-special p (at-escape around w) = past-operand around w (no-sign (escaped p))
 
   -- a byte that stands for itself
   takes-plain : {b : ℕ} → sign-of syntax b ≡ plain → Read-so-far syntax whole (b ∷ rest) due before groups
       → Read-so-far syntax whole rest (after (leaf (literal b))) before groups
-  takes-plain p (at-operand around w) = past-operand around w (no-star (itself p))
+  takes-plain p (at-operand around w) = past-operand around w (no-sign (itself p))
 
   -- a `.` is an operand
   takes-dot : {b : ℕ} → sign-of syntax b ≡ dot → Read-so-far syntax whole (b ∷ rest) due before groups
       → Read-so-far syntax whole rest (after (leaf (one-of the-dot))) before groups
-  takes-dot p (at-operand around w) = past-operand around w (no-star (any-but-line-end p))
+  takes-dot p (at-operand around w) = past-operand around w (no-sign (any-but-line-end p))
 
   -- a `[` begins a class
   opens-class : {b place : ℕ} → sign-of syntax b ≡ bracket → Read-so-far syntax whole (b ∷ rest) due before groups
@@ -222,15 +263,15 @@ module _ {syntax : Syntax} {whole rest : List ℕ} {before : Before} {groups : L
   opens-class p (at-operand around w) = at-class around w p (at-opened refl)
 
 -- a refusal is no tree
-pub no-tree : {B : Type 0} {number place : ℕ} {t : Tree B} {A : Type 0} → refused number place ≡ tree t → A
+pub no-tree : {T : Type 0} {number place : ℕ} {t : T} {A : Type 0} → refused number place ≡ tree t → A
 no-tree e = let z : _≡_ {A = ℕ} 0 1 = cc in absurd (omega arith)
 
 -- one byte, where what follows it is sound: a state that stands goes over into one that stands, or the byte is refused
-module _ (syntax : Syntax) (whole rest : List ℕ) (t : Tree Atom) (on : Onward)
+module _ (syntax : Syntax) (whole rest : List ℕ) (t : Signed-tree Atom) (on : Onward)
     (sound : (phase : Phase) (before : Before) (groups : List Group) → Read-so-far syntax whole rest phase before groups
     → on phase before groups ≡ tree t → Written syntax whole t) where
   -- a test that has to pass
-  only-true : (test : Bool) (first : Outcome Atom) (number place : ℕ) → (test ≡ true → first ≡ tree t
+  only-true : (test : Bool) (first : Outcome (Signed-tree Atom)) (number place : ℕ) → (test ≡ true → first ≡ tree t
       → Written syntax whole t)
       → cond test first (refused number place) ≡ tree t → Written syntax whole t
   only-true true first number place k e = k refl e
@@ -253,11 +294,15 @@ module _ (syntax : Syntax) (whole rest : List ℕ) (t : Tree Atom) (on : Onward)
   operand-sound bracket b place before groups p m st e =
       sound (in-class place unread opened) before groups (opens-class p st) e
   operand-sound end-bracket b place before groups p m st e = no-tree e
+  operand-sound plus b place before groups p m st e = no-tree e
+  operand-sound question b place before groups p m st e = no-tree e
+  operand-sound brace b place before groups p m st e = no-tree e
+  operand-sound end-brace b place before groups p m st e = no-tree e
   operand-sound plain b place before groups p m st e =
       sound (after (leaf (literal b))) before groups (takes-plain p st) e
 
   -- at a `)` after an operand
-  closed-sound : (s : Tree Atom) (place : ℕ) (before : Before) (groups : List Group)
+  closed-sound : (s : Signed-tree Atom) (place : ℕ) (before : Before) (groups : List Group)
       → Read-so-far syntax whole (41 ∷ rest) (after s) before groups → closed s place on before groups ≡ tree t
       → Written syntax whole t
   closed-sound s place before [] st e = no-tree e
@@ -265,10 +310,15 @@ module _ (syntax : Syntax) (whole rest : List ℕ) (t : Tree Atom) (on : Onward)
       e
 
   -- after an operand
-  follow-sound : (sign : Sign) (b : ℕ) (s : Tree Atom) (place : ℕ) (before : Before) (groups : List Group)
+  follow-sound : (sign : Sign) (b : ℕ) (s : Signed-tree Atom) (place : ℕ) (before : Before) (groups : List Group)
       → sign-of syntax b ≡ sign → Means syntax b sign → Read-so-far syntax whole (b ∷ rest) (after s) before groups
       → follow sign b s place on before groups ≡ tree t → Written syntax whole t
   follow-sound asterisk b s place before groups p m st e = sound (after (star s)) before groups (stars (rw m at st)) e
+  follow-sound plus b s place before groups p m st e = sound (after (more s)) before groups (takes-plus p st) e
+  follow-sound question b s place before groups p m st e =
+      sound (after (optional s)) before groups (takes-question p st) e
+  follow-sound brace b s place before groups p m st e =
+      sound (in-count place s fewest-due) before groups (opens-count p st) e
   follow-sound bar b s place before groups p m st e =
       sound due (next-union before s) groups (ends-branch (rw m at st)) e
   follow-sound closing b s place before groups p m st e = closed-sound s place before groups (rw m at st) e
@@ -282,6 +332,8 @@ module _ (syntax : Syntax) (whole rest : List ℕ) (t : Tree Atom) (on : Onward)
       operand-sound bracket b place (with-factor before s) groups p m (joins st) e
   follow-sound end-bracket b s place before groups p m st e =
       operand-sound end-bracket b place (with-factor before s) groups p m (joins st) e
+  follow-sound end-brace b s place before groups p m st e =
+      operand-sound end-brace b place (with-factor before s) groups p m (joins st) e
   follow-sound plain b s place before groups p m st e =
       operand-sound plain b place (with-factor before s) groups p m (joins st) e
 
@@ -293,8 +345,20 @@ module _ (syntax : Syntax) (whole rest : List ℕ) (t : Tree Atom) (on : Onward)
   class-sound b begin before groups around w p (goes-on class inner) kept e =
       sound (in-class begin class inner) before groups (at-class around w p kept) e
   class-sound b begin before groups around w p (whole-class c) kept e =
-      sound (after (leaf (one-of c))) before groups (past-operand around w (no-star (bracketed p kept))) e
+      sound (after (leaf (one-of c))) before groups (past-operand around w (no-sign (bracketed p kept))) e
   class-sound b begin before groups around w p faulty kept e = no-tree e
+
+  -- in a count
+  count-sound : {inside from after-sign : List ℕ} {s : Signed-tree Atom} (b begin : ℕ) (before : Before)
+      (groups : List Group) → Read-around syntax whole groups inside
+      → Read-before syntax (length groups) inside from before
+      → Spells syntax (length groups) starred from (b ∷ after-sign) s → sign-of syntax b ≡ brace → (step : Count-step)
+      → Count-kept after-sign rest step → recounted step begin s on before groups ≡ tree t → Written syntax whole t
+  count-sound {s = s} b begin before groups around w r p (counts-on counting) kept e =
+      sound (in-count begin s counting) before groups (at-count around w r p kept) e
+  count-sound {s = s} b begin before groups around w r p (count-whole fewest most) kept e =
+      sound (after (counted fewest most s)) before groups (past-operand around w (so-many p r kept)) e
+  count-sound b begin before groups around w r p count-wrong kept e = no-tree e
 
   -- in each phase
   byte-sound : (b place : ℕ) (phase : Phase) (before : Before) (groups : List Group)
@@ -309,24 +373,29 @@ module _ (syntax : Syntax) (whole rest : List ℕ) (t : Tree Atom) (on : Onward)
       from} around w p so-far) e =
       class-sound sign begin before groups around w p (class-step b class inner)
       (step-kept from rest b (class .all-but) (class .items) inner so-far) e
+  byte-sound b place (in-count begin s counting) before groups (at-count {b = sign} {after-sign =
+      after-sign} around w r p so-far) e =
+      count-sound sign begin before groups around w r p (count-step b counting)
+      (count-kept after-sign rest b counting so-far) e
   byte-sound b place (after s) before groups st e =
       follow-sound (sign-of syntax b) b s place before groups refl (sign-means syntax b)
       st e
 
 -- at the end only an operand with no group open gives a tree
-end-sound : (syntax : Syntax) (whole : List ℕ) (t : Tree Atom) (place : ℕ) (phase : Phase) (before : Before)
+end-sound : (syntax : Syntax) (whole : List ℕ) (t : Signed-tree Atom) (place : ℕ) (phase : Phase) (before : Before)
     (groups : List Group)
     → Read-so-far syntax whole [] phase before groups → end-at place phase before groups ≡ tree t
     → Written syntax whole t
 end-sound syntax whole t place due before groups st e = no-tree e
 end-sound syntax whole t place (escaping begin) before groups st e = no-tree e
 end-sound syntax whole t place (in-class begin class inner) before groups st e = no-tree e
+end-sound syntax whole t place (in-count begin s counting) before groups st e = no-tree e
 end-sound syntax whole t place (after s) before [] (past-operand outermost w r) e = let same : finished before s ≡ t =
     cc in rw same at (complete w r)
 end-sound syntax whole t place (after s) before (g ∷ groups) st e = no-tree e
 
 -- by induction on the bytes that are left
-pub scan-sound : (syntax : Syntax) (whole : List ℕ) (t : Tree Atom) (rest : List ℕ) (place : ℕ) (phase : Phase)
+pub scan-sound : (syntax : Syntax) (whole : List ℕ) (t : Signed-tree Atom) (rest : List ℕ) (place : ℕ) (phase : Phase)
     (before : Before)
     (groups : List Group) → Read-so-far syntax whole rest phase before groups
     → scan syntax rest place phase before groups ≡ tree t
@@ -337,6 +406,6 @@ scan-sound syntax whole t (b ∷ rest) place =
     byte-sound syntax whole rest t (scan syntax rest (place + 1)) (scan-sound syntax whole t rest (place + 1)) b place
 
 -- what the scanner gives, is written
-pub scanner-reads : (syntax : Syntax) (bytes : List ℕ) (t : Tree Atom) → scan syntax bytes 0 due nothing [] ≡ tree t
+pub scanner-reads : (syntax : Syntax) (bytes : List ℕ) (t : Signed-tree Atom) → scan syntax bytes 0 due nothing [] ≡ tree t
     → Written syntax bytes t
 scanner-reads syntax bytes t = scan-sound syntax bytes t bytes 0 due nothing [] (at-operand outermost started)

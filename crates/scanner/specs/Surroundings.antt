@@ -10,7 +10,16 @@ use mathlib.Core.List.{List, [], _∷_}
 use lib.ListN.{length, drop, getD}
 use lib.Seq.{drop-cons, drop-length}
 use borrow.Author.Tests.{lt-ltb, le-ltb}
-use Rattle.language.specs.Tree.{Tree, leaf, catenation, union, star}
+use Rattle.language.specs.SignedTree.{
+  Signed-tree,
+  leaf,
+  catenation,
+  union,
+  star,
+  one-or-more,
+  optional,
+  counted,
+}
 use Rattle.tree.specs.RefusalNumbers.{
   operand-missing,
   group-left-open,
@@ -18,6 +27,7 @@ use Rattle.tree.specs.RefusalNumbers.{
   too-many-groups,
   backslash-before-no-sign,
   class-faulty,
+  count-faulty,
 }
 use Rattle.tree.specs.Limits.{most-groups}
 use Rattle.scanner.specs.Bytes.{
@@ -32,14 +42,21 @@ use Rattle.scanner.specs.Bytes.{
   dot,
   bracket,
   end-bracket,
+  plus,
+  question,
+  brace,
+  end-brace,
   plain,
   sign-of,
   special,
 }
 use Rattle.classes.specs.Class.{Class, the-dot, unread, opened as class-opened}
-use Rattle.classes.specs.ClassRun.{Ran, found, failed, run}
+use Rattle.classes.specs.ClassRun.{found, failed}
 use Rattle.scanner.specs.ScanClass.{after-class, scan-class}
 use Rattle.classes.specs.ClassAt.{run-at}
+use Rattle.repeats.specs.Count.{fewest-due}
+use Rattle.repeats.specs.CountRun.{found as count-found, failed as count-failed, count-at}
+use Rattle.scanner.specs.ScanCount.{after-count, scan-count}
 use Rattle.scanner.specs.Signs.{Means, sign-means}
 use Rattle.scanner.specs.Scanner.{
   Atom,
@@ -50,7 +67,6 @@ use Rattle.scanner.specs.Scanner.{
   Phase,
   due,
   escaping,
-  in-class,
   after,
   Before,
   Group,
@@ -82,7 +98,7 @@ seen united before = nothing
 
 -- in all surroundings with `depth` groups open, scanning on from `at` with an operand due is scanning on from `next`
 -- after t
-pub record Leads (syntax : Syntax) (level : Level) (bytes : List ℕ) (depth at : ℕ) (t : Tree Atom)
+pub record Leads (syntax : Syntax) (level : Level) (bytes : List ℕ) (depth at : ℕ) (t : Signed-tree Atom)
     (next : ℕ) : Type 0 where
   pub onward : (before : Before) (groups : List Group) → length groups ≡ depth
       → from syntax bytes at due (seen level before) groups
@@ -94,12 +110,16 @@ pub record Fails (syntax : Syntax) (level : Level) (bytes : List ℕ) (depth at 
       → from syntax bytes at due (seen level before) groups ≡ refused number place
 
 -- where an operand stops it makes no difference whether it is still a factor of its own or the catenation's last
-factor-follow : (u : Option (Tree Atom)) (s t : Tree Atom) (sign : Sign) (b place : ℕ) (on : Onward)
+factor-follow : (u : Option (Signed-tree Atom)) (s t : Signed-tree Atom) (sign : Sign) (b place : ℕ) (on : Onward)
     (groups : List Group) → stopping starred sign ≡ true
     → follow sign b t place on (record { unions = u; factors = some s }) groups
     ≡ follow sign b (catenation s t) place on (record { unions = u; factors = none }) groups
 factor-follow u s t asterisk b place on groups stop = cc
+factor-follow u s t plus b place on groups stop = cc
+factor-follow u s t question b place on groups stop = cc
+factor-follow u s t brace b place on groups stop = cc
 factor-follow u s t opening b place on groups stop = refl
+factor-follow u s t end-brace b place on groups stop = refl
 factor-follow u s t bar b place on groups stop = refl
 factor-follow u s t backslash b place on groups stop = refl
 factor-follow u s t dot b place on groups stop = refl
@@ -110,10 +130,14 @@ factor-follow u s t closing b place on [] stop = refl
 factor-follow u s t closing b place on (group ∷ groups) stop = refl
 
 -- where a catenation stops it makes no difference whether it is still a branch of its own or the union's last
-branch-follow : (s t : Tree Atom) (sign : Sign) (b place : ℕ) (on : Onward) (groups : List Group)
+branch-follow : (s t : Signed-tree Atom) (sign : Sign) (b place : ℕ) (on : Onward) (groups : List Group)
     → stopping joined sign ≡ true → follow sign b t place on (record { unions = some s; factors = none }) groups
     ≡ follow sign b (union s t) place on nothing groups
 branch-follow s t asterisk b place on groups stop = cc
+branch-follow s t plus b place on groups stop = cc
+branch-follow s t question b place on groups stop = cc
+branch-follow s t brace b place on groups stop = cc
+branch-follow s t end-brace b place on groups stop = cc
 branch-follow s t opening b place on groups stop = cc
 branch-follow s t backslash b place on groups stop = cc
 branch-follow s t dot b place on groups stop = cc
@@ -125,13 +149,13 @@ branch-follow s t closing b place on [] stop = refl
 branch-follow s t closing b place on (group ∷ groups) stop = refl
 
 -- at the end only the finished tree counts
-end-same : (t : Tree Atom) (place : ℕ) (before : Before) (s : Tree Atom) (other : Before) (groups : List Group)
+end-same : (t : Signed-tree Atom) (place : ℕ) (before : Before) (s : Signed-tree Atom) (other : Before) (groups : List Group)
     → finished before t ≡ finished other s → end-at place (after t) before groups ≡ end-at place (after s) other groups
 end-same t place before s other [] e = ap tree e
 end-same t place before s other (group ∷ groups) e = refl
 
 -- before the next operand the last one is taken into the catenation
-begin-follow : (sign : Sign) (b : ℕ) (t : Tree Atom) (place : ℕ) (on : Onward) (before : Before) (groups : List Group)
+begin-follow : (sign : Sign) (b : ℕ) (t : Signed-tree Atom) (place : ℕ) (on : Onward) (before : Before) (groups : List Group)
     → beginning sign ≡ true → follow sign b t place on before groups
     ≡ operand sign b place on (next-factor before t) groups
 begin-follow opening b t place on before groups e = refl
@@ -139,12 +163,16 @@ begin-follow backslash b t place on before groups e = refl
 begin-follow dot b t place on before groups e = refl
 begin-follow bracket b t place on before groups e = refl
 begin-follow end-bracket b t place on before groups e = refl
+begin-follow end-brace b t place on before groups e = refl
 begin-follow plain b t place on before groups e = refl
+begin-follow plus b t place on before groups e = cc
+begin-follow question b t place on before groups e = cc
+begin-follow brace b t place on before groups e = cc
 begin-follow asterisk b t place on before groups e = cc
 begin-follow bar b t place on before groups e = cc
 begin-follow closing b t place on before groups e = cc
 
--- a sign that only the second syntax has
+-- a sign that only the second syntax has, where an operand is due: it begins one, or is a fault of its own
 abbrev pub class-begins : Sign → Bool
 class-begins opening = false
 class-begins closing = false
@@ -154,21 +182,29 @@ class-begins backslash = false
 class-begins dot = true
 class-begins bracket = true
 class-begins end-bracket = true
+class-begins plus = false
+class-begins question = false
+class-begins brace = false
+class-begins end-brace = true
 class-begins plain = false
 
--- where an operand is due, a special byte of both syntaxes other than `(` and `\` is a fault
+-- where an operand is due, every other special byte but `(` and `\` is 3
 due-special : (syntax : Syntax) (sign : Sign) (b place : ℕ) (on : Onward) (before : Before) (groups : List Group)
     → Means syntax b sign → (b ≡ 40 → ⊥) → (b ≡ 92 → ⊥) → class-begins sign ≡ false → special sign ≡ true
     → operand sign b place on before groups ≡ refused operand-missing place
 due-special syntax closing b place on before groups means no-opening no-backslash common e = refl
 due-special syntax bar b place on before groups means no-opening no-backslash common e = refl
 due-special syntax asterisk b place on before groups means no-opening no-backslash common e = refl
+due-special syntax plus b place on before groups means no-opening no-backslash common e = refl
+due-special syntax question b place on before groups means no-opening no-backslash common e = refl
+due-special syntax brace b place on before groups means no-opening no-backslash common e = refl
 due-special syntax opening b place on before groups means no-opening no-backslash common e = absurd (no-opening means)
 due-special syntax backslash b place on before groups means no-opening no-backslash common e =
     absurd (no-backslash means)
 due-special syntax dot b place on before groups means no-opening no-backslash common e = cc
 due-special syntax bracket b place on before groups means no-opening no-backslash common e = cc
 due-special syntax end-bracket b place on before groups means no-opening no-backslash common e = cc
+due-special syntax end-brace b place on before groups means no-opening no-backslash common e = cc
 due-special syntax plain b place on before groups means no-opening no-backslash common e = cc
 
 module _ (syntax : Syntax) (bytes : List ℕ) where
@@ -200,7 +236,7 @@ module _ (syntax : Syntax) (bytes : List ℕ) where
   at-due at before groups h e = from-byte at due before groups h
       ∙ ap (λ (s : Sign). operand s (byte at) at (from syntax bytes (at + 1)) before groups) e
 
-  at-after : {s : Sign} (at : ℕ) (t : Tree Atom) (before : Before) (groups : List Group) → at < length bytes
+  at-after : {s : Sign} (at : ℕ) (t : Signed-tree Atom) (before : Before) (groups : List Group) → at < length bytes
       → sign-of syntax (byte at) ≡ s → from syntax bytes at (after t) before groups
       ≡ follow s (byte at) t at (from syntax bytes (at + 1)) before groups
   at-after at t before groups h e = from-byte at (after t) before groups h
@@ -251,7 +287,7 @@ module _ (syntax : Syntax) (bytes : List ℕ) where
   pub fails-end : (depth at : ℕ) → at ≡ length bytes → Fails syntax starred bytes depth at operand-missing at
   fails-end depth at e = record { onward = λ before groups d. rw e (from-end due before groups) }
 
-  -- a `|`, `*` or `)` where an operand is due
+  -- a `|`, `)`, `*`, `+`, `?` or `{` where an operand is due
   pub fails-special : (depth at : ℕ) → at < length bytes → (byte at ≡ 40 → ⊥) → (byte at ≡ 92 → ⊥)
       → class-begins (sign-of syntax (byte at)) ≡ false → special (sign-of syntax (byte at)) ≡ true
       → Fails syntax starred bytes depth at operand-missing at
@@ -264,7 +300,7 @@ module _ (syntax : Syntax) (bytes : List ℕ) where
       }
 
   -- a star of what was read
-  pub leads-star : {depth at : ℕ} {t : Tree Atom} (place : ℕ) → Leads syntax starred bytes depth at t place
+  pub leads-star : {depth at : ℕ} {t : Signed-tree Atom} (place : ℕ) → Leads syntax starred bytes depth at t place
       → place < length bytes → byte place ≡ 42 → Leads syntax starred bytes depth at (star t) (place + 1)
   leads-star place l h e =
       record {
@@ -310,7 +346,7 @@ module _ (syntax : Syntax) (bytes : List ℕ) where
       }
 
   -- the end comes with a group open
-  pub fails-open : {depth : ℕ} {t : Tree Atom} (at next : ℕ) → Leads syntax united bytes (depth + 1) (at + 1) t next
+  pub fails-open : {depth : ℕ} {t : Signed-tree Atom} (at next : ℕ) → Leads syntax united bytes (depth + 1) (at + 1) t next
       → next ≡ length bytes → depth < most-groups → at < length bytes → byte at ≡ 40
       → Fails syntax starred bytes depth at group-left-open at
   fails-open at next l end few h e =
@@ -322,7 +358,7 @@ module _ (syntax : Syntax) (bytes : List ℕ) where
       }
 
   -- a group that is closed
-  pub leads-group : {depth : ℕ} {t : Tree Atom} (at next : ℕ) → Leads syntax united bytes (depth + 1) (at + 1) t next
+  pub leads-group : {depth : ℕ} {t : Signed-tree Atom} (at next : ℕ) → Leads syntax united bytes (depth + 1) (at + 1) t next
       → next < length bytes → byte next ≡ 41 → depth < most-groups → at < length bytes → byte at ≡ 40
       → Leads syntax starred bytes depth at t (next + 1)
   leads-group at next l inside closes few h e =
@@ -334,11 +370,11 @@ module _ (syntax : Syntax) (bytes : List ℕ) where
       }
 
   -- an operand is a catenation, and a catenation a union
-  pub leads-joined : {depth at next : ℕ} {t : Tree Atom} → Leads syntax starred bytes depth at t next
+  pub leads-joined : {depth at next : ℕ} {t : Signed-tree Atom} → Leads syntax starred bytes depth at t next
       → Leads syntax joined bytes depth at t next
   leads-joined l = record { onward = λ before groups d. l .onward (seen joined before) groups d }
 
-  pub leads-united : {depth at next : ℕ} {t : Tree Atom} → Leads syntax joined bytes depth at t next
+  pub leads-united : {depth at next : ℕ} {t : Signed-tree Atom} → Leads syntax joined bytes depth at t next
       → Leads syntax united bytes depth at t next
   leads-united l = record { onward = λ before groups d. l .onward nothing groups d }
 
@@ -351,7 +387,7 @@ module _ (syntax : Syntax) (bytes : List ℕ) where
   fails-united f = record { onward = λ before groups d. f .onward nothing groups d }
 
   -- where a reading stops, two states of the scanner that go on alike there are the same
-  stopped : {level : Level} (t s : Tree Atom) (before other : Before) (groups : List Group) (place : ℕ)
+  stopped : {level : Level} (t s : Signed-tree Atom) (before other : Before) (groups : List Group) (place : ℕ)
       → Stops syntax level bytes place → finished before t ≡ finished other s
       → ((sign : Sign) → stopping level sign ≡ true
       → follow sign (byte place) t place (from syntax bytes (place + 1)) before groups
@@ -364,7 +400,7 @@ module _ (syntax : Syntax) (bytes : List ℕ) where
       ∙ alike (sign-of syntax (byte place)) stop ∙ sym (from-byte place (after s) other groups h)
 
   -- the next operand is due where a catenation does not stop
-  begins : (place : ℕ) (t : Tree Atom) (before : Before) (groups : List Group) → place < length bytes
+  begins : (place : ℕ) (t : Signed-tree Atom) (before : Before) (groups : List Group) → place < length bytes
       → beginning (sign-of syntax (byte place)) ≡ true → from syntax bytes place (after t) before groups
       ≡ from syntax bytes place due (next-factor before t) groups
   begins place t before groups h e = from-byte place (after t) before groups h
@@ -372,9 +408,9 @@ module _ (syntax : Syntax) (bytes : List ℕ) where
       ∙ sym (from-byte place due (next-factor before t) groups h)
 
   -- a catenation with one more operand
-  module _ {depth at : ℕ} {s : Tree Atom} (place : ℕ) (l : Leads syntax joined bytes depth at s place)
+  module _ {depth at : ℕ} {s : Signed-tree Atom} (place : ℕ) (l : Leads syntax joined bytes depth at s place)
       (h : place < length bytes) (more : beginning (sign-of syntax (byte place)) ≡ true) where
-    pub leads-factor : {next : ℕ} {t : Tree Atom} → Leads syntax starred bytes depth place t next
+    pub leads-factor : {next : ℕ} {t : Signed-tree Atom} → Leads syntax starred bytes depth place t next
         → Stops syntax starred bytes next
         → Leads syntax joined bytes depth at (catenation s t) next
     leads-factor {next} {t} r stop =
@@ -398,13 +434,13 @@ module _ (syntax : Syntax) (bytes : List ℕ) where
         }
 
   -- a union with one more branch
-  module _ {depth at : ℕ} {s : Tree Atom} (place : ℕ) (l : Leads syntax united bytes depth at s place)
+  module _ {depth at : ℕ} {s : Signed-tree Atom} (place : ℕ) (l : Leads syntax united bytes depth at s place)
       (h : place < length bytes) (e : byte place ≡ 124) where
     branches : (groups : List Group) → length groups ≡ depth → from syntax bytes at due nothing groups
         ≡ from syntax bytes (place + 1) due (next-union nothing s) groups
     branches groups d = l .onward nothing groups d ∙ at-after place s nothing groups h (ap (sign-of syntax) e)
 
-    pub leads-branch : {next : ℕ} {t : Tree Atom} → Leads syntax joined bytes depth (place + 1) t next
+    pub leads-branch : {next : ℕ} {t : Signed-tree Atom} → Leads syntax joined bytes depth (place + 1) t next
         → Stops syntax joined bytes next → Leads syntax united bytes depth at (union s t) next
     leads-branch {next} {t} r stop =
         record {
@@ -421,7 +457,7 @@ module _ (syntax : Syntax) (bytes : List ℕ) where
         record { onward = λ before groups d. branches groups d ∙ f .onward (next-union nothing s) groups d }
 
   -- the whole expression was read: nothing is before it, and no group is open
-  module _ {t : Tree Atom} (next : ℕ) (l : Leads syntax united bytes 0 0 t next) where
+  module _ {t : Signed-tree Atom} (next : ℕ) (l : Leads syntax united bytes 0 0 t next) where
     pub accepts : next ≡ length bytes → from syntax bytes 0 due nothing [] ≡ tree t
     accepts e = l .onward nothing [] refl ∙ rw e (from-end (after t) nothing [])
 
@@ -438,6 +474,11 @@ module _ (bytes : List ℕ) (depth at : ℕ) (h : at < length bytes) where
   -- a `]` outside a class
   pub fails-end-bracket : getD bytes at 0 ≡ 93 → Fails second starred bytes depth at class-faulty at
   fails-end-bracket e =
+      record { onward = λ before groups d. at-due second bytes at before groups h (ap (sign-of second) e) }
+
+  -- a `}` outside a count
+  pub fails-end-brace : getD bytes at 0 ≡ 125 → Fails second starred bytes depth at count-faulty at
+  fails-end-brace e =
       record { onward = λ before groups d. at-due second bytes at before groups h (ap (sign-of second) e) }
 
   -- a `[` leads into a class
@@ -461,3 +502,49 @@ module _ (bytes : List ℕ) (depth at : ℕ) (h : at < length bytes) where
       → Fails second starred bytes depth at class-faulty at
   fails-class e f =
       record { onward = λ before groups d. enters e before groups ∙ ap (after-class second at before groups) f }
+
+-- the signs after an operand that only the second syntax has
+module _ {bytes : List ℕ} {depth at : ℕ} {t : Signed-tree Atom} (place : ℕ)
+    (l : Leads second starred bytes depth at t place) (h : place < length bytes) where
+  -- one or more of what was read
+  pub leads-more : getD bytes place 0 ≡ 43 → Leads second starred bytes depth at (one-or-more t) (place + 1)
+  leads-more e =
+      record {
+        onward = λ before groups d. l .onward before groups d
+            ∙ at-after second bytes place _ before groups h (ap (sign-of second) e);
+      }
+
+  -- none or one of it
+  pub leads-optional : getD bytes place 0 ≡ 63 → Leads second starred bytes depth at (optional t) (place + 1)
+  leads-optional e =
+      record {
+        onward = λ before groups d. l .onward before groups d
+            ∙ at-after second bytes place _ before groups h (ap (sign-of second) e);
+      }
+
+  -- a `{` leads into its count
+  enters-count : getD bytes place 0 ≡ 123 → (before : Before) (groups : List Group) → length groups ≡ depth
+      → from second bytes at due before groups
+      ≡ after-count second place t before groups (count-at bytes place)
+  unfolding from count-at
+  enters-count e before groups d =
+      l .onward before groups d ∙ at-after second bytes place _ before groups h (ap (sign-of second) e)
+      ∙ scan-count second place t before groups (drop (place + 1) bytes) (place + 1) fewest-due
+
+  -- a count of it
+  pub leads-counted : {fewest most next : ℕ} → getD bytes place 0 ≡ 123
+      → count-at bytes place ≡ count-found fewest most (drop next bytes) next
+      → Leads second starred bytes depth at (counted fewest most t) next
+  unfolding from
+  leads-counted e f =
+      record {
+        onward = λ before groups d. enters-count e before groups d ∙ ap (after-count second place t before groups) f;
+      }
+
+  -- a count that is not of the form
+  pub fails-count : getD bytes place 0 ≡ 123 → count-at bytes place ≡ count-failed
+      → Fails second starred bytes depth at count-faulty place
+  fails-count e f =
+      record {
+        onward = λ before groups d. enters-count e before groups d ∙ ap (after-count second place t before groups) f;
+      }

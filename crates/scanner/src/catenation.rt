@@ -1,6 +1,7 @@
 // A catenation: operands one after the other, up to a `|`, a `)` or the end.
 use crate::operand::operand;
 use crate::part::Part;
+use repeats::copies::put_label;
 use tree::layout::CATENATION_LABEL;
 ghost use Rattle.scanner.specs.Bytes.{syntax-of};
 ghost use Rattle.scanner.specs.Grammar.{joined};
@@ -37,8 +38,7 @@ pub fn catenation(
         let Part::Read { next, count } = part else {
             return part;
         };
-        labels[count] = CATENATION_LABEL;
-        n = count + 1;
+        n = put_label(labels, count, CATENATION_LABEL);
         place = next;
     }
     Part::Read {

@@ -1,20 +1,22 @@
 // One character: a byte that stands for itself, or a special byte after a `\`.
 use crate::part::Part;
+use repeats::copies::put_label;
 use tree::layout::CHARACTER;
 use tree::layout::label_of;
 use tree::refusal_numbers::BACKSLASH_BEFORE_NO_SIGN;
 use tree::refusal_numbers::OPERAND_MISSING;
 ghost use mathlib.Core.Path.{_≡_};
 ghost use mathlib.Core.Bool.{true, false};
-ghost use Prim.Native.Nat.{_+_, _<_};
-ghost use lib.ListN.{length, getD, set};
-ghost use Rattle.scanner.specs.Bytes.{syntax-of, sign-of, sign-of-class, special};
+ghost use Prim.Native.Nat.{_<_};
+ghost use lib.ListN.{length, getD};
+ghost use Rattle.repeats.specs.Labelled.{Label-room};
+ghost use Rattle.scanner.specs.Bytes.{syntax-of, sign-of, sign-of-second, special};
 ghost use Rattle.scanner.specs.Surroundings.{class-begins};
-ghost use Rattle.scanner.specs.Reading.{Scratch-room, Character-answer};
+ghost use Rattle.scanner.specs.Reading.{Scratch-room, Character-answer, Leaf-answer};
 
-// Whether a byte is one of the three that are special in the second syntax alone.
-fn is_class_sign(byte: u8) -> bool
-    ensures { λ r. ⌜ r ≡ special (sign-of-class (syntax-of true) byte) ⌝ }
+// Whether a byte is one of those that are special in the second syntax alone.
+fn is_second_sign(byte: u8) -> bool
+    ensures { λ r. ⌜ r ≡ special (sign-of-second (syntax-of true) byte) ⌝ }
 {
     if byte == b'.' {
         return true;
@@ -22,7 +24,19 @@ fn is_class_sign(byte: u8) -> bool
     if byte == b'[' {
         return true;
     }
-    byte == b']'
+    if byte == b']' {
+        return true;
+    }
+    if byte == b'+' {
+        return true;
+    }
+    if byte == b'?' {
+        return true;
+    }
+    if byte == b'{' {
+        return true;
+    }
+    byte == b'}'
 }
 
 // Whether a byte is special.
@@ -45,26 +59,24 @@ fn is_special(byte: u8, second: bool) -> bool
         return true;
     }
     if second {
-        return is_class_sign(byte);
+        return is_second_sign(byte);
     }
     false
 }
 
 // Writes the label of a leaf.
 pub fn leaf(label: u16, next: usize, labels: &mut [u16], count: usize) -> Part
-    requires { ⌜ count < length (now labels) ⌝ }
-    ensures answer { λ r. ⌜ r ≡ Part.Read next (count + 1) ⌝ }
-    ensures written { λ r. ⌜ now (labels .exit) ≡ set (now (labels .entry)) count label ⌝ }
+    requires { ⌜ Label-room (now labels) count ⌝ }
+    ensures { λ r. ⌜ Leaf-answer label next count (now (labels .entry)) (now (labels .exit)) r ⌝ }
 {
-    labels[count] = label;
     Part::Read {
         next,
-        count: count + 1,
+        count: put_label(labels, count, label),
     }
 }
 
-// Reads the character at a place: 3 where a `|`, `*` or `)` stands there, 7 at a `\` that is last or not before a
-// special byte.
+// Reads the character at a place: 3 where a `|`, `)`, `*`, `+`, `?` or `{` stands there, 7 at a `\` that is last or not
+// before a special byte.
 pub fn character(expr: &[u8], at: usize, labels: &mut [u16], count: usize, second: bool) -> Part
     requires within { ⌜ at < length (now expr) ⌝ }
     requires character { ⌜ (getD (now expr) at 0 ≡ 40 → ⊥) ⌝ }

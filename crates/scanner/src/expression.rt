@@ -11,7 +11,8 @@ ghost use Rattle.tree.specs.Limits.{most-labels};
 ghost use Rattle.scanner.specs.Bytes.{syntax-of};
 ghost use Rattle.scanner.specs.Expression.{Expression-answer};
 
-// Writes the labels of an expression's tree: refuses by 1, 2, or the first fault from left to right.
+// Writes the labels of the tree that an expression stands for, while there is room: refuses by 1, 2, or the first fault
+// from left to right.
 pub fn expression(expr: &[u8], labels: &mut [u16], second: bool) -> Part
     requires { ⌜ most-labels ≤ length (now labels) ⌝ }
     ensures { λ r. ⌜ Expression-answer (syntax-of second) (now (expr .entry)) (now (labels .exit)) r ⌝ }

@@ -1,7 +1,7 @@
-// An operand with its stars: a single one, or a group.
+// An operand with its signs: a single one, or a group.
 use crate::part::Part;
+use crate::signs::signs;
 use crate::single::single;
-use crate::stars::stars;
 use crate::union::union;
 use tree::limits::MOST_GROUPS;
 use tree::refusal_numbers::GROUP_LEFT_OPEN;
@@ -11,7 +11,7 @@ ghost use Rattle.scanner.specs.Bytes.{syntax-of};
 ghost use Rattle.scanner.specs.Grammar.{starred};
 ghost use Rattle.scanner.specs.Reading.{Scratch-room, Part-answer};
 
-// Reads the operand at a place: 3 where none stands there, 4 and 6 at a `(`, 7 and 14.
+// Reads the operand at a place: 3 where none stands there, 4 and 6 at a `(`, 7, 14 and 16. Its labels begin at `count`.
 pub fn operand(
     expr: &[u8],
     at: usize,
@@ -25,6 +25,7 @@ pub fn operand(
         (now (labels .entry)) (now
         (labels .exit)) r ⌝ }
 {
+    let begin = count;
     if at == expr.len() {
         return Part::Refused {
             number: OPERAND_MISSING,
@@ -39,7 +40,7 @@ pub fn operand(
             };
         }
         let open = at;
-        let inner = union(expr, open + 1, depth + 1, labels, count, second);
+        let inner = union(expr, open + 1, depth + 1, labels, begin, second);
         let Part::Read { next, count } = inner else {
             return inner;
         };
@@ -49,11 +50,11 @@ pub fn operand(
                 place: open,
             };
         }
-        return stars(expr, next + 1, labels, count);
+        return signs(expr, next + 1, labels, begin, count, second);
     }
-    let part = single(expr, at, labels, count, second);
+    let part = single(expr, at, labels, begin, second);
     let Part::Read { next, count } = part else {
         return part;
     };
-    stars(expr, next, labels, count)
+    signs(expr, next, labels, begin, count, second)
 }

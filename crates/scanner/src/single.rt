@@ -6,6 +6,7 @@ use classes::class::class_end;
 use classes::part::ClassPart;
 use tree::layout::class_label;
 use tree::refusal_numbers::CLASS_FAULTY;
+use tree::refusal_numbers::COUNT_FAULTY;
 ghost use Prim.Native.Nat.{_<_};
 ghost use mathlib.Core.Path.{_≡_};
 ghost use mathlib.Core.Bool.{true};
@@ -31,7 +32,7 @@ fn class(expr: &[u8], begin: usize, labels: &mut [u16], count: usize) -> Part
     leaf(class_label(begin), next, labels, count)
 }
 
-// Reads the operand at a place in the second syntax: 14 at a `]`.
+// Reads the operand at a place in the second syntax: 14 at a `]`, 16 at a `}`.
 fn second_single(expr: &[u8], at: usize, labels: &mut [u16], count: usize) -> Part
     requires within { ⌜ at < length (now expr) ⌝ }
     requires character { ⌜ (getD (now expr) at 0 ≡ 40 → ⊥) ⌝ }
@@ -49,6 +50,12 @@ fn second_single(expr: &[u8], at: usize, labels: &mut [u16], count: usize) -> Pa
     if byte == b']' {
         return Part::Refused {
             number: CLASS_FAULTY,
+            place: at,
+        };
+    }
+    if byte == b'}' {
+        return Part::Refused {
+            number: COUNT_FAULTY,
             place: at,
         };
     }

@@ -1,6 +1,7 @@
 // A union: catenations with `|` between them, up to a `)` or the end.
 use crate::catenation::catenation;
 use crate::part::Part;
+use repeats::copies::put_label;
 use tree::layout::UNION_LABEL;
 ghost use Rattle.scanner.specs.Bytes.{syntax-of};
 ghost use Rattle.scanner.specs.Grammar.{united};
@@ -33,8 +34,7 @@ pub fn union(
         let Part::Read { next, count } = part else {
             return part;
         };
-        labels[count] = UNION_LABEL;
-        n = count + 1;
+        n = put_label(labels, count, UNION_LABEL);
         place = next;
     }
     Part::Read {

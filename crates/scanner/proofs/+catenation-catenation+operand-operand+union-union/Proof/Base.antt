@@ -16,7 +16,8 @@ use Rattle.scanner.proofs.union.union.Reads as union
 use Rattle.scanner.proofs.union.union.Kinds as union-kinds
 use Rattle.scanner.proofs.+catenation-catenation+operand-operand+union-union.Lts-union-union as union-lts
 use Rattle.scanner.proofs.single.single.Reads as single-reads
-use Rattle.scanner.proofs.stars.stars.Reads as stars-reads
+use Rattle.scanner.proofs.signs.signs.Reads as signs-reads
+use Rattle.repeats.proofs.copies.put_label.Reads as put-label-reads
 
 abbrev pub μ-operand : Measures 2 operand-kinds.ps ℕ
 μ-operand κs a = 3 * (length (a .0 .now) - a .1 .0) + 0
@@ -53,16 +54,16 @@ abbrev pub operand-claims : ℕ → operand-lts.Claims
 operand-claims t = (
   union-below t,
   union.Post,
-  stars-reads.Asked,
-  stars-reads.Learnt,
+  signs-reads.Asked,
+  signs-reads.Learnt,
   single-reads.Asked,
   single-reads.Learnt,
 )
 
 -- what `catenation` knows of those that it calls
 abbrev pub catenation-claims : ℕ → catenation-lts.Claims
-catenation-claims t = (operand-below t, operand.Post)
+catenation-claims t = (operand-below t, operand.Post, put-label-reads.Asked, put-label-reads.Learnt)
 
 -- what `union` knows of those that it calls
 abbrev pub union-claims : ℕ → union-lts.Claims
-union-claims t = (catenation-below t, catenation.Post)
+union-claims t = (catenation-below t, catenation.Post, put-label-reads.Asked, put-label-reads.Learnt)

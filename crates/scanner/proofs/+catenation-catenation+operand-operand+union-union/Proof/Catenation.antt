@@ -1,16 +1,17 @@
--- `reader::catenation::catenation`. The loop's invariant: what was read where the loop begins is read on up to `place`,
+-- `scanner::catenation::catenation`. The loop's invariant: what was read where the loop begins is read on up to `place`,
 -- and an operand ends there.
 use Prim.Native.Nat.{ℕ, _-_}
 use mathlib.Core.Path.{_≡_, refl, _∙_}
 use native.Mathlib.Omega.{arith}
 use borrow.Author.Needs.{needs}
-use lib.ListN.{length, getD, length-set}
+use lib.ListN.{length, getD}
 use mathlib.Core.Bool.{true}
 use Rattle.scanner.specs.Bytes.{syntax-of, sign-of}
 use Rattle.scanner.specs.Grammar.{starred, joined}
 use Rattle.scanner.specs.Stopping.{Stops, at-end, beginning, stops-at, begins-next}
 use Rattle.scanner.specs.Surroundings.{fails-joined, fails-factor}
-use Rattle.scanner.specs.Reading.{Carries, Whole, Read-up-to, went-joined, went-factor}
+use Rattle.scanner.specs.Reading.{Carries, Whole, Read-up-to}
+use Rattle.scanner.specs.ReadingLaws.{went-joined, went-factor}
 use Rattle.scanner.proofs.catenation.catenation.Reads as catenation
 use Rattle.scanner.proofs.+catenation-catenation+operand-operand+union-union.Lts-catenation-catenation as lts
 use Rattle.scanner.proofs.+catenation-catenation+operand-operand+union-union.Proof.Base.{
@@ -20,7 +21,7 @@ use Rattle.scanner.proofs.+catenation-catenation+operand-operand+union-
 
 abbrev pub Inv-loop : lts.InvT-loop
 Inv-loop expr at depth labels₀ count second next count' place₀ n₀ labels place n =
-    Carries (syntax-of second) joined expr depth place₀ n₀ labels₀ place n labels
+    Carries (syntax-of second) joined expr depth count place₀ n₀ labels₀ place n labels
     × Stops (syntax-of second) starred expr place × (length labels ≡ length labels₀)
 
 abbrev pub μ-loop : lts.MeasureT-loop
@@ -65,7 +66,7 @@ here : (t : ℕ) (c : At-head t)
     → let s = start-of t (c .before) in
     Read-up-to (syntax-of (s .args .second)) joined (s .args .expr .now) (s .args .depth) (s .args .at) (s .args .count)
     (s .args .labels .now) (c .loop .place) (c .loop .n) (c .loop .labels)
-here t c = c .loop .inv .0 .on _ _ _ (went-joined (first-read t (c .before) .went))
+here t c = c .loop .inv .0 .on _ _ (went-joined (first-read t (c .before) .went))
 
 -- the next part was read
 part-read : (t : ℕ) (c : After-next t)
@@ -107,7 +108,7 @@ returns t c =
     (rw e at (c .before .before .before .before .operand .ensures)))
 
 pub loop-holds : (t : ℕ) → lts.Need-loop-holds (catenation-claims t) (catenation-at t) catenation.Post Inv-loop μ-loop
-loop-holds t c = (record { on = λ at first start w. w }, first-read t c .stops, refl)
+loop-holds t c = (record { on = λ at start w. w }, first-read t c .stops, refl)
 
 pub shared-slice-read-byte : (t : ℕ)
     → lts.Need-shared-slice-read-byte (catenation-claims t) (catenation-at t) catenation.Post Inv-loop μ-loop
@@ -136,30 +137,37 @@ returns-2 t c =
     rw e (fails-factor _ _ (l .loop .place) (here t l .leads) (o .before .before .before .loop-test .taken)
     (operand-begins t o) (rw e at (c .before .before .before .before .operand2 .ensures)))
 
-pub mul-labels : (t : ℕ) → lts.Need-mul-labels (catenation-claims t) (catenation-at t) catenation.Post Inv-loop μ-loop
-mul-labels t c = let w = here t (head-of t c) in let r = part-read t c in omega arith
-
-pub slice-write-labels : (t : ℕ) → lts.Need-slice-write-labels (catenation-claims t) (catenation-at t) catenation.Post
+pub put-label-requires : (t : ℕ) → lts.Need-put-label-requires (catenation-claims t) (catenation-at t) catenation.Post
     Inv-loop μ-loop
-slice-write-labels t c = let w = here t (head-of t c) in let r = part-read t c in omega arith
+put-label-requires t c κs = let w = here t (head-of t (c .before)) in let r = part-read t (c .before) in omega arith
 
-pub add-n : (t : ℕ) → lts.Need-add-n (catenation-claims t) (catenation-at t) catenation.Post Inv-loop μ-loop
-add-n t c = let w = here t (head-of t c) in let r = part-read t c in omega arith
+-- the label of the node was written after the next part
+abbrev After-label : ℕ → Type 0
+After-label t = lts.After-put-label (catenation-claims t) (catenation-at t) catenation.Post Inv-loop μ-loop
+
+abbrev part-of : (t : ℕ) → After-label t → After-next t
+part-of t c = c .before .before
 
 pub loop-less : (t : ℕ) → lts.Need-loop-less (catenation-claims t) (catenation-at t) catenation.Post Inv-loop μ-loop
-loop-less t c = let w = here t (head-of t c) in let r = part-read t c in omega arith
+loop-less t c =
+    let k = part-of t (c .before .before) in
+    let w = here t (head-of t k) in
+    let r = part-read t k in
+    omega (arith, w .within, r .went .further, r .went .within)
 
 pub loop-again : (t : ℕ) → lts.Need-loop-again (catenation-claims t) (catenation-at t) catenation.Post Inv-loop μ-loop
 loop-again t c =
-    let l = head-of t c in
-    let o = operand-of t c in
-    let r = part-read t c in (
+    let p = c .before .before in
+    let k = part-of t p in
+    let l = head-of t k in
+    let o = operand-of t k in
+    let r = part-read t k in (
       record {
-        on = λ at first start w. went-factor (l .loop .inv .0 .on at first start w)
-            (o .before .before .before .loop-test .taken) (operand-begins t o) r (slice-write-labels t c);
+        on = λ at start w. went-factor (l .loop .inv .0 .on at start w) (o .before .before .before .loop-test .taken)
+            (operand-begins t o) r (p .put-label .ensures);
       },
       r .stops,
-      simp length-set (c .before .before .before .before .before .operand2 .kept .1 .1 .1 .0 ∙ l .loop .inv .2),
+      p .put-label .kept .0 ∙ k .before .before .before .before .before .operand2 .kept .1 .1 .1 .0 ∙ l .loop .inv .2,
     )
 
 pub same-length-3 : (t : ℕ) → lts.Need-same-length-3 (catenation-claims t) (catenation-at t) catenation.Post Inv-loop

@@ -1,11 +1,12 @@
--- `reader::operand::operand`: a `(` with the union in it, or a single operand, and then the stars.
+-- `scanner::operand::operand`: a `(` with the union in it, or a single operand, and then the signs.
 use Prim.Native.Nat.{ℕ, _+_}
 use native.Mathlib.Omega.{arith}
 use borrow.Author.Needs.{needs}
 use Rattle.scanner.specs.Bytes.{syntax-of}
 use Rattle.scanner.specs.Grammar.{starred, united}
 use Rattle.scanner.specs.Surroundings.{fails-end, fails-deep, fails-group, fails-open}
-use Rattle.scanner.specs.Reading.{Whole, Read-up-to, went-group, then-stars}
+use Rattle.scanner.specs.Reading.{Whole, Read-up-to}
+use Rattle.scanner.specs.ReadingLaws.{went-group, then-signs}
 use Rattle.scanner.proofs.operand.operand.Reads as operand
 use Rattle.scanner.proofs.+catenation-catenation+operand-operand+union-union.Lts-operand-operand as lts
 use Rattle.scanner.proofs.+catenation-catenation+operand-operand+union-union.Proof.Base.{
@@ -116,18 +117,18 @@ returns-4 t c =
     fails-open _ _ (start-of t g .args .at) _ (inner-read t (c .before) .went .leads) (c .if4 .taken) (omega arith)
     (omega arith) (g .if2 .taken)
 
-pub add-stars : (t : ℕ) → lts.Need-add-stars (operand-claims t) (operand-at t) operand.Post
-add-stars t c = let r = inner-read t (c .before) in omega arith
+pub add-signs : (t : ℕ) → lts.Need-add-signs (operand-claims t) (operand-at t) operand.Post
+add-signs t c = let r = inner-read t (c .before) in omega arith
 
-pub stars-requires : (t : ℕ) → lts.Need-stars-requires (operand-claims t) (operand-at t) operand.Post
-stars-requires t c κs = let r = group-read t (c .before) in omega arith
+pub signs-requires : (t : ℕ) → lts.Need-signs-requires (operand-claims t) (operand-at t) operand.Post
+signs-requires t c κs = let r = group-read t (c .before) in omega arith
 
 pub same-length-3 : (t : ℕ) → lts.Need-same-length-3 (operand-claims t) (operand-at t) operand.Post
 same-length-3 t c = search needs
 
 pub returns-5 : (t : ℕ) → lts.Need-returns-5 (operand-claims t) (operand-at t) operand.Post
-returns-5 t c = then-stars (c .before .before .stars .last .1 .1 .0) (c .before .before .stars .result)
-    (group-read t (c .before .before .before .before)) (c .before .before .stars .ensures)
+returns-5 t c = then-signs (c .before .before .signs .last .1 .1 .0) (c .before .before .signs .result)
+    (group-read t (c .before .before .before .before)) (c .before .before .signs .ensures)
 
 pub single-requires : (t : ℕ) → lts.Need-single-requires (operand-claims t) (operand-at t) operand.Post
 single-requires t c κs = search needs
@@ -147,12 +148,12 @@ returns-6 t c =
     let r = rw e at (c .before .before .before .before .single .ensures) in
     rw e (r .fails _)
 
-pub stars-requires-2 : (t : ℕ) → lts.Need-stars-requires-2 (operand-claims t) (operand-at t) operand.Post
-stars-requires-2 t c κs = let r = single-read t (c .before) in omega arith
+pub signs-requires-2 : (t : ℕ) → lts.Need-signs-requires-2 (operand-claims t) (operand-at t) operand.Post
+signs-requires-2 t c κs = let r = single-read t (c .before) in omega arith
 
 pub same-length-5 : (t : ℕ) → lts.Need-same-length-5 (operand-claims t) (operand-at t) operand.Post
 same-length-5 t c = search needs
 
 pub returns-7 : (t : ℕ) → lts.Need-returns-7 (operand-claims t) (operand-at t) operand.Post
-returns-7 t c = then-stars (c .before .before .stars2 .last .1 .1 .0) (c .before .before .stars2 .result)
-    (single-read t (c .before .before .before .before)) (c .before .before .stars2 .ensures)
+returns-7 t c = then-signs (c .before .before .signs2 .last .1 .1 .0) (c .before .before .signs2 .result)
+    (single-read t (c .before .before .before .before)) (c .before .before .signs2 .ensures)

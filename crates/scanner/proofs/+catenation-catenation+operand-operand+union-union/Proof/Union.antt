@@ -1,22 +1,23 @@
--- `reader::union::union`. The loop's invariant: what was read where the loop begins is read on up to `place`, and a
+-- `scanner::union::union`. The loop's invariant: what was read where the loop begins is read on up to `place`, and a
 -- catenation ends there.
 use Prim.Native.Nat.{ℕ, _+_, _-_}
 use mathlib.Core.Path.{_≡_, refl, _∙_}
 use native.Mathlib.Omega.{arith}
 use borrow.Author.Needs.{needs}
-use lib.ListN.{length, length-set}
+use lib.ListN.{length}
 use Rattle.scanner.specs.Bytes.{syntax-of}
 use Rattle.scanner.specs.Grammar.{joined, united}
 use Rattle.scanner.specs.Stopping.{Stops, at-end, stops-united}
 use Rattle.scanner.specs.Surroundings.{fails-united, fails-branch}
-use Rattle.scanner.specs.Reading.{Carries, Whole, Read-up-to, went-united, went-branch}
+use Rattle.scanner.specs.Reading.{Carries, Whole, Read-up-to}
+use Rattle.scanner.specs.ReadingLaws.{went-united, went-branch}
 use Rattle.scanner.proofs.union.union.Reads as union
 use Rattle.scanner.proofs.+catenation-catenation+operand-operand+union-union.Lts-union-union as lts
 use Rattle.scanner.proofs.+catenation-catenation+operand-operand+union-union.Proof.Base.{union-at, union-claims}
 
 abbrev pub Inv-loop : lts.InvT-loop
 Inv-loop expr at depth labels₀ count second next count' place₀ n₀ labels place n =
-    Carries (syntax-of second) united expr depth place₀ n₀ labels₀ place n labels
+    Carries (syntax-of second) united expr depth count place₀ n₀ labels₀ place n labels
     × Stops (syntax-of second) joined expr place × (length labels ≡ length labels₀)
 
 abbrev pub μ-loop : lts.MeasureT-loop
@@ -61,7 +62,7 @@ here : (t : ℕ) (c : At-head t)
     → let s = start-of t (c .before) in
     Read-up-to (syntax-of (s .args .second)) united (s .args .expr .now) (s .args .depth) (s .args .at) (s .args .count)
     (s .args .labels .now) (c .loop .place) (c .loop .n) (c .loop .labels)
-here t c = c .loop .inv .0 .on _ _ _ (went-united (first-read t (c .before) .went))
+here t c = c .loop .inv .0 .on _ _ (went-united (first-read t (c .before) .went))
 
 -- the next part was read
 part-read : (t : ℕ) (c : After-next t)
@@ -92,7 +93,7 @@ returns t c =
     (rw e at (c .before .before .before .before .catenation .ensures)))
 
 pub loop-holds : (t : ℕ) → lts.Need-loop-holds (union-claims t) (union-at t) union.Post Inv-loop μ-loop
-loop-holds t c = (record { on = λ at first start w. w }, first-read t c .stops, refl)
+loop-holds t c = (record { on = λ at start w. w }, first-read t c .stops, refl)
 
 pub shared-slice-read-if1 : (t : ℕ) → lts.Need-shared-slice-read-if1 (union-claims t) (union-at t) union.Post Inv-loop
     μ-loop
@@ -122,29 +123,37 @@ returns-2 t c =
     rw e (fails-branch _ _ (l .loop .place) (here t l .leads) (o .before .before .loop-test .taken) (o .if1 .left)
     (rw e at (c .before .before .before .before .catenation2 .ensures)))
 
-pub mul-labels : (t : ℕ) → lts.Need-mul-labels (union-claims t) (union-at t) union.Post Inv-loop μ-loop
-mul-labels t c = let w = here t (head-of t c) in let r = part-read t c in omega arith
+pub put-label-requires : (t : ℕ) → lts.Need-put-label-requires (union-claims t) (union-at t) union.Post Inv-loop μ-loop
+put-label-requires t c κs = let w = here t (head-of t (c .before)) in let r = part-read t (c .before) in omega arith
 
-pub slice-write-labels : (t : ℕ) → lts.Need-slice-write-labels (union-claims t) (union-at t) union.Post Inv-loop μ-loop
-slice-write-labels t c = let w = here t (head-of t c) in let r = part-read t c in omega arith
+-- the label of the node was written after the next part
+abbrev After-label : ℕ → Type 0
+After-label t = lts.After-put-label (union-claims t) (union-at t) union.Post Inv-loop μ-loop
 
-pub add-n : (t : ℕ) → lts.Need-add-n (union-claims t) (union-at t) union.Post Inv-loop μ-loop
-add-n t c = let w = here t (head-of t c) in let r = part-read t c in omega arith
+abbrev part-of : (t : ℕ) → After-label t → After-next t
+part-of t c = c .before .before
 
 pub loop-less : (t : ℕ) → lts.Need-loop-less (union-claims t) (union-at t) union.Post Inv-loop μ-loop
-loop-less t c = let w = here t (head-of t c) in let r = part-read t c in omega arith
+loop-less t c =
+    let k = part-of t (c .before .before) in
+    let w = here t (head-of t k) in
+    let r = part-read t k in
+    omega (arith, w .within, r .went .further, r .went .within)
 
 pub loop-again : (t : ℕ) → lts.Need-loop-again (union-claims t) (union-at t) union.Post Inv-loop μ-loop
 loop-again t c =
-    let l = head-of t c in
-    let o = bar-of t c in
-    let r = part-read t c in (
+    let p = c .before .before in
+    let k = part-of t p in
+    let l = head-of t k in
+    let o = bar-of t k in
+    let r = part-read t k in (
       record {
-        on = λ at first start w. went-branch (l .loop .inv .0 .on at first start w)
-            (o .before .before .loop-test .taken) (o .if1 .left) r (slice-write-labels t c);
+        on = λ at start w. went-branch (l .loop .inv .0 .on at start w) (o .before .before .loop-test .taken)
+            (o .if1 .left) r (p .put-label .ensures);
       },
       r .stops,
-      simp length-set (c .before .before .before .before .before .catenation2 .kept .1 .1 .1 .0 ∙ l .loop .inv .2),
+      p .put-label .kept .0 ∙ k .before .before .before .before .before .catenation2 .kept .1 .1 .1 .0
+          ∙ l .loop .inv .2,
     )
 
 pub same-length-3 : (t : ℕ) → lts.Need-same-length-3 (union-claims t) (union-at t) union.Post Inv-loop μ-loop

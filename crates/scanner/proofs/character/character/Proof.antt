@@ -1,13 +1,10 @@
--- `reader::character::character` meets its contract: each answer is one step of the scanner, or two after a `\`.
-use Prim.Native.Nat.{ℕ}
-use mathlib.Core.Path.{_≡_, sym, ap, _∙_}
-use mathlib.Core.List.{List}
+-- `scanner::character::character` meets its contract: each answer is one step of the scanner, or two after a `\`.
+use mathlib.Core.Path.{sym, _∙_}
 use native.Mathlib.Omega.{arith}
-use lib.ListN.{set}
 use Rattle.tree.specs.Leaf.{character}
 use Rattle.scanner.specs.Stopping.{not-special}
 use Rattle.scanner.specs.Surroundings.{leads-plain, leads-escaped, fails-escaped, fails-last, fails-special}
-use Rattle.scanner.specs.Reading.{leaf-read}
+use Rattle.scanner.specs.ReadingLaws.{leaf-read}
 use borrow.Author.Needs.{needs}
 use Rattle.scanner.proofs.character.character.Statement.{statement}
 use Rattle.scanner.proofs.character.character.Tie as tie
@@ -66,10 +63,9 @@ returns-2 c =
     let s = entry (escape .before) in
     let label = l .before .before .label-of .ensures in
     let special = sym (tested .is-special .ensures) ∙ l .before .before .before .if3 .taken in
-    leaf-read (s .args .labels .now) _ (character _) tt
+    leaf-read (s .args .labels .now) (l .leaf .last .1 .1 .0) (l .leaf .result) _ (character _) tt
     (λ depth. leads-escaped _ (s .args .expr .now) depth (s .args .at) (omega arith) (escape .if1 .taken) special)
-    (omega arith) (omega arith) (omega arith) (l .leaf .ensures .0)
-    (l .leaf .ensures .1 ∙ ap (λ (n : ℕ). set (s .args .labels .now) (s .args .count) n) label)
+    (omega arith) (omega arith) (omega arith) label (l .leaf .ensures)
 
 returns-3 : tie.Need-returns-3
 returns-3 c =
@@ -110,10 +106,9 @@ returns-5 c =
     let s = entry (tested .before .before) in
     let label = l .before .before .label-of2 .ensures in
     let itself = not-special _ (sym (tested .is-special2 .ensures) ∙ l .before .before .before .if4 .left) in
-    leaf-read (s .args .labels .now) _ (character _) tt
+    leaf-read (s .args .labels .now) (l .leaf2 .last .1 .1 .0) (l .leaf2 .result) _ (character _) tt
     (λ depth. leads-plain _ (s .args .expr .now) depth (s .args .at) (s .pre .0) itself) (omega arith) (omega arith)
-    (omega arith) (l .leaf2 .ensures .0)
-    (l .leaf2 .ensures .1 ∙ ap (λ (n : ℕ). set (s .args .labels .now) (s .args .count) n) label)
+    (omega arith) label (l .leaf2 .ensures)
 
 pub character-spec : {M : Type 1} → statement M
 character-spec =

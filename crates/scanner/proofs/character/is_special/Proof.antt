@@ -1,17 +1,16 @@
--- `reader::character::is_special` meets its contract: it asks for each of the special bytes, as the sign of a byte
+-- `scanner::character::is_special` meets its contract: it asks for each of the special bytes, as the sign of a byte
 -- does.
 use Prim.Native.Nat.{ℕ}
-use mathlib.Core.Path.{_≡_, refl, _∙_}
-use mathlib.Core.Bool.{Bool, true, false}
+use mathlib.Core.Path.{_≡_, _∙_}
 use borrow.Author.Tests.{ne-eqb}
-use Rattle.scanner.specs.Bytes.{Syntax, first, second, sign-of, sign-of-class, special}
+use Rattle.scanner.specs.Bytes.{Syntax, first, second, sign-of, sign-of-second, special}
 use borrow.Author.Needs.{needs}
 use Rattle.scanner.proofs.character.is_special.Statement.{statement}
 use Rattle.scanner.proofs.character.is_special.Tie as tie
 
 -- where the five tests fail, the syntax decides
 sixth : (syntax : Syntax) (b : ℕ) → (b ≡ 40 → ⊥) → (b ≡ 41 → ⊥) → (b ≡ 124 → ⊥) → (b ≡ 42 → ⊥) → (b ≡ 92 → ⊥)
-    → special (sign-of-class syntax b) ≡ special (sign-of syntax b)
+    → special (sign-of-second syntax b) ≡ special (sign-of syntax b)
 sixth syntax b no-opening no-closing no-bar no-asterisk no-backslash =
     rw (
       ne-eqb b 40 no-opening,
@@ -36,13 +35,13 @@ returns-4 c = rw (c .if4 .taken)
 returns-5 : tie.Need-returns-5
 returns-5 c = rw (c .if5 .taken)
 
-is-class-sign-requires : tie.Need-is-class-sign-requires
-is-class-sign-requires c κs = search needs
+is-second-sign-requires : tie.Need-is-second-sign-requires
+is-second-sign-requires c κs = search needs
 
 returns-6 : tie.Need-returns-6
 returns-6 c =
     let e = c .before .before in
-    rw (c .before .if6 .taken) (c .is-class-sign .ensures
+    rw (c .before .if6 .taken) (c .is-second-sign .ensures
     ∙ sixth second (c .before .before .before .before .before .before .before .args .byte)
     (c .before .before .before .before .before .before .if1 .left)
     (c .before .before .before .before .before .if2 .left)
@@ -57,4 +56,4 @@ returns-7 c =
 
 pub is-special-spec : {M : Type 1} → statement M
 is-special-spec =
-    tie.close (tie.spec returns returns-2 returns-3 returns-4 returns-5 is-class-sign-requires returns-6 returns-7)
+    tie.close (tie.spec returns returns-2 returns-3 returns-4 returns-5 is-second-sign-requires returns-6 returns-7)

@@ -1,4 +1,4 @@
--- `reader::expression::expression` meets its contract: after 1 and 2 it is the union read from the start, with no group
+-- `scanner::expression::expression` meets its contract: after 1 and 2 it is the union read from the start, with no group
 -- open.
 use Prim.Native.Nat.{_≤_}
 use mathlib.Core.Path.{_≡_}

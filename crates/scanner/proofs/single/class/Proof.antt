@@ -1,14 +1,11 @@
 -- `scanner::single::class` meets its contract: the class that the reading finds is a leaf with the place of its `[`.
-use Prim.Native.Nat.{ℕ}
-use mathlib.Core.Path.{ap, _∙_}
 use native.Mathlib.Omega.{arith}
-use lib.ListN.{set}
 use Rattle.tree.specs.Leaf.{Leaf}
 use Rattle.classes.specs.ClassAt.{run-at, bracket-here}
 use Rattle.scanner.specs.Surroundings.{fails-class}
 use Rattle.classes.specs.ClassItems.{Class-ended}
 use Rattle.scanner.specs.ClassLeads.{class-leads}
-use Rattle.scanner.specs.Reading.{leaf-read}
+use Rattle.scanner.specs.ReadingLaws.{leaf-read}
 use borrow.Author.Needs.{needs}
 use Rattle.scanner.proofs.single.class.Statement.{statement}
 use Rattle.scanner.proofs.single.class.Tie as tie
@@ -60,11 +57,10 @@ returns-2 c =
     let s = entry (found .before .before .before) in
     let r = class-read found in
     let label = l .before .before .class-label .ensures in
-    leaf-read (s .args .labels .now) _ (Leaf.class (s .args .begin)) (bracket-here (s .pre .0) (s .pre .1 .0)
+    leaf-read (s .args .labels .now) (l .leaf .last .1 .1 .0) (l .leaf .result) _ (Leaf.class (s .args .begin)) (bracket-here (s .pre .0) (s .pre .1 .0)
     (r .finds))
     (λ depth. class-leads depth (s .pre .0) (s .pre .1 .0) r) (r .further) (r .within) (omega arith)
-    (l .leaf .ensures .0)
-    (l .leaf .ensures .1 ∙ ap (λ (n : ℕ). set (s .args .labels .now) (s .args .count) n) label)
+    label (l .leaf .ensures)
 
 pub class-spec : {M : Type 1} → statement M
 class-spec =

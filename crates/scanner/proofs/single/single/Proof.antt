@@ -1,4 +1,4 @@
--- `reader::single::single` meets its contract: each syntax has its own reader.
+-- `scanner::single::single` meets its contract: each syntax has its own reader.
 use lib.ListN.{getD}
 use Rattle.scanner.specs.ClassLeads.{first-begins-none}
 use borrow.Author.Needs.{needs}
