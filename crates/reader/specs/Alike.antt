@@ -6,7 +6,7 @@ use Rattle.language.specs.Tree.{Tree, leaf, catenation, union, star, nodes}
 use Rattle.tree.specs.Leaf.{Leaf, character}
 use Rattle.tree.specs.Cut.{cuts, open-size, wanted}
 use Rattle.tree.specs.Records.{piece-count}
-use Rattle.scanner.specs.Scanner.{Atom, literal, one-of}
+use Rattle.scanner.specs.Scanner.{Atom, literal, one-of, no-text}
 use Rattle.reader.specs.Drawn.{classes-in, recorded, recorded-from}
 use Rattle.scanner.specs.Placed.{written-at}
 
@@ -42,6 +42,7 @@ alike-cuts (stars p) = rw (alike-open p, alike-cuts p)
 recorded-alike : (t : Tree Atom) (next : ℕ) → Alike t (recorded-from t next)
 recorded-alike (leaf (literal b)) next = leaves
 recorded-alike (leaf (one-of class)) next = leaves
+recorded-alike (leaf no-text) next = leaves
 recorded-alike (catenation s t) next = catenations (recorded-alike s next) (recorded-alike t _)
 recorded-alike (union s t) next = unions (recorded-alike s next) (recorded-alike t _)
 recorded-alike (star s) next = stars (recorded-alike s next)
@@ -50,6 +51,7 @@ recorded-alike (star s) next = stars (recorded-alike s next)
 written-alike : (bytes : List ℕ) (p : Tree Leaf) → Alike p (written-at bytes p)
 written-alike bytes (leaf (character b)) = leaves
 written-alike bytes (leaf (Leaf.class at)) = leaves
+written-alike bytes (leaf Leaf.empty-text) = leaves
 written-alike bytes (catenation s t) = catenations (written-alike bytes s) (written-alike bytes t)
 written-alike bytes (union s t) = unions (written-alike bytes s) (written-alike bytes t)
 written-alike bytes (star s) = stars (written-alike bytes s)

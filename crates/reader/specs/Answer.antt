@@ -11,7 +11,8 @@ use Rattle.tree.specs.Layout.{record-size}
 use Rattle.tree.specs.Leaf.{Leaf}
 use Rattle.tree.specs.Records.{encode, piece-count}
 use Rattle.scanner.specs.Bytes.{first}
-use Rattle.scanner.specs.Scanner.{Outcome, tree, refused, scanned}
+use Rattle.scanner.specs.Scanner.{Outcome, tree, refused}
+use Rattle.reader.specs.Expanded.{expanded}
 use Rattle.reader.specs.Drawn.{drawn}
 use Rattle.reader.specs.declared.answer.ReadAnswer.{ReadAnswer}
 use Rattle.reader.specs.declared.answer.ReadAnswer.the-variants.{Read, Refused}
@@ -38,7 +39,7 @@ numbers (Refused number place) = refusing number place
 
 -- what is answered for an expression's outcome, with a buffer of `room` bytes: 8 where the cut has more than 128
 -- pieces, then 9 where the buffer is shorter than the records
-abbrev pub answer-for : Outcome Leaf → (room : ℕ) → Numbers
+abbrev pub answer-for : Outcome (Tree Leaf) → (room : ℕ) → Numbers
 answer-for (refused number place) room = refusing number place
 answer-for (tree t) room =
     cond (ltb most-pieces (piece-count t)) (refusing too-many-pieces 0)
@@ -46,7 +47,7 @@ answer-for (tree t) room =
 
 -- what the buffer holds afterwards: the records, and past them what it held; the same as before where the expression is
 -- refused
-abbrev pub buffer-for : Outcome Leaf → List ℕ → List ℕ
+abbrev pub buffer-for : Outcome (Tree Leaf) → List ℕ → List ℕ
 buffer-for (refused number place) buffer = buffer
 buffer-for (tree t) buffer =
     cond (ltb most-pieces (piece-count t)) buffer
@@ -54,8 +55,8 @@ buffer-for (tree t) buffer =
 
 -- what `read` answers for these bytes and a buffer of this length
 abbrev pub answered : List ℕ → (room : ℕ) → Numbers
-answered bytes room = answer-for (drawn (scanned first bytes)) room
+answered bytes room = answer-for (drawn (expanded first bytes)) room
 
 -- what `read` leaves in the buffer
 abbrev pub records-after : List ℕ → List ℕ → List ℕ
-records-after bytes buffer = buffer-for (drawn (scanned first bytes)) buffer
+records-after bytes buffer = buffer-for (drawn (expanded first bytes)) buffer

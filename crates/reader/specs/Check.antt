@@ -4,23 +4,33 @@ use Prim.Native.Nat.{ℕ, _*_, _<_, _≤_}
 use native.Mathlib.Omega.{arith}
 use mathlib.Core.Path.{_≡_, refl, ap, sym, _∙_}
 use mathlib.Core.Bool.{Bool, true, false, cond}
-use mathlib.Core.Logic.{_⊎_, inl, inr, _↔_, ⊎-elim}
+use mathlib.Core.Logic.{_⊎_, inl, inr, _↔_, Iff·trans, ⊎-elim}
 use mathlib.Core.List.{List, []}
 use lib.ListN.{length}
 use lib.Dec.{eqb, ltb}
 use borrow.Author.Tests.{ltb-true, ltb-false, lt-ltb, le-ltb, ne-eqb, eqb-true}
 use Rattle.language.specs.Tree.{Tree, nodes}
-use Rattle.tree.specs.RefusalNumbers.{too-many-pieces, buffer-too-short, class-buffer-too-short}
-use Rattle.tree.specs.Limits.{most-pieces, longest-expression}
+use Rattle.tree.specs.RefusalNumbers.{too-many-pieces, buffer-too-short, class-buffer-too-short, too-many-nodes}
+use Rattle.tree.specs.Limits.{most-pieces, most-labels, longest-expression}
 use Rattle.tree.specs.Cut.{Cut, Fits, pieces}
 use Rattle.tree.specs.Least.{too-many-exactly}
 use Rattle.scanner.specs.Grammar.{Written}
+use Rattle.scanner.specs.Sound.{no-tree}
+use Rattle.language.specs.SignedTree.{Signed-tree}
 use Rattle.tree.specs.Layout.{record-size, class-record-size}
 use Rattle.tree.specs.Records.{piece-count}
 use Rattle.tree.specs.Lengths.{nodes-positive}
 use Rattle.scanner.specs.Bytes.{Syntax, first, second}
-use Rattle.scanner.specs.Scanner.{Atom, Outcome, tree, refused, scanned}
-use Rattle.scanner.specs.Agree.{Refusal, scanned-exactly, scanned-refusal}
+use Rattle.scanner.specs.Scanner.{Atom, Outcome, tree, refused}
+use Rattle.scanner.specs.Agree.{Refusal}
+use Rattle.reader.specs.Expanded.{expansion, expanded}
+use Rattle.reader.specs.ExpandedLaws.{
+  Written-tree,
+  Tree-refusal,
+  expanded-exactly,
+  expanded-refusal,
+  seventeen-exactly,
+}
 use Rattle.reader.specs.Drawn.{classes-of, classes-in, recorded, drawn}
 use Rattle.reader.specs.DrawnLaws.{first-has-no-class}
 use Rattle.reader.specs.Answer.{Numbers, refusing, reading, answer-for, answered}
@@ -86,13 +96,13 @@ tree-after-second t room class-room true = refl
 tree-after-second t room class-room false = refl
 
 -- by the outcome
-outcome-after : (outcome : Outcome Atom) (room : ℕ)
+outcome-after : (outcome : Outcome (Tree Atom)) (room : ℕ)
     → ((number place : ℕ) → outcome ≡ refused number place → 1 ≤ number)
     → answer-for (drawn outcome) room ≡ after-check (checked-for outcome) room
 outcome-after (refused number place) room h = refused-after number place room (h number place refl)
 outcome-after (tree t) room h = tree-after t room (too-many t)
 
-outcome-after-second : (outcome : Outcome Atom) (room class-room : ℕ)
+outcome-after-second : (outcome : Outcome (Tree Atom)) (room class-room : ℕ)
     → ((number place : ℕ) → outcome ≡ refused number place → 1 ≤ number)
     → second-answer-for outcome room class-room ≡ after-second-check (checked-for outcome) room class-room
 outcome-after-second (refused number place) room class-room h =
@@ -102,25 +112,36 @@ outcome-after-second (tree t) room class-room h = tree-after-second t room class
 -- `read` answers as the check does, or 9
 pub write-after-check : (bytes : List ℕ) (room : ℕ) → answered bytes room ≡ after-check (checked first bytes) room
 write-after-check bytes room =
-    outcome-after (scanned first bytes) room (λ number place e. scanned-refusal first bytes number place e .least)
+    outcome-after (expanded first bytes) room (λ number place e. expanded-refusal first bytes number place e .least)
 
 -- `read_second` answers as the check does, or 9, or 15 after it
 pub second-write-after-check : (bytes : List ℕ) (room class-room : ℕ)
     → second-answered bytes room class-room ≡ after-second-check (checked second bytes) room class-room
 second-write-after-check bytes room class-room =
-    outcome-after-second (scanned second bytes) room class-room
-    (λ number place e. scanned-refusal second bytes number place e .least)
+    outcome-after-second (expanded second bytes) room class-room
+    (λ number place e. expanded-refusal second bytes number place e .least)
 
 -- no check gives 9 or 15
 pub record Bufferless (number : ℕ) : Type 0 where
   pub no-nine : number ≡ buffer-too-short → ⊥
   pub no-fifteen : number ≡ class-buffer-too-short → ⊥
 
-bufferless-named : {syntax : Syntax} {number place : ℕ} → Refusal syntax number place → Bufferless number
+form-bufferless : {syntax : Syntax} {number place : ℕ} → Refusal syntax number place → Bufferless number
+form-bufferless r =
+    record {
+      no-nine = λ e. ⊎-elim (λ few. omega (arith, few, e))
+          (⊎-elim (λ same. omega (arith, same, e)) (λ same. omega (arith, same, e))) (r .named);
+      no-fifteen = λ e. ⊎-elim (λ few. omega (arith, few, e))
+          (⊎-elim (λ same. omega (arith, same, e)) (λ same. omega (arith, same, e))) (r .named);
+    }
+
+bufferless-named : {syntax : Syntax} {number place : ℕ} → Tree-refusal syntax number place → Bufferless number
 bufferless-named r =
     record {
-      no-nine = λ e. ⊎-elim (λ few. omega (arith, few, e)) (λ same. omega (arith, same, e)) (r .named);
-      no-fifteen = λ e. ⊎-elim (λ few. omega (arith, few, e)) (λ same. omega (arith, same, e)) (r .named);
+      no-nine = λ e. ⊎-elim (λ known. form-bufferless known .no-nine e) (λ (same, here). omega (arith, same, e))
+          (r .named);
+      no-fifteen = λ e. ⊎-elim (λ known. form-bufferless known .no-fifteen e) (λ (same, here). omega (arith, same, e))
+          (r .named);
     }
 
 bufferless-tree : (t : Tree Atom) (many : Bool)
@@ -128,14 +149,15 @@ bufferless-tree : (t : Tree Atom) (many : Bool)
 bufferless-tree t true = record { no-nine = λ e. omega arith; no-fifteen = λ e. omega arith }
 bufferless-tree t false = record { no-nine = λ e. omega arith; no-fifteen = λ e. omega arith }
 
-bufferless-outcome : (syntax : Syntax) (bytes : List ℕ) (outcome : Outcome Atom) → scanned syntax bytes ≡ outcome
+bufferless-outcome : (syntax : Syntax) (bytes : List ℕ) (outcome : Outcome (Tree Atom))
+    → expanded syntax bytes ≡ outcome
     → Bufferless (checked-for outcome .refusal)
 bufferless-outcome syntax bytes (refused number place) e =
-    bufferless-named (scanned-refusal syntax bytes number place e)
+    bufferless-named (expanded-refusal syntax bytes number place e)
 bufferless-outcome syntax bytes (tree t) e = bufferless-tree t (too-many t)
 
 pub check-bufferless : (syntax : Syntax) (bytes : List ℕ) → Bufferless (checked syntax bytes .refusal)
-check-bufferless syntax bytes = bufferless-outcome syntax bytes (scanned syntax bytes) refl
+check-bufferless syntax bytes = bufferless-outcome syntax bytes (expanded syntax bytes) refl
 
 -- the two tests of storing, by their answers
 nine-picks : (n : Counted-numbers) (room : ℕ) (none short : Bool) → Bufferless (n .refusal)
@@ -239,14 +261,14 @@ no-class-tree : (t : Tree Atom) (many : Bool) → classes-in t ≡ 0
 no-class-tree t true e = refl
 no-class-tree t false e = e
 
-no-class-outcome : (bytes : List ℕ) (outcome : Outcome Atom) → scanned first bytes ≡ outcome
+no-class-outcome : (bytes : List ℕ) (outcome : Outcome (Tree Atom)) → expanded first bytes ≡ outcome
     → checked-for outcome .classes ≡ 0
 no-class-outcome bytes (refused number place) e = refl
 no-class-outcome bytes (tree t) e =
-    no-class-tree t (too-many t) (ap length (first-has-no-class (scanned-exactly first bytes t .0 e .1)))
+    no-class-tree t (too-many t) (ap length (first-has-no-class (expanded-exactly first bytes t .0 e .1)))
 
 pub first-counts-no-class : (bytes : List ℕ) → checked first bytes .classes ≡ 0
-first-counts-no-class bytes = no-class-outcome bytes (scanned first bytes) refl
+first-counts-no-class bytes = no-class-outcome bytes (expanded first bytes) refl
 
 -- what a check answers is a refusal, or has a record
 sure-tree : (t : Tree Atom) (many : Bool)
@@ -255,17 +277,17 @@ sure-tree : (t : Tree Atom) (many : Bool)
 sure-tree t true e f = omega arith
 sure-tree t false e f = omega (arith, nodes-positive (recorded t))
 
-sure-check : (syntax : Syntax) (bytes : List ℕ) (outcome : Outcome Atom) → scanned syntax bytes ≡ outcome
+sure-check : (syntax : Syntax) (bytes : List ℕ) (outcome : Outcome (Tree Atom)) → expanded syntax bytes ≡ outcome
     → checked-for outcome .refusal ≡ 0 → checked-for outcome .records ≡ 0 → ⊥
 sure-check syntax bytes (refused number place) scans e f =
-    omega (arith, scanned-refusal syntax bytes number place scans .least)
+    omega (arith, expanded-refusal syntax bytes number place scans .least)
 sure-check syntax bytes (tree t) scans e f = sure-tree t (too-many t) e f
 
 -- two answers of a check that both fit its promise are equal
 pub check-unique : (syntax : Syntax) (bytes : List ℕ) (r s : CountedAnswer) → counted-numbers r ≡ checked syntax bytes
     → counted-numbers s ≡ checked syntax bytes → r ≡ s
 check-unique syntax bytes r s e f =
-    counts-injective r s (e ∙ sym f) (rw e (sure-check syntax bytes (scanned syntax bytes) refl))
+    counts-injective r s (e ∙ sym f) (rw e (sure-check syntax bytes (expanded syntax bytes) refl))
 
 -- of the answers to a tree, only the one for too many pieces is 8
 eight-first : (t : Tree Atom) (many : Bool)
@@ -273,14 +295,38 @@ eight-first : (t : Tree Atom) (many : Bool)
 eight-first t true e = refl
 eight-first t false e = absurd (omega (arith, ap (λ (n : Counted-numbers). n .refusal) e))
 
--- in both syntaxes an expression with no fault in its writing or length is refused as 8 exactly when every cut of its
--- tree with pieces of at most 15 nodes has more than 128 pieces
+-- in both syntaxes an expression with no fault in its writing or length, and at most 2,047 nodes, is refused as 8
+-- exactly when every cut of its tree with pieces of at most 15 nodes has more than 128 pieces
 pub check-too-large-exactly : (syntax : Syntax) (bytes : List ℕ) (t : Tree Atom) → length bytes ≤ longest-expression
-    → Written syntax bytes t → (checked syntax bytes ≡ refusing-counts too-many-pieces 0)
+    → Written-tree syntax bytes t → (checked syntax bytes ≡ refusing-counts too-many-pieces 0)
     ↔ ((c : Cut (recorded t)) → Fits (recorded t) c → most-pieces < pieces (recorded t) c)
 check-too-large-exactly syntax bytes t few w =
-    let scans : scanned syntax bytes ≡ tree t = scanned-exactly syntax bytes t .1 (few, w) in
+    let scans : expanded syntax bytes ≡ tree t = expanded-exactly syntax bytes t .1 (few, w) in
     let r = recorded t in (
       λ e. too-many-exactly r .0 (ltb-true most-pieces (piece-count r) (eight-first t (too-many t) (rw scans at e))),
       λ many. rw (scans, lt-ltb most-pieces (piece-count r) (too-many-exactly r .1 many)),
     )
+
+-- a check answers 17 where the expression comes to 17
+seventeen-outcome : (outcome : Outcome (Tree Atom))
+    → (checked-for outcome ≡ refusing-counts too-many-nodes 0) ↔ (outcome ≡ refused too-many-nodes 0)
+seventeen-outcome (refused number place) = (
+  λ e. let same : number ≡ too-many-nodes = ap (λ (n : Counted-numbers). n .refusal) e in
+      let here : place ≡ 0 = ap (λ (n : Counted-numbers). n .place) e in
+      rw (same, here) refl,
+  λ e. ap checked-for e,
+)
+seventeen-outcome (tree t) = (λ e. absurd (by-test (too-many t) e), λ e. no-tree (sym e))
+  where
+    by-test : (many : Bool)
+        → cond many (refusing-counts too-many-pieces 0) (counting t) ≡ refusing-counts too-many-nodes 0 → ⊥
+    by-test true e = omega (arith, ap (λ (n : Counted-numbers). n .refusal) e)
+    by-test false e = omega (arith, ap (λ (n : Counted-numbers). n .refusal) e)
+
+-- in both syntaxes an expression with no fault of form is refused as 17 exactly when the tree that its signs stand for
+-- has more than 2,047 nodes
+pub check-seventeen-exactly : (syntax : Syntax) (bytes : List ℕ) (s : Signed-tree Atom)
+    → length bytes ≤ longest-expression → Written syntax bytes s
+    → (checked syntax bytes ≡ refusing-counts too-many-nodes 0) ↔ (most-labels < nodes (expansion s))
+check-seventeen-exactly syntax bytes s few w =
+    Iff·trans (seventeen-outcome (expanded syntax bytes)) (seventeen-exactly syntax bytes s few w)

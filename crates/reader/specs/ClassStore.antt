@@ -59,6 +59,7 @@ pub labels-placed : (bytes : List ℕ) (p : Tree Leaf) → Placed bytes p → La
 labels-placed bytes (leaf (character b)) h = (λ e. absurd (omega (arith, e)), tt)
 labels-placed bytes (leaf (Leaf.class at)) h =
     let number : (5 + 8 * at) / 8 ≡ at = omega arith in (λ e. rw number h, tt)
+labels-placed bytes (leaf Leaf.empty-text) h = other-label bytes 6 (λ e. omega arith)
 labels-placed bytes (catenation s t) h =
     placed-append bytes (labels s ++ labels t) (2 ∷ [])
     (placed-append bytes (labels s) (labels t) (labels-placed bytes s (h .0)) (labels-placed bytes t (h .1)))

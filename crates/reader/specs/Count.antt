@@ -9,16 +9,21 @@ use lib.ListN.{length, take}
 use lib.Dec.{ltb}
 use borrow.Author.Tests.{lt-ltb, le-ltb, ltb-false}
 use Rattle.language.specs.Tree.{Tree, nodes}
-use Rattle.tree.specs.RefusalNumbers.{too-many-pieces}
-use Rattle.tree.specs.Limits.{most-pieces, most-labels}
+use Rattle.tree.specs.RefusalNumbers.{too-many-pieces, too-many-nodes}
+use Rattle.tree.specs.Limits.{most-pieces, most-labels, longest-expression}
 use Rattle.tree.specs.Leaf.{Leaf}
 use Rattle.tree.specs.Records.{labels, piece-count}
 use Rattle.tree.specs.Lengths.{length-labels}
 use Rattle.scanner.specs.Bytes.{Syntax}
-use Rattle.scanner.specs.Scanner.{Atom, Outcome, tree, refused, scanned}
+use Rattle.scanner.specs.Scanner.{Atom, Outcome, tree, refused}
+use Rattle.scanner.specs.Bytes.{first}
+use Rattle.scanner.specs.FirstSyntax.{first-size}
+use Rattle.scanner.specs.Agree.{scanned-exactly}
+use Rattle.reader.specs.Expanded.{expansion, expanded-for, expanded}
+use Rattle.reader.specs.ExpandedLaws.{expanded-small, expanded-large, form-first}
 use Rattle.reader.specs.Drawn.{classes-in, recorded}
 use Rattle.scanner.specs.Placed.{written-at, Placed}
-use Rattle.reader.specs.Alike.{nodes-placed, pieces-placed}
+use Rattle.reader.specs.Alike.{nodes-placed, nodes-recorded, pieces-placed}
 use Rattle.reader.specs.Relabelled.{class-labels, classes-counted, class-labels-le}
 use Rattle.scanner.specs.Expression.{Expression-read, Expression-refused}
 use Rattle.reader.specs.SecondAnswer.{
@@ -74,15 +79,15 @@ counts-written bytes p = rw (
 -- the expression has a tree of few enough pieces; its labels stand in the scratch, and these are its counts
 pub record Reading-counted (syntax : Syntax) (bytes later : List ℕ) (records pieces classes : ℕ) : Type 0 where
   pub read : Tree Leaf
-  pub scans : scanned syntax bytes ≡ tree (written-at bytes read)
+  pub scans : expanded syntax bytes ≡ tree (written-at bytes read)
   pub placed : Placed bytes read
   pub written : take records later ≡ labels read
   pub bounded : records ≤ most-labels
-  pub numbers : counted-numbers (Counted records pieces classes) ≡ checked-for (scanned syntax bytes)
+  pub numbers : counted-numbers (Counted records pieces classes) ≡ checked-for (expanded syntax bytes)
 
 -- the expression is refused
 pub record Reading-refused (syntax : Syntax) (bytes : List ℕ) (number place : ℕ) : Type 0 where
-  pub numbers : refusing-counts number place ≡ checked-for (scanned syntax bytes)
+  pub numbers : refusing-counts number place ≡ checked-for (expanded syntax bytes)
 
 -- what reading and counting answers
 abbrev pub Count-answer : Syntax → (bytes later : List ℕ) → CountedAnswer → Type 0
@@ -92,7 +97,7 @@ Count-answer syntax bytes later (Refused number place) = Reading-refused syntax 
 
 -- it is a check
 pub count-checks : (syntax : Syntax) (bytes later : List ℕ) (r : CountedAnswer) → Count-answer syntax bytes later r
-    → counted-numbers r ≡ checked-for (scanned syntax bytes)
+    → counted-numbers r ≡ checked-for (expanded syntax bytes)
 count-checks syntax bytes later (Counted records pieces classes) a = a .numbers
 count-checks syntax bytes later (Refused number place) a = a .numbers
 
@@ -100,26 +105,55 @@ count-checks syntax bytes later (Refused number place) a = a .numbers
 pub refused-before : {syntax : Syntax} {bytes : List ℕ} {number place : ℕ}
     → Expression-refused syntax bytes number place
     → Reading-refused syntax bytes number place
-refused-before r = record { numbers = rw (r .scans) }
+refused-before {syntax} {bytes} {number} {place} r =
+    record { numbers = ap checked-for (sym (form-first syntax bytes number place (r .scans))) }
+
+module _ {syntax : Syntax} {bytes later : List ℕ} {total : ℕ} (w : Expression-read syntax bytes later total) where
+  -- the tree with places has as many nodes as the one that the signs stand for
+  nodes-read : nodes (w .read) ≡ nodes (expansion (w .signs))
+  nodes-read =
+      nodes-placed bytes (w .read) ∙ nodes-recorded (written-at bytes (w .read)) ∙ ap nodes (w .stands)
+
+  -- where there are at most 2,047 labels, the expression has that tree
+  pub expanded-read : total ≤ most-labels → expanded syntax bytes ≡ tree (written-at bytes (w .read))
+  unfolding expanded
+  expanded-read few =
+      ap expanded-for (w .scans) ∙ expanded-small (w .signs) (omega (arith, w .counted, nodes-read, few))
+      ∙ ap tree (sym (w .stands))
+
+  -- where there would be more, it is 17
+  pub too-large-read : most-labels < total → Reading-refused syntax bytes too-many-nodes 0
+  unfolding expanded
+  too-large-read large =
+      record {
+        numbers = ap checked-for (sym (ap expanded-for (w .scans)
+            ∙ expanded-large (w .signs) (omega (arith, w .counted, nodes-read, large))));
+      }
+
+-- in the first syntax there are never more
+pub first-bounded : {bytes later : List ℕ} {total : ℕ} → Expression-read first bytes later total → total ≤ most-labels
+first-bounded {bytes} w =
+    let (few, spelled) = scanned-exactly first bytes (w .signs) .0 (w .scans) in
+    omega (arith, w .counted, nodes-read w, first-size spelled, few)
 
 -- what was read is counted
 pub read-counted : {syntax : Syntax} {bytes later : List ℕ} {total : ℕ} (r : CountedAnswer)
-    → Expression-read syntax bytes later total → (ls : List ℕ) → ls ≡ take total later → length ls ≡ total
-    → Labels-counted ls r → Count-answer syntax bytes later r
-read-counted {syntax} {bytes} {later} {total} (Counted records pieces classes) w ls e long a =
+    → Expression-read syntax bytes later total → total ≤ most-labels → (ls : List ℕ) → ls ≡ take total later
+    → length ls ≡ total → Labels-counted ls r → Count-answer syntax bytes later r
+read-counted {syntax} {bytes} {later} {total} (Counted records pieces classes) w few ls e long a =
     let p = w .read in
-    let same : ls ≡ labels p = e ∙ w .written in
+    let same : ls ≡ labels p = e ∙ w .written few in
     let numbers : counted-numbers (Counted records pieces classes) ≡ checked-for (tree (written-at bytes p)) =
     a .answer p same ∙ counts-written bytes p in
     let count : records ≡ total = records-are p (ltb most-pieces (piece-count p)) (a .answer p same)
     (sym (length-labels p) ∙ ap length (sym same) ∙ long) in
     record {
       read = p;
-      scans = w .scans;
+      scans = expanded-read w few;
       placed = w .placed;
-      written = rw count (w .written);
-      bounded = omega (arith, count, w .bounded);
-      numbers = rw (w .scans) numbers;
+      written = rw count (w .written few);
+      bounded = omega (arith, count, few);
+      numbers = rw (expanded-read w few) numbers;
     }
   where
     records-are : (p : Tree Leaf) (many : Bool)
@@ -127,8 +161,10 @@ read-counted {syntax} {bytes} {later} {total} (Counted records pieces classes) w
         ≡ cond many (refusing-counts too-many-pieces 0) (counts-placed p) → nodes p ≡ total → records ≡ total
     records-are p true f g = absurd (omega (arith, ap (λ (n : Counted-numbers). n .refusal) f))
     records-are p false f g = ap (λ (n : Counted-numbers). n .records) f ∙ g
-read-counted {syntax} {bytes} (Refused number place) w ls e long a =
-    record { numbers = rw (w .scans) (a .answer (w .read) (e ∙ w .written) ∙ counts-written bytes (w .read)) }
+read-counted {syntax} {bytes} (Refused number place) w few ls e long a =
+    record {
+      numbers = rw (expanded-read w few) (a .answer (w .read) (e ∙ w .written few) ∙ counts-written bytes (w .read));
+    }
 
 -- the counts of a tree of few enough pieces
 pub record Counts-are (t : Tree Atom) (records pieces classes : ℕ) : Type 0 where

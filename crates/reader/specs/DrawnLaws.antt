@@ -7,12 +7,16 @@ use mathlib.Core.List.{List, [], _∷_, _++_}
 use native.Mathlib.Omega.{arith}
 use lib.ListN.{length, getD, length-append}
 use Rattle.language.specs.Tree.{Tree, leaf, catenation, union, star, nodes}
-use Rattle.tree.specs.Limits.{longest-expression}
+use Rattle.language.specs.SignedTree.{Signed-tree}
+use Rattle.language.specs.WithLeaves.{Every-leaf, Every-signed-leaf}
+use Rattle.language.specs.WithLeavesLaws.{every-stands-for}
+use Rattle.tree.specs.Limits.{longest-expression, most-labels}
 use Rattle.tree.specs.Leaf.{Leaf}
 use Rattle.tree.specs.Records.{class-numbers, class-count, Ranked}
 use Rattle.scanner.specs.Bytes.{Syntax, first, second, sign-of}
 use Rattle.scanner.specs.Signs.{Means, sign-means}
-use Rattle.scanner.specs.Scanner.{Atom, literal, one-of, Outcome, tree, refused, scanned}
+use Rattle.scanner.specs.Scanner.{Atom, literal, one-of, no-text, Outcome, tree, refused}
+use Rattle.reader.specs.Expanded.{expansion, expanded}
 use Rattle.scanner.specs.Grammar.{
   Level,
   Spells,
@@ -22,15 +26,27 @@ use Rattle.scanner.specs.Grammar.{
   any-but-line-end,
   bracketed,
   group,
-  no-star,
+  no-sign,
   one-star,
+  one-or-more,
+  none-or-one,
+  so-many,
   one-factor,
   next-factor,
   one-branch,
   next-branch,
 }
 use Rattle.scanner.specs.Sound.{no-tree}
-use Rattle.scanner.specs.Agree.{scanned-exactly, scanned-refusal, Refusal, written-size}
+use Rattle.scanner.specs.FirstSyntax.{first-size}
+use Rattle.scanner.specs.Agree.{Refusal}
+use Rattle.reader.specs.ExpandedLaws.{
+  Written-tree,
+  Tree-refusal,
+  expanded-exactly,
+  expanded-refusal,
+  first-refusal,
+  expanded-size,
+}
 use Rattle.reader.specs.Drawn.{classes-of, classes-in, recorded, recorded-from, drawn}
 use Rattle.reader.specs.Alike.{nodes-recorded}
 
@@ -71,6 +87,7 @@ numbers-joined left right s t next e f =
 numbers-recorded : (t : Tree Atom) (next : ℕ) → class-numbers (recorded-from t next) ≡ upwards next (classes-in t)
 numbers-recorded (leaf (literal b)) next = refl
 numbers-recorded (leaf (one-of class)) next = refl
+numbers-recorded (leaf no-text) next = refl
 numbers-recorded (catenation s t) next =
     numbers-joined _ _ s t next (numbers-recorded s next) (numbers-recorded t (next + classes-in s))
 numbers-recorded (union s t) next =
@@ -93,37 +110,58 @@ ranked-recorded t =
           ∙ upwards-at (classes-in t) 0 j (omega (arith, class-count-recorded t)) ∙ omega arith;
     }
 
--- the first syntax has no class
-pub first-has-no-class : {depth : ℕ} {level : Level} {bytes rest : List ℕ} {t : Tree Atom}
-    → Spells first depth level bytes rest t → classes-of t ≡ []
-first-has-no-class (itself p) = refl
-first-has-no-class (escaped p) = refl
-first-has-no-class (any-but-line-end {b = b} p) =
+-- a leaf that is no class
+abbrev No-class : Atom → Type 0
+No-class (literal b) = Unit {0}
+No-class (one-of class) = ⊥
+No-class no-text = Unit {0}
+
+-- a tree with no class leaf has no classes
+no-classes : (t : Tree Atom) → Every-leaf No-class t → classes-of t ≡ []
+no-classes (leaf (literal b)) each = refl
+no-classes (leaf no-text) each = refl
+no-classes (catenation s t) each = rw (no-classes s (each .0), no-classes t (each .1))
+no-classes (union s t) each = rw (no-classes s (each .0), no-classes t (each .1))
+no-classes (star s) each = no-classes s each
+
+-- the two syntaxes are two
+neither : first ≡ second → ⊥
+neither e = let z : _≡_ {A = ℕ} 0 1 = cc in omega arith
+
+-- the first syntax writes no class
+spells-no-class : {depth : ℕ} {level : Level} {bytes rest : List ℕ} {s : Signed-tree Atom}
+    → Spells first depth level bytes rest s → Every-signed-leaf No-class s
+spells-no-class (itself p) = tt
+spells-no-class (escaped p) = tt
+spells-no-class (any-but-line-end {b = b} p) =
     let m = rw p at (sign-means first b) in absurd (neither (m .0))
-  where
-    neither : first ≡ second → ⊥
-    neither e = let z : _≡_ {A = ℕ} 0 1 = cc in omega arith
-first-has-no-class (bracketed {b = b} p r) =
-    let m = rw p at (sign-means first b) in absurd (neither (m .0))
-  where
-    neither : first ≡ second → ⊥
-    neither e = let z : _≡_ {A = ℕ} 0 1 = cc in omega arith
-first-has-no-class (group h r) = first-has-no-class r
-first-has-no-class (no-star r) = first-has-no-class r
-first-has-no-class (one-star r) = first-has-no-class r
-first-has-no-class (one-factor r) = first-has-no-class r
-first-has-no-class (next-factor r q) = rw (first-has-no-class r, first-has-no-class q)
-first-has-no-class (one-branch r) = first-has-no-class r
-first-has-no-class (next-branch r q) = rw (first-has-no-class r, first-has-no-class q)
+spells-no-class (bracketed {b = b} p r) = let m = rw p at (sign-means first b) in absurd (neither (m .0))
+spells-no-class (group h r) = spells-no-class r
+spells-no-class (no-sign r) = spells-no-class r
+spells-no-class (one-star r) = spells-no-class r
+spells-no-class (one-or-more p r) = spells-no-class r
+spells-no-class (none-or-one p r) = spells-no-class r
+spells-no-class (so-many p r q) = spells-no-class r
+spells-no-class (one-factor r) = spells-no-class r
+spells-no-class (next-factor r q) = (spells-no-class r, spells-no-class q)
+spells-no-class (one-branch r) = spells-no-class r
+spells-no-class (next-branch r q) = (spells-no-class r, spells-no-class q)
+
+-- so its trees have none
+pub first-has-no-class : {bytes : List ℕ} {t : Tree Atom} → Written-tree first bytes t → classes-of t ≡ []
+first-has-no-class w =
+    ap classes-of (w .stands)
+    ∙ no-classes (expansion (w .signs))
+    (every-stands-for No-class no-text tt (w .signs) (spells-no-class (w .spelled)))
 
 -- a drawn tree is that of a written one
-pub drawn-tree : (outcome : Outcome Atom) (t : Tree Leaf) → drawn outcome ≡ tree t
+pub drawn-tree : (outcome : Outcome (Tree Atom)) (t : Tree Leaf) → drawn outcome ≡ tree t
     → (s : Tree Atom) × (outcome ≡ tree s) × (t ≡ recorded s)
 drawn-tree (tree s) t e = let same : recorded s ≡ t = cc in (s, refl, sym same)
 drawn-tree (refused number place) t e = no-tree e
 
 -- a refusal is drawn as it is
-pub drawn-refused : (outcome : Outcome Atom) (number place : ℕ) → drawn outcome ≡ refused number place
+pub drawn-refused : (outcome : Outcome (Tree Atom)) (number place : ℕ) → drawn outcome ≡ refused number place
     → outcome ≡ refused number place
 drawn-refused (tree s) number place e = no-tree (sym e)
 drawn-refused (refused other there) number place e =
@@ -132,29 +170,44 @@ drawn-refused (refused other there) number place e =
 -- the bytes are a written expression whose records have the tree t
 pub record Written-as (syntax : Syntax) (bytes : List ℕ) (t : Tree Leaf) : Type 0 where
   pub written : Tree Atom
-  pub spelled : Written syntax bytes written
+  pub spelled : Written-tree syntax bytes written
   pub same : t ≡ recorded written
 
 -- an expression is taken with the records' tree t exactly when it has at most 1,024 bytes and is written so
-pub drawn-exactly : (syntax : Syntax) (bytes : List ℕ) (t : Tree Leaf) → (drawn (scanned syntax bytes) ≡ tree t)
+pub drawn-exactly : (syntax : Syntax) (bytes : List ℕ) (t : Tree Leaf) → (drawn (expanded syntax bytes) ≡ tree t)
     ↔ ((length bytes ≤ longest-expression) × Written-as syntax bytes t)
 drawn-exactly syntax bytes t = (
-  λ e. let (s, scans, same) = drawn-tree (scanned syntax bytes) t e in
-      let (few, spelled) = scanned-exactly syntax bytes s .0 scans in
+  λ e. let (s, scans, same) = drawn-tree (expanded syntax bytes) t e in
+      let (few, spelled) = expanded-exactly syntax bytes s .0 scans in
       (few, record { written = s; spelled = spelled; same = same }),
-  λ (few, w). ap drawn (scanned-exactly syntax bytes (w .written) .1 (few, w .spelled)) ∙ ap tree (sym (w .same)),
+  λ (few, w). ap drawn (expanded-exactly syntax bytes (w .written) .1 (few, w .spelled)) ∙ ap tree (sym (w .same)),
 )
 
--- its tree has fewer than two nodes for each byte
-pub drawn-size : (syntax : Syntax) (bytes : List ℕ) (t : Tree Leaf) → drawn (scanned syntax bytes) ≡ tree t
-    → nodes t + 1 ≤ 2 * length bytes
+-- its tree has at most 2,047 nodes
+pub drawn-size : (syntax : Syntax) (bytes : List ℕ) (t : Tree Leaf) → drawn (expanded syntax bytes) ≡ tree t
+    → nodes t ≤ most-labels
 drawn-size syntax bytes t e =
     let (few, w) = drawn-exactly syntax bytes t .0 e in
     let same : nodes t ≡ nodes (recorded (w .written)) = ap nodes (w .same) in
-    omega (arith, written-size (w .spelled), nodes-recorded (w .written))
+    omega (arith, w .spelled .small, nodes-recorded (w .written))
 
--- its refusals are the scanner's
+-- in the first syntax it has fewer than two nodes for each byte
+pub first-drawn-size : (bytes : List ℕ) (t : Tree Leaf) → drawn (expanded first bytes) ≡ tree t
+    → nodes t + 1 ≤ 2 * length bytes
+first-drawn-size bytes t e =
+    let (few, w) = drawn-exactly first bytes t .0 e in
+    let same : nodes t ≡ nodes (recorded (w .written)) = ap nodes (w .same) in
+    let stands : nodes (w .written) ≡ nodes (expansion (w .spelled .signs)) = ap nodes (w .spelled .stands) in
+    omega (arith, first-size (w .spelled .spelled), nodes-recorded (w .written))
+
+-- its refusals are those of the expression
 pub drawn-refusal : (syntax : Syntax) (bytes : List ℕ) (number place : ℕ)
-    → drawn (scanned syntax bytes) ≡ refused number place → Refusal syntax number place
+    → drawn (expanded syntax bytes) ≡ refused number place → Tree-refusal syntax number place
 drawn-refusal syntax bytes number place e =
-    scanned-refusal syntax bytes number place (drawn-refused (scanned syntax bytes) number place e)
+    expanded-refusal syntax bytes number place (drawn-refused (expanded syntax bytes) number place e)
+
+-- in the first syntax the scanner's
+pub first-drawn-refusal : (bytes : List ℕ) (number place : ℕ) → drawn (expanded first bytes) ≡ refused number place
+    → Refusal first number place
+first-drawn-refusal bytes number place e =
+    first-refusal bytes number place (drawn-refused (expanded first bytes) number place e)

@@ -20,7 +20,8 @@ use Rattle.tree.specs.Cut.{Cut, Fits, pieces}
 use Rattle.tree.specs.Records.{piece-count}
 use Rattle.tree.specs.Least.{few-exactly}
 use Rattle.scanner.specs.Bytes.{first}
-use Rattle.scanner.specs.Scanner.{Outcome, tree, refused, scanned}
+use Rattle.scanner.specs.Scanner.{Outcome, tree, refused}
+use Rattle.reader.specs.Expanded.{expanded}
 use Rattle.reader.specs.Drawn.{drawn}
 use Rattle.reader.specs.DrawnLaws.{Written-as, drawn-exactly, drawn-refusal, drawn-size}
 use Rattle.reader.specs.Answer.{refusing, reading, answer-for, answered}
@@ -50,7 +51,7 @@ past-both t false true e = absurd (omega arith)
 past-both t false false e = (refl, refl)
 
 -- no refusal, seen from the outcome
-taken-outcome : (bytes : List ℕ) (room : ℕ) (outcome : Outcome Leaf) → drawn (scanned first bytes) ≡ outcome
+taken-outcome : (bytes : List ℕ) (room : ℕ) (outcome : Outcome (Tree Leaf)) → drawn (expanded first bytes) ≡ outcome
     → answer-for outcome room .refusal ≡ 0 → Fit-to-read bytes room
 taken-outcome bytes room (refused number place) scans e =
     absurd (omega (arith, drawn-refusal first bytes number place scans .least))
@@ -76,7 +77,7 @@ fit-taken bytes room fit =
 
 -- an expression is read exactly when it is fit
 pub fit-exactly : (bytes : List ℕ) (room : ℕ) → (answered bytes room .refusal ≡ 0) ↔ Fit-to-read bytes room
-fit-exactly bytes room = (taken-outcome bytes room (drawn (scanned first bytes)) refl, fit-taken bytes room)
+fit-exactly bytes room = (taken-outcome bytes room (drawn (expanded first bytes)) refl, fit-taken bytes room)
 
 -- the expression has at most 1,024 bytes, is written by the grammar, and its tree can be cut into few enough small
 -- pieces

@@ -17,7 +17,8 @@ use Rattle.tree.specs.Leaf.{Leaf}
 use Rattle.tree.specs.Records.{encode, piece-count, Good}
 use Rattle.tree.specs.Lengths.{nodes-positive, length-encode}
 use Rattle.scanner.specs.Bytes.{first}
-use Rattle.scanner.specs.Scanner.{Atom, Outcome, tree, refused, scanned}
+use Rattle.scanner.specs.Scanner.{Atom, Outcome, tree, refused}
+use Rattle.reader.specs.Expanded.{expanded}
 use Rattle.reader.specs.Drawn.{drawn, recorded}
 use Rattle.reader.specs.DrawnLaws.{drawn-tree, drawn-refusal, ranked-recorded}
 use Rattle.reader.specs.Answer.{
@@ -53,7 +54,7 @@ sure-pick t true short e f = omega arith
 sure-pick t false true e f = omega arith
 sure-pick t false false e f = omega (arith, nodes-positive t)
 
-sure-answer : (bytes : List ℕ) (room : ℕ) (outcome : Outcome Leaf) → drawn (scanned first bytes) ≡ outcome
+sure-answer : (bytes : List ℕ) (room : ℕ) (outcome : Outcome (Tree Leaf)) → drawn (expanded first bytes) ≡ outcome
     → answer-for outcome room .refusal ≡ 0 → answer-for outcome room .records ≡ 0 → ⊥
 sure-answer bytes room (refused number place) scans e f =
     omega (arith, drawn-refusal first bytes number place scans .least)
@@ -64,20 +65,20 @@ sure-answer bytes room (tree t) scans e f = sure-pick t (ltb most-pieces (piece-
 pub answer-unique : (bytes : List ℕ) (room : ℕ) (r s : ReadAnswer) → numbers r ≡ answered bytes room
     → numbers s ≡ answered bytes room → r ≡ s
 answer-unique bytes room r s e f =
-    numbers-injective r s (e ∙ sym f) (rw e (sure-answer bytes room (drawn (scanned first bytes)) refl))
+    numbers-injective r s (e ∙ sym f) (rw e (sure-answer bytes room (drawn (expanded first bytes)) refl))
 
 -- what it means that the records were written: the expression has this tree, the counts are the tree's, and the records
 -- are a good list
 pub record Kept (bytes before after : List ℕ) (records pieces : ℕ) : Type 0 where
   pub read : Tree Leaf
-  pub scans : drawn (scanned first bytes) ≡ tree read
+  pub scans : drawn (expanded first bytes) ≡ tree read
   pub counted : records ≡ nodes read
   pub parted : pieces ≡ piece-count read
   pub fits : record-size * records ≤ length before
   pub good : Good (take (record-size * records) after) read
   pub rest : drop (record-size * records) after ≡ drop (record-size * records) before
 
-kept-pick : (bytes before after : List ℕ) (records pieces : ℕ) (t : Tree Leaf) → drawn (scanned first bytes) ≡ tree t
+kept-pick : (bytes before after : List ℕ) (records pieces : ℕ) (t : Tree Leaf) → drawn (expanded first bytes) ≡ tree t
     → (many short : Bool) → ltb most-pieces (piece-count t) ≡ many → ltb (length before) (record-size * nodes t) ≡ short
     → numbers (Read records pieces)
     ≡ cond many (refusing too-many-pieces 0) (cond short (refusing buffer-too-short 0) (reading t))
@@ -101,14 +102,14 @@ kept-pick bytes before after records pieces t scans false false m h e f =
             (record-size * nodes t) long);
         few = ltb-false most-pieces (piece-count t) m;
         ranked =
-            let (written, outcome, same) = drawn-tree (scanned first bytes) t scans in
+            let (written, outcome, same) = drawn-tree (expanded first bytes) t scans in
             rw same (ranked-recorded written);
       };
       rest = rw (f, counted) (drop-at (encode t) (drop (record-size * nodes t) before) (record-size * nodes t) long);
     }
 
-kept-outcome : (bytes before after : List ℕ) (records pieces : ℕ) (outcome : Outcome Leaf)
-    → drawn (scanned first bytes) ≡ outcome
+kept-outcome : (bytes before after : List ℕ) (records pieces : ℕ) (outcome : Outcome (Tree Leaf))
+    → drawn (expanded first bytes) ≡ outcome
     → numbers (Read records pieces) ≡ answer-for outcome (length before) → after ≡ buffer-for outcome before
     → Kept bytes before after records pieces
 kept-outcome bytes before after records pieces (refused number place) scans e f =
@@ -122,7 +123,7 @@ kept-outcome bytes before after records pieces (tree t) scans e f =
 pub kept : (bytes before after : List ℕ) (records pieces : ℕ) → numbers (Read records pieces)
     ≡ answered bytes (length before) → after ≡ records-after bytes before → Kept bytes before after records pieces
 kept bytes before after records pieces e f =
-    kept-outcome bytes before after records pieces (drawn (scanned first bytes)) refl e f
+    kept-outcome bytes before after records pieces (drawn (expanded first bytes)) refl e f
 
 -- where it answers a refusal, no byte of the buffer differs
 same-pick : (before : List ℕ) (number place : ℕ) (t : Tree Leaf) (many short : Bool) → numbers (Refused number place)
@@ -133,7 +134,7 @@ same-pick before number place t false true e = refl
 same-pick before number place t false false e =
     absurd (omega (arith, nodes-positive t, ap (λ (n : Numbers). n .records) e))
 
-same-outcome : (before : List ℕ) (number place : ℕ) (outcome : Outcome Leaf) → numbers (Refused number place)
+same-outcome : (before : List ℕ) (number place : ℕ) (outcome : Outcome (Tree Leaf)) → numbers (Refused number place)
     ≡ answer-for outcome (length before) → buffer-for outcome before ≡ before
 same-outcome before number place (refused number′ place′) e = refl
 same-outcome before number place (tree t) e =
@@ -141,4 +142,5 @@ same-outcome before number place (tree t) e =
 
 pub refusal-keeps : (bytes before after : List ℕ) (number place : ℕ) → numbers (Refused number place)
     ≡ answered bytes (length before) → after ≡ records-after bytes before → after ≡ before
-refusal-keeps bytes before after number place e f = f ∙ same-outcome before number place (drawn (scanned first bytes)) e
+refusal-keeps bytes before after number place e f = f
+    ∙ same-outcome before number place (drawn (expanded first bytes)) e

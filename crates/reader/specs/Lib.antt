@@ -1,5 +1,7 @@
 -- What reading an expression answers, and what it writes: the records of its tree and its class records.
 pub mod Drawn
+pub mod Expanded
+pub mod ExpandedLaws
 pub mod Alike
 pub mod Relabelled
 pub mod DrawnLaws

@@ -108,6 +108,7 @@ module _ (bytes : List ℕ) where
   pub classes-labelled : (p : Tree Leaf) → classes-of (written-at bytes p) ≡ labelled-classes bytes (labels p)
   classes-labelled (leaf (character b)) = rw (character-label b)
   classes-labelled (leaf (Leaf.class at)) = rw (kind-of-class at, number-of-class at)
+  classes-labelled (leaf Leaf.empty-text) = refl
   classes-labelled (catenation s t) =
       let left = classes-labelled s in
       let right = classes-labelled t in
@@ -127,6 +128,7 @@ module _ (bytes : List ℕ) where
       → relabelled (labels p) next ≡ labels (recorded-from (written-at bytes p) next)
   labels-numbered (leaf (character b)) next = rw (character-label b)
   labels-numbered (leaf (Leaf.class at)) next = rw (kind-of-class at)
+  labels-numbered (leaf Leaf.empty-text) next = refl
   labels-numbered (catenation s t) next =
       let left = labels-numbered s in
       let right = labels-numbered t in

@@ -3,19 +3,30 @@
 use Prim.Native.Nat.{ℕ, _+_, _*_, _/_, _%_, _^_, _<_}
 use mathlib.Core.Path.{_≡_, refl, ap, sym, _∙_, subst}
 use mathlib.Core.Bool.{Bool, true, false}
-use mathlib.Core.Logic.{_⊎_, inl, inr, _↔_}
+use mathlib.Core.Logic.{_⊎_, inl, inr, _↔_, Iff·symm, Iff·trans}
 use mathlib.Core.List.{List, [], _∷_, _++_, append-assoc}
 use native.Mathlib.Omega.{arith}
 use lib.ListN.{length, getD, length-append, List·getD-append}
 use lib.Seq.{getD-append-add}
 use Rattle.language.specs.Tree.{Tree, leaf, catenation, union, star}
 use Rattle.language.specs.Language.{Language, Repeated, none, more}
+use Rattle.language.specs.SignedTree.{Signed-tree, Well-counted}
+use Rattle.language.specs.SameTexts.{same-texts}
 use Rattle.tree.specs.Leaf.{Leaf, meaning, Matches}
 use Rattle.tree.specs.Layout.{class-record-size}
 use Rattle.tree.specs.Cut.{one}
 use Rattle.classes.specs.Class.{Class, class-takes}
-use Rattle.scanner.specs.Scanner.{Atom, literal, one-of}
-use Rattle.reader.specs.Drawn.{classes-of, classes-in, recorded, recorded-from, written-meaning, Matches-written}
+use Rattle.scanner.specs.Scanner.{Atom, literal, one-of, no-text}
+use Rattle.reader.specs.Drawn.{
+  classes-of,
+  classes-in,
+  recorded,
+  recorded-from,
+  written-meaning,
+  Matches-written,
+  Matches-signs,
+}
+use Rattle.reader.specs.Expanded.{expansion}
 use Rattle.classes.specs.ClassRecord.{class-record, encode-classes}
 use Rattle.classes.specs.ClassRecordLaws.{record-bit, record-length}
 
@@ -107,6 +118,8 @@ module _ (buffer : List ℕ) where
       inl (b, e, one-exactly (class-takes class b) _ (h .0 b byte) .0 l)
   texts-to (leaf (one-of class)) next h w bytes (inr (e, l)) =
       let z : _≡_ {A = ℕ} 0 1 = cc in absurd (omega arith)
+  texts-to (leaf no-text) next h w bytes (inl (b, e, l)) = absurd l
+  texts-to (leaf no-text) next h w bytes (inr (e, l)) = inr (e, tt)
   texts-to (catenation s t) next h w bytes (u, v, e, l, r) =
       let (p, q) = records-split buffer (classes-of s) (classes-of t) next h in
       let (first, second) = bytes-split u v (rw e at bytes) in
@@ -125,6 +138,8 @@ module _ (buffer : List ℕ) where
       let byte : b < 256 = (rw e at bytes) .0 in
       inl (b, e, one-exactly (class-takes class b) _ (h .0 b byte) .1 l)
   texts-from (leaf (one-of class)) next h w bytes (inr (e, l)) = absurd l
+  texts-from (leaf no-text) next h w bytes (inl (b, e, l)) = absurd l
+  texts-from (leaf no-text) next h w bytes (inr (e, l)) = inr (e, refl)
   texts-from (catenation s t) next h w bytes (u, v, e, l, r) =
       let (p, q) = records-split buffer (classes-of s) (classes-of t) next h in
       let (first, second) = bytes-split u v (rw e at bytes) in
@@ -142,3 +157,14 @@ pub same-language : (t : Tree Atom) (rest w : List ℕ) → Of-bytes w
 same-language t rest w bytes =
     let held = records-encoded (classes-of t) [] rest 0 refl in
     (texts-to _ t 0 held w bytes, texts-from _ t 0 held w bytes)
+
+-- the tree that the signs stand for has their language
+pub signs-language : (s : Signed-tree Atom) → Well-counted s → (w : List ℕ)
+    → Matches-signs s w ↔ Matches-written (expansion s) w
+signs-language s well w = same-texts written-meaning no-text tt (λ b takes. takes) s well w
+
+-- so the records of an expression have the language of its signs, as they are written
+pub same-as-signs : (s : Signed-tree Atom) → Well-counted s → (rest w : List ℕ) → Of-bytes w
+    → Matches (encode-classes (classes-of (expansion s)) ++ rest) (recorded (expansion s)) w ↔ Matches-signs s w
+same-as-signs s well rest w bytes =
+    Iff·trans (same-language (expansion s) rest w bytes) (Iff·symm (signs-language s well w))

@@ -10,7 +10,8 @@ use Rattle.tree.specs.Limits.{most-pieces}
 use Rattle.tree.specs.Layout.{record-size, class-record-size}
 use Rattle.tree.specs.Records.{encode, piece-count}
 use Rattle.scanner.specs.Bytes.{Syntax, second}
-use Rattle.scanner.specs.Scanner.{Atom, Outcome, tree, refused, scanned}
+use Rattle.scanner.specs.Scanner.{Atom, Outcome, tree, refused}
+use Rattle.reader.specs.Expanded.{expanded}
 use Rattle.reader.specs.Drawn.{classes-of, classes-in, recorded}
 use Rattle.classes.specs.ClassRecord.{encode-classes}
 use Rattle.reader.specs.declared.answer.CountedAnswer.{CountedAnswer}
@@ -57,13 +58,13 @@ abbrev pub too-few-classes : Tree Atom → (class-room : ℕ) → Bool
 too-few-classes t class-room = ltb class-room (class-record-size * classes-in t)
 
 -- what is counted for an expression's outcome: 8 where the cut has more than 128 pieces, else the counts
-abbrev pub checked-for : Outcome Atom → Counted-numbers
+abbrev pub checked-for : Outcome (Tree Atom) → Counted-numbers
 checked-for (refused number place) = refusing-counts number place
 checked-for (tree t) = cond (too-many t) (refusing-counts too-many-pieces 0) (counting t)
 
 -- what a check answers for these bytes, with no buffer lent
 abbrev pub checked : Syntax → List ℕ → Counted-numbers
-checked syntax bytes = checked-for (scanned syntax bytes)
+checked syntax bytes = checked-for (expanded syntax bytes)
 
 -- of these two the first where nothing of 8, 9 and 15 stands against writing, in this order; else by the number
 abbrev pub pick-stored : {A : Type 0} → (many short few : Bool) → (refuses : ℕ → A) → A → A
@@ -75,14 +76,14 @@ pick-stored many short few refuses done =
 -- what is answered for an expression's outcome, with a record buffer of `room` bytes and a class buffer of
 -- `class-room`: 8 where the cut has more than 128 pieces, then 9 where the records do not fit, then 15 where the class
 -- records do not
-abbrev pub second-answer-for : Outcome Atom → (room class-room : ℕ) → Counted-numbers
+abbrev pub second-answer-for : Outcome (Tree Atom) → (room class-room : ℕ) → Counted-numbers
 second-answer-for (refused number place) room class-room = refusing-counts number place
 second-answer-for (tree t) room class-room =
     pick-stored (too-many t) (too-short t room) (too-few-classes t class-room) (λ number. refusing-counts number 0)
     (counting t)
 
 -- what the record buffer holds afterwards: the records, and past them what it held; the same as before on a refusal
-abbrev pub second-records-for : Outcome Atom → (records classes : List ℕ) → List ℕ
+abbrev pub second-records-for : Outcome (Tree Atom) → (records classes : List ℕ) → List ℕ
 second-records-for (refused number place) records classes = records
 second-records-for (tree t) records classes =
     pick-stored (too-many t) (too-short t (length records)) (too-few-classes t (length classes)) (λ number. records)
@@ -90,7 +91,7 @@ second-records-for (tree t) records classes =
 
 -- what the class buffer holds afterwards: the class records, and past them what it held; the same as before on a
 -- refusal
-abbrev pub second-classes-for : Outcome Atom → (records classes : List ℕ) → List ℕ
+abbrev pub second-classes-for : Outcome (Tree Atom) → (records classes : List ℕ) → List ℕ
 second-classes-for (refused number place) records classes = classes
 second-classes-for (tree t) records classes =
     pick-stored (too-many t) (too-short t (length records)) (too-few-classes t (length classes)) (λ number. classes)
@@ -98,12 +99,12 @@ second-classes-for (tree t) records classes =
 
 -- what `read_second` answers for these bytes and buffers of these lengths
 abbrev pub second-answered : List ℕ → (room class-room : ℕ) → Counted-numbers
-second-answered bytes room class-room = second-answer-for (scanned second bytes) room class-room
+second-answered bytes room class-room = second-answer-for (expanded second bytes) room class-room
 
 -- what `read_second` leaves in the record buffer
 abbrev pub second-records-after : List ℕ → (records classes : List ℕ) → List ℕ
-second-records-after bytes records classes = second-records-for (scanned second bytes) records classes
+second-records-after bytes records classes = second-records-for (expanded second bytes) records classes
 
 -- what `read_second` leaves in the class buffer
 abbrev pub second-classes-after : List ℕ → (records classes : List ℕ) → List ℕ
-second-classes-after bytes records classes = second-classes-for (scanned second bytes) records classes
+second-classes-after bytes records classes = second-classes-for (expanded second bytes) records classes

@@ -16,8 +16,9 @@ use Rattle.tree.specs.Layout.{record-size, class-record-size}
 use Rattle.tree.specs.Records.{encode, piece-count, Good}
 use Rattle.tree.specs.Lengths.{nodes-positive, length-encode}
 use Rattle.scanner.specs.Bytes.{second}
-use Rattle.scanner.specs.Scanner.{Atom, Outcome, tree, refused, scanned}
-use Rattle.scanner.specs.Agree.{scanned-refusal}
+use Rattle.scanner.specs.Scanner.{Atom, Outcome, tree, refused}
+use Rattle.reader.specs.Expanded.{expanded}
+use Rattle.reader.specs.ExpandedLaws.{expanded-refusal}
 use Rattle.reader.specs.Drawn.{classes-of, classes-in, recorded}
 use Rattle.classes.specs.ClassRecord.{encode-classes}
 use Rattle.reader.specs.DrawnLaws.{ranked-recorded}
@@ -68,11 +69,11 @@ sure-pick t false true few e f = omega arith
 sure-pick t false false true e f = omega arith
 sure-pick t false false false e f = omega (arith, nodes-positive (recorded t))
 
-sure-answer : (bytes : List ℕ) (room class-room : ℕ) (outcome : Outcome Atom) → scanned second bytes ≡ outcome
+sure-answer : (bytes : List ℕ) (room class-room : ℕ) (outcome : Outcome (Tree Atom)) → expanded second bytes ≡ outcome
     → second-answer-for outcome room class-room .refusal ≡ 0 → second-answer-for outcome room class-room .records ≡ 0
     → ⊥
 sure-answer bytes room class-room (refused number place) scans e f =
-    omega (arith, scanned-refusal second bytes number place scans .least)
+    omega (arith, expanded-refusal second bytes number place scans .least)
 sure-answer bytes room class-room (tree t) scans e f =
     sure-pick t (too-many t) (too-short t room) (too-few-classes t class-room) e f
 
@@ -81,14 +82,14 @@ pub second-answer-unique : (bytes : List ℕ) (room class-room : ℕ) (r s : Cou
     → counted-numbers r ≡ second-answered bytes room class-room
     → counted-numbers s ≡ second-answered bytes room class-room → r ≡ s
 second-answer-unique bytes room class-room r s e f =
-    counts-injective r s (e ∙ sym f) (rw e (sure-answer bytes room class-room (scanned second bytes) refl))
+    counts-injective r s (e ∙ sym f) (rw e (sure-answer bytes room class-room (expanded second bytes) refl))
 
 -- what it means that the records were written: the expression has this tree, the counts are the tree's, the records are
 -- a good list, and the class records are those of its classes
 pub record Second-kept (bytes records-before classes-before records-after classes-after : List ℕ)
     (records pieces classes : ℕ) : Type 0 where
   pub read : Tree Atom
-  pub scans : scanned second bytes ≡ tree read
+  pub scans : expanded second bytes ≡ tree read
   pub counted : records ≡ nodes (recorded read)
   pub parted : pieces ≡ piece-count (recorded read)
   pub classed : classes ≡ classes-in read
@@ -100,7 +101,7 @@ pub record Second-kept (bytes records-before classes-before records-after classe
       ≡ encode-classes (classes-of read) ++ drop (class-record-size * classes) classes-before
 
 module _ (bytes records-before classes-before records-after classes-after : List ℕ) (records pieces classes : ℕ) where
-  kept-pick : (t : Tree Atom) → scanned second bytes ≡ tree t → (many short few : Bool) → too-many t ≡ many
+  kept-pick : (t : Tree Atom) → expanded second bytes ≡ tree t → (many short few : Bool) → too-many t ≡ many
       → too-short t (length records-before) ≡ short → too-few-classes t (length classes-before) ≡ few
       → counted-numbers (Counted records pieces classes) ≡ answers t many short few
       → records-after ≡ pick-stored many short few (λ number. records-before)
@@ -133,7 +134,7 @@ module _ (bytes records-before classes-before records-after classes-after : List
         class-bytes = rw classed g;
       }
 
-  kept-outcome : (outcome : Outcome Atom) → scanned second bytes ≡ outcome
+  kept-outcome : (outcome : Outcome (Tree Atom)) → expanded second bytes ≡ outcome
       → counted-numbers (Counted records pieces classes)
       ≡ second-answer-for outcome (length records-before) (length classes-before)
       → records-after ≡ second-records-for outcome records-before classes-before
@@ -143,7 +144,7 @@ module _ (bytes records-before classes-before records-after classes-after : List
       absurd (omega (
         arith,
         ap (λ (n : Counted-numbers). n .refusal) e,
-        scanned-refusal second bytes number place scans .least,
+        expanded-refusal second bytes number place scans .least,
       ))
   kept-outcome (tree t) scans e f g =
       kept-pick t scans (too-many t) (too-short t (length records-before)) (too-few-classes t (length classes-before))
@@ -155,7 +156,7 @@ module _ (bytes records-before classes-before records-after classes-after : List
       → records-after ≡ second-records-after bytes records-before classes-before
       → classes-after ≡ second-classes-after bytes records-before classes-before
       → Second-kept bytes records-before classes-before records-after classes-after records pieces classes
-  second-kept e f g = kept-outcome (scanned second bytes) refl e f g
+  second-kept e f g = kept-outcome (expanded second bytes) refl e f g
 
 module _ (records classes : List ℕ) (number place : ℕ) where
   -- a refusal is none of the answers past the three tests
@@ -168,14 +169,14 @@ module _ (records classes : List ℕ) (number place : ℕ) where
   same-pick t before after false false false e =
       absurd (omega (arith, nodes-positive (recorded t), ap (λ (n : Counted-numbers). n .records) e))
 
-  same-records : (outcome : Outcome Atom) → counted-numbers (Refused number place)
+  same-records : (outcome : Outcome (Tree Atom)) → counted-numbers (Refused number place)
       ≡ second-answer-for outcome (length records) (length classes)
       → second-records-for outcome records classes ≡ records
   same-records (refused number′ place′) e = refl
   same-records (tree t) e = same-pick t records _ (too-many t) (too-short t (length records))
       (too-few-classes t (length classes)) e
 
-  same-classes : (outcome : Outcome Atom) → counted-numbers (Refused number place)
+  same-classes : (outcome : Outcome (Tree Atom)) → counted-numbers (Refused number place)
       ≡ second-answer-for outcome (length records) (length classes)
       → second-classes-for outcome records classes ≡ classes
   same-classes (refused number′ place′) e = refl
@@ -189,4 +190,4 @@ module _ (records classes : List ℕ) (number place : ℕ) where
       → classes-after ≡ second-classes-after bytes records classes
       → (records-after ≡ records) × (classes-after ≡ classes)
   second-refusal-keeps bytes records-after classes-after e f g =
-      (f ∙ same-records (scanned second bytes) e, g ∙ same-classes (scanned second bytes) e)
+      (f ∙ same-records (expanded second bytes) e, g ∙ same-classes (expanded second bytes) e)

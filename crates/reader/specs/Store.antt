@@ -17,8 +17,9 @@ use Rattle.tree.specs.Records.{labels, encode, piece-count}
 use Rattle.lists.specs.Recording.{Recorded}
 use Rattle.scanner.specs.Bytes.{first, second}
 use Rattle.classes.specs.Class.{Class}
-use Rattle.scanner.specs.Scanner.{Atom, Outcome, tree, refused, scanned}
-use Rattle.scanner.specs.Agree.{scanned-exactly}
+use Rattle.scanner.specs.Scanner.{Atom, Outcome, tree, refused}
+use Rattle.reader.specs.Expanded.{expanded}
+use Rattle.reader.specs.ExpandedLaws.{expanded-exactly}
 use Rattle.reader.specs.Drawn.{classes-of, classes-in, recorded, recorded-from, drawn}
 use Rattle.classes.specs.ClassRecord.{encode-classes}
 use Rattle.reader.specs.DrawnLaws.{first-has-no-class}
@@ -75,6 +76,7 @@ classless-same : (bytes : List ℕ) (p : Tree Leaf) (next : ℕ) → classes-of 
     → recorded-from (written-at bytes p) next ≡ p
 classless-same bytes (leaf (character b)) next e = refl
 classless-same bytes (leaf (Leaf.class at)) next e = let z : _≡_ {A = ℕ} 0 1 = cc in absurd (omega arith)
+classless-same bytes (leaf Leaf.empty-text) next e = refl
 classless-same bytes (catenation s t) next e =
     let (left, right) = both-empty (classes-of (written-at bytes s)) (classes-of (written-at bytes t)) e in
     rw (classless-same bytes s next left, classless-same bytes t (next + classes-in (written-at bytes s)) right)
@@ -88,7 +90,7 @@ pub first-same : {bytes later : List ℕ} {records pieces classes : ℕ}
     (c : Reading-counted first bytes later records pieces classes) → recorded (written-at bytes (c .read)) ≡ c .read
 first-same {bytes} c =
     classless-same bytes (c .read) 0
-    (first-has-no-class (scanned-exactly first bytes (written-at bytes (c .read)) .0 (c .scans) .1))
+    (first-has-no-class (expanded-exactly first bytes (written-at bytes (c .read)) .0 (c .scans) .1))
 
 -- what `read` promises, of its answer and of the buffer
 pub record Read-answer (bytes before after : List ℕ) (r : ReadAnswer) : Type 0 where
@@ -139,7 +141,7 @@ stored-read {before = before} c long (short h) = read-short c before (omega (ari
 stored-read {before = before} c long (whole h w) = rw long (read-whole c before (omega (arith, long, h)) w)
 
 -- a refusal before storing is of the expression's bytes, or 8
-pub data Refused-before : Outcome Atom → (number place : ℕ) → Type 0 where
+pub data Refused-before : Outcome (Tree Atom) → (number place : ℕ) → Type 0 where
   by-bytes : {number place : ℕ} → Refused-before (refused number place) number place
   by-pieces : {t : Tree Atom} → too-many t ≡ true → Refused-before (tree t) too-many-pieces 0
 
@@ -153,7 +155,7 @@ refused-pick t number place true m e =
 refused-pick t number place false m e =
     absurd (omega (arith, nodes-positive (recorded t), ap (λ (n : Counted-numbers). n .records) e))
 
-pub refused-before-storing : (outcome : Outcome Atom) (number place : ℕ)
+pub refused-before-storing : (outcome : Outcome (Tree Atom)) (number place : ℕ)
     → refusing-counts number place ≡ checked-for outcome → Refused-before outcome number place
 refused-before-storing (refused number′ place′) number place e =
     let same : number ≡ number′ = ap (λ (n : Counted-numbers). n .refusal) e in
@@ -162,12 +164,13 @@ refused-before-storing (refused number′ place′) number place e =
 refused-before-storing (tree t) number place e = refused-pick t number place (too-many t) refl e
 
 -- what `read` then answers
-refused-answer : {outcome : Outcome Atom} {number place : ℕ} → Refused-before outcome number place → (room : ℕ)
+refused-answer : {outcome : Outcome (Tree Atom)} {number place : ℕ} → Refused-before outcome number place → (room : ℕ)
     → refusing number place ≡ answer-for (drawn outcome) room
 refused-answer by-bytes room = refl
 refused-answer (by-pieces m) room = rw m
 
-refused-buffer : {outcome : Outcome Atom} {number place : ℕ} → Refused-before outcome number place → (before : List ℕ)
+refused-buffer : {outcome : Outcome (Tree Atom)} {number place : ℕ} → Refused-before outcome number place
+    → (before : List ℕ)
     → before ≡ buffer-for (drawn outcome) before
 refused-buffer by-bytes before = refl
 refused-buffer (by-pieces m) before = rw m
@@ -175,7 +178,7 @@ refused-buffer (by-pieces m) before = rw m
 pub refused-read : {bytes before : List ℕ} {number place : ℕ} → Reading-refused first bytes number place
     → Read-answer bytes before before (Refused number place)
 refused-read {bytes} {before} {number} {place} r =
-    let why = refused-before-storing (scanned first bytes) number place (r .numbers) in
+    let why = refused-before-storing (expanded first bytes) number place (r .numbers) in
     record { answer = refused-answer why (length before); buffer = refused-buffer why before }
 
 -- what `read_second` promises, of its answer and of both buffers
@@ -262,17 +265,17 @@ module _ {bytes later : List ℕ} {count pieces class-count : ℕ}
         }
 
 -- what `read_second` answers where the expression was refused before storing
-refused-counts : {outcome : Outcome Atom} {number place : ℕ} → Refused-before outcome number place
+refused-counts : {outcome : Outcome (Tree Atom)} {number place : ℕ} → Refused-before outcome number place
     → (room class-room : ℕ) → refusing-counts number place ≡ second-answer-for outcome room class-room
 refused-counts by-bytes room class-room = refl
 refused-counts (by-pieces m) room class-room = rw m
 
-refused-records : {outcome : Outcome Atom} {number place : ℕ} → Refused-before outcome number place
+refused-records : {outcome : Outcome (Tree Atom)} {number place : ℕ} → Refused-before outcome number place
     → (records classes : List ℕ) → records ≡ second-records-for outcome records classes
 refused-records by-bytes records classes = refl
 refused-records (by-pieces m) records classes = rw m
 
-refused-classes : {outcome : Outcome Atom} {number place : ℕ} → Refused-before outcome number place
+refused-classes : {outcome : Outcome (Tree Atom)} {number place : ℕ} → Refused-before outcome number place
     → (records classes : List ℕ) → classes ≡ second-classes-for outcome records classes
 refused-classes by-bytes records classes = refl
 refused-classes (by-pieces m) records classes = rw m
@@ -280,7 +283,7 @@ refused-classes (by-pieces m) records classes = rw m
 pub refused-second : {bytes records classes : List ℕ} {number place : ℕ} → Reading-refused second bytes number place
     → Second-answer bytes records classes records classes (Second-refused number place)
 refused-second {bytes} {records} {classes} {number} {place} r =
-    let why = refused-before-storing (scanned second bytes) number place (r .numbers) in
+    let why = refused-before-storing (expanded second bytes) number place (r .numbers) in
     record {
       answer = refused-counts why (length records) (length classes);
       record-buffer = refused-records why records classes;

@@ -17,7 +17,8 @@ use Rattle.tree.specs.Cut.{Cut, Fits, pieces}
 use Rattle.tree.specs.Records.{piece-count}
 use Rattle.tree.specs.Least.{too-many-exactly}
 use Rattle.scanner.specs.Bytes.{first}
-use Rattle.scanner.specs.Scanner.{scanned, tree}
+use Rattle.scanner.specs.Scanner.{tree}
+use Rattle.reader.specs.Expanded.{expanded}
 use Rattle.reader.specs.Drawn.{drawn}
 use Rattle.reader.specs.DrawnLaws.{Written-as, drawn-exactly}
 use Rattle.reader.specs.Answer.{Numbers, refusing, reading, answer-for, answered}
@@ -48,7 +49,7 @@ pub too-large-exactly : (bytes : List ℕ) (room : ℕ) (t : Tree Leaf) → leng
     → Written-as first bytes t
     → (answered bytes room ≡ refusing too-many-pieces 0) ↔ ((c : Cut t) → Fits t c → most-pieces < pieces t c)
 too-large-exactly bytes room t few w =
-    let scans : drawn (scanned first bytes) ≡ tree t = drawn-exactly first bytes t .1 (few, w) in (
+    let scans : drawn (expanded first bytes) ≡ tree t = drawn-exactly first bytes t .1 (few, w) in (
       λ e. too-many-exactly t .0 (eight-tree t room .0 (rw scans at e)),
       λ many. rw scans (eight-tree t room .1 (too-many-exactly t .1 many)),
     )

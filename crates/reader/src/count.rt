@@ -4,8 +4,10 @@ use cutting::measure::piece_count;
 use scanner::expression::expression;
 use scanner::part::Part;
 use tree::layout::CLASS_LABEL;
+use tree::limits::MOST_LABELS;
 use tree::limits::MOST_PIECES;
 use tree::limits::SLOT_COUNT;
+use tree::refusal_numbers::TOO_MANY_NODES;
 use tree::refusal_numbers::TOO_MANY_PIECES;
 ghost use mathlib.Core.Path.{_≡_};
 ghost use mathlib.Core.Bool.{true, false};
@@ -77,7 +79,7 @@ pub fn count_first(expr: &[u8], labels: &mut [u16]) -> CountedAnswer
     }
 }
 
-// The same of the second syntax.
+// The same of the second syntax, and 17 where the tree that the signs stand for has more nodes than there are labels.
 pub fn count_second(expr: &[u8], labels: &mut [u16]) -> CountedAnswer
     requires { ⌜ most-labels ≡ length (now labels) ⌝ }
     ensures { λ r. ⌜ Count-answer (syntax-of true) (now (expr .entry)) (now (labels .exit)) r ⌝ }
@@ -85,6 +87,14 @@ pub fn count_second(expr: &[u8], labels: &mut [u16]) -> CountedAnswer
     let whole = expression(expr, labels, true);
     match whole {
         Part::Refused { number, place } => CountedAnswer::Refused { number, place },
-        Part::Read { next: _, count } => count_labels(&labels[..count]),
+        Part::Read { next: _, count } => {
+            if count > MOST_LABELS {
+                return CountedAnswer::Refused {
+                    number: TOO_MANY_NODES,
+                    place: 0,
+                };
+            }
+            count_labels(&labels[..count])
+        }
     }
 }

@@ -7,7 +7,7 @@ use lib.ListN.{length}
 use lib.Seq.{length-take-le}
 use Rattle.scanner.specs.Bytes.{first}
 use Rattle.scanner.specs.Expression.{Expression-read}
-use Rattle.reader.specs.Count.{refused-before, read-counted}
+use Rattle.reader.specs.Count.{refused-before, first-bounded, read-counted}
 use borrow.Author.Needs.{needs}
 use Rattle.reader.proofs.count.count_first.Statement.{statement}
 use Rattle.reader.proofs.count.count_first.Tie as tie
@@ -26,7 +26,7 @@ within : (c : tie.After-known-told2)
 within c =
     let r = tree-read c in
     let s = c .before .before .before .before .before .before .before .before .before in
-    omega (arith, r .bounded, c .before .before .before .before .before .expression .kept .1 .0, s .pre)
+    omega (arith, first-bounded r, c .before .before .before .before .before .expression .kept .1 .0, s .pre)
 
 expression-requires : tie.Need-expression-requires
 expression-requires c κs = let s = c .before .before .before in omega (arith, s .pre)
@@ -45,8 +45,10 @@ slice-aggregate-count-labels c = sym (length-take-le _ _ (within (c .before)))
 
 count-labels-requires : tie.Need-count-labels-requires
 count-labels-requires c κs =
-    let r = tree-read (c .before) in
-    (record { tree = r .read; same = r .written }, rw (sym (slice-aggregate-count-labels c)) (r .bounded))
+    let r = tree-read (c .before) in (
+      record { tree = r .read; same = r .written (first-bounded r) },
+      rw (sym (slice-aggregate-count-labels c)) (first-bounded r),
+    )
 
 same-length : tie.Need-same-length
 same-length c = search needs
@@ -62,7 +64,8 @@ returns-2 : tie.Need-returns-2
 returns-2 c =
     let k = c .before .before in
     let r = tree-read k in
-    read-counted (c .count-labels .result) r _ refl (length-take-le _ _ (within k)) (c .count-labels .ensures)
+    read-counted (c .count-labels .result) r (first-bounded r) _ refl (length-take-le _ _ (within k))
+    (c .count-labels .ensures)
 
 pub count-first-spec : {M : Type 1} → statement M
 count-first-spec =
