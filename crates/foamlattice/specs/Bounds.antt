@@ -9,17 +9,18 @@ use lib.Dec.{ltb}
 use borrow.Author.Tests.{ltb-false}
 use Rattle.language.specs.Tree.{Tree, leaf, catenation, union, star, nodes}
 use Rattle.language.specs.Automaton.{States}
-use Rattle.tree.specs.RefusalNumbers.{too-many-pieces, buffer-too-short, class-buffer-too-short}
+use Rattle.tree.specs.RefusalNumbers.{too-many-pieces, buffer-too-short, class-buffer-too-short, too-many-nodes}
 use Rattle.tree.specs.Leaf.{Leaf}
 use Rattle.tree.specs.Layout.{record-size}
 use Rattle.tree.specs.Limits.{longest-expression, most-records, most-pieces, longest-text}
 use Rattle.tree.specs.Records.{piece-count}
 use Rattle.tree.specs.Pieces.{nodes-per-piece}
 use Rattle.scanner.specs.Bytes.{Syntax, first, second}
-use Rattle.scanner.specs.Scanner.{Atom, literal, one-of, Outcome, tree, refused, scanned}
+use Rattle.scanner.specs.Scanner.{Atom, literal, one-of, no-text, Outcome, tree, refused}
+use Rattle.reader.specs.Expanded.{expanded}
 use Rattle.reader.specs.Drawn.{drawn, recorded-from, recorded, classes-in}
-use Rattle.scanner.specs.Agree.{scanned-refusal}
-use Rattle.reader.specs.DrawnLaws.{drawn-refusal}
+use Rattle.reader.specs.ExpandedLaws.{expanded-refusal}
+use Rattle.reader.specs.DrawnLaws.{first-drawn-refusal}
 use Rattle.reader.specs.Answer.{Numbers, refusing, reading, answer-for, answered}
 use Rattle.reader.specs.SecondAnswer.{
   Counted-numbers,
@@ -128,10 +129,10 @@ picked-ranges t false false e =
       pieces-small = few;
     }
 
-outcome-ranges : (bytes : List ℕ) (room : ℕ) (outcome : Outcome Leaf) → drawn (scanned first bytes) ≡ outcome
+outcome-ranges : (bytes : List ℕ) (room : ℕ) (outcome : Outcome (Tree Leaf)) → drawn (expanded first bytes) ≡ outcome
     → Read-ranges (answer-for outcome room)
 outcome-ranges bytes room (refused number place) e =
-    let known = drawn-refusal first bytes number place e in
+    let known = first-drawn-refusal bytes number place e in
     record {
       refusal-small = omega (arith, known .most);
       place-small = known .inside;
@@ -143,7 +144,7 @@ outcome-ranges bytes room (tree t) e =
 
 -- what is answered for any bytes and any buffer
 pub answered-ranges : (bytes : List ℕ) (room : ℕ) → Read-ranges (answered bytes room)
-answered-ranges bytes room = outcome-ranges bytes room (drawn (scanned first bytes)) refl
+answered-ranges bytes room = outcome-ranges bytes room (drawn (expanded first bytes)) refl
 
 -- so for numbers that fit the promise
 pub read-ranges : (bytes : List ℕ) (room : ℕ) (n : Numbers) → n ≡ answered bytes room → Read-ranges n
@@ -151,14 +152,14 @@ read-ranges bytes room n e = rw e (answered-ranges bytes room)
 
 -- the numbers that reading in the second syntax can answer
 pub record Second-ranges (n : Counted-numbers) : Type 0 where
-  pub refusal-small : n .refusal ≤ class-buffer-too-short
+  pub refusal-small : n .refusal ≤ too-many-nodes
   pub place-small : n .place ≤ longest-expression
   pub records-small : n .records ≤ most-records
   pub pieces-small : n .pieces ≤ most-pieces
   pub classes-small : n .classes ≤ most-records
 
 -- a refusal's counts are 0
-refused-counts : (number place : ℕ) → number ≤ class-buffer-too-short → place ≤ longest-expression
+refused-counts : (number place : ℕ) → number ≤ too-many-nodes → place ≤ longest-expression
     → Second-ranges (refusing-counts number place)
 refused-counts number place small inside = record {
   refusal-small = small;
@@ -172,6 +173,7 @@ refused-counts number place small inside = record {
 classes-most : (t : Tree Atom) (next : ℕ) → classes-in t ≤ nodes (recorded-from t next)
 classes-most (leaf (literal b)) next = omega arith
 classes-most (leaf (one-of class)) next = omega arith
+classes-most (leaf no-text) next = omega arith
 classes-most (catenation s t) next =
     rw length-append (omega (arith, classes-most s next, classes-most t (next + classes-in s)))
 classes-most (union s t) next =
@@ -195,17 +197,15 @@ stored-ranges t false false false e =
       classes-small = omega (arith, records, classes-most t 0);
     }
 
--- a refusal of writing, by the highest number of each syntax
-refused-writing : (syntax : Syntax) (bytes : List ℕ) (number place : ℕ) → scanned syntax bytes ≡ refused number place
+-- a refusal by the bytes alone
+refused-writing : (syntax : Syntax) (bytes : List ℕ) (number place : ℕ) → expanded syntax bytes ≡ refused number place
     → Second-ranges (refusing-counts number place)
-refused-writing first bytes number place e =
-    let known = scanned-refusal first bytes number place e in
-    refused-counts number place (omega (arith, known .most)) (known .inside)
-refused-writing second bytes number place e =
-    let known = scanned-refusal second bytes number place e in
-    refused-counts number place (omega (arith, known .most)) (known .inside)
+refused-writing syntax bytes number place e =
+    let known = expanded-refusal syntax bytes number place e in
+    refused-counts number place (known .most) (known .inside)
 
-second-outcome : (bytes : List ℕ) (room class-room : ℕ) (outcome : Outcome Atom) → scanned second bytes ≡ outcome
+second-outcome : (bytes : List ℕ) (room class-room : ℕ) (outcome : Outcome (Tree Atom))
+    → expanded second bytes ≡ outcome
     → Second-ranges (second-answer-for outcome room class-room)
 second-outcome bytes room class-room (refused number place) e = refused-writing second bytes number place e
 second-outcome bytes room class-room (tree t) e =
@@ -217,20 +217,20 @@ counted-ranges : (t : Tree Atom) (many : Bool) → too-many t ≡ many
 counted-ranges t true e = refused-counts too-many-pieces 0 (omega arith) (omega arith)
 counted-ranges t false e = stored-ranges t false false false e
 
-checked-outcome : (syntax : Syntax) (bytes : List ℕ) (outcome : Outcome Atom) → scanned syntax bytes ≡ outcome
+checked-outcome : (syntax : Syntax) (bytes : List ℕ) (outcome : Outcome (Tree Atom)) → expanded syntax bytes ≡ outcome
     → Second-ranges (checked-for outcome)
 checked-outcome syntax bytes (refused number place) e = refused-writing syntax bytes number place e
 checked-outcome syntax bytes (tree t) e = counted-ranges t (too-many t) refl
 
 -- what a check answers for any bytes
 pub checked-ranges : (syntax : Syntax) (bytes : List ℕ) → Second-ranges (checked syntax bytes)
-checked-ranges syntax bytes = checked-outcome syntax bytes (scanned syntax bytes) refl
+checked-ranges syntax bytes = checked-outcome syntax bytes (expanded syntax bytes) refl
 
 -- what is answered for any bytes and any two buffers
 pub second-answered-ranges : (bytes : List ℕ) (room class-room : ℕ)
     → Second-ranges (second-answered bytes room class-room)
 second-answered-ranges bytes room class-room =
-    second-outcome bytes room class-room (scanned second bytes) refl
+    second-outcome bytes room class-room (expanded second bytes) refl
 
 -- so for numbers that fit the promise
 pub second-ranges : (bytes : List ℕ) (room class-room : ℕ) (n : Counted-numbers)
@@ -313,10 +313,10 @@ pick-length-small input before after NoRoom right = omega arith
 
 -- a number and a flag of a case are small
 pub record Small-case (number flag : ℕ) : Type 0 where
-  pub number-small : number ≤ class-buffer-too-short
+  pub number-small : number ≤ too-many-nodes
   pub flag-small : flag ≤ 1
 
-small : (number flag : ℕ) → number ≤ class-buffer-too-short → flag ≤ 1 → Small-case number flag
+small : (number flag : ℕ) → number ≤ too-many-nodes → flag ≤ 1 → Small-case number flag
 small number flag n f = record { number-small = n; flag-small = f }
 
 flag-small : (flag : Bool) → cond flag 1 0 ≤ 1
@@ -397,7 +397,7 @@ searching-unpacks list classes text r m = found-unpacks r (m .numbers) (search-r
 marks-unpacks : (r : ℕ) (n : Marks-numbers) → Marks-ranges n → r ≡ marks-packed n
     → Unpacks r (n .refusal) (cond (n .accepting) 1 0) (n .place + cond (n .nothing) 1 0) 0
 marks-unpacks r n known e =
-    case-unpacks r _ _ _ 0 (small _ _ (known .refusal-small) (flag-small (n .accepting)))
+    case-unpacks r _ _ _ 0 (small _ _ (omega (arith, known .refusal-small)) (flag-small (n .accepting)))
     (omega (arith, known .front, flag-small (n .nothing))) (omega arith) e
 
 pub starting-unpacks : (list classes before after : List ℕ) (r : ℕ) (m : Starting list classes before after r)

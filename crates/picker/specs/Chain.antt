@@ -2,28 +2,31 @@
 -- finds by it, in either syntax.
 use Prim.Native.Nat.{ℕ, zero, suc, _+_, _*_, _≤_}
 use native.Mathlib.Omega.{arith}
-use mathlib.Core.Path.{_≡_, subst, ap}
+use mathlib.Core.Path.{_≡_, subst, ap, sym, _∙_}
 use mathlib.Core.Bool.{Bool, true, false}
 use mathlib.Core.Logic.{_↔_, Iff·rfl, Iff·symm, Iff·trans, Iff·and}
-use mathlib.Core.List.{List, [], _∷_}
+use mathlib.Core.List.{List, [], _∷_, _++_}
 use lib.ListN.{length, take, drop, length-append}
 use Rattle.language.specs.Tree.{Tree}
+use Rattle.language.specs.SignedTree.{Signed-tree}
 use Rattle.tree.specs.Leaf.{Leaf, Matches}
 use Rattle.tree.specs.Layout.{record-size, class-record-size}
 use Rattle.tree.specs.Records.{Good}
 use Rattle.lists.specs.Readback.{good-unique}
 use Rattle.tree.specs.Limits.{longest-text}
 use Rattle.scanner.specs.Bytes.{Syntax, first, second}
-use Rattle.scanner.specs.Scanner.{Atom, scanned}
+use Rattle.scanner.specs.Scanner.{Atom}
+use Rattle.reader.specs.Expanded.{expansion, expanded}
+use Rattle.reader.specs.ExpandedLaws.{expanded-exactly}
 use Rattle.scanner.specs.Grammar.{Written}
-use Rattle.scanner.specs.Agree.{scanned-exactly, grammar-unique}
-use Rattle.reader.specs.Drawn.{recorded, classes-of, classes-in, Matches-written}
+use Rattle.scanner.specs.Agree.{grammar-unique, written-counted}
+use Rattle.reader.specs.Drawn.{recorded, classes-of, classes-in, Matches-signs}
 use Rattle.classes.specs.ClassRecord.{encode-classes}
 use Rattle.reader.specs.Answer.{numbers, answered, records-after}
 use Rattle.reader.specs.SecondAnswer.{counted-numbers, second-answered, second-records-after, second-classes-after}
 use Rattle.classes.specs.ClassRecordLaws.{encode-classes-length}
 use Rattle.reader.specs.DrawnLaws.{class-count-recorded, first-has-no-class, drawn-tree}
-use Rattle.reader.specs.SameLanguage.{Of-bytes, same-language}
+use Rattle.reader.specs.SameLanguage.{Of-bytes, same-as-signs}
 use Rattle.reader.specs.Kept.{kept}
 use Rattle.reader.specs.SecondKept.{Second-kept, second-kept}
 use Rattle.reader.specs.declared.answer.ReadAnswer.the-variants.{Read}
@@ -34,9 +37,9 @@ use Rattle.finder.specs.Answer.{answering, finding}
 use Rattle.finder.specs.Promise.{Of-good, Match-answers, Search-answers}
 use Rattle.finder.specs.Refusals.{match-exactly, search-found-exactly, search-nothing-exactly}
 
--- the text lies in the language of the expression, as it is written
+-- the text lies in the language of the expression, said of its signs as they are written
 abbrev pub In-expression : Syntax → List ℕ → List ℕ → Type 0
-In-expression syntax bytes text = (t : Tree Atom) × Written syntax bytes t × Matches-written t text
+In-expression syntax bytes text = (s : Signed-tree Atom) × Written syntax bytes s × Matches-signs s text
 
 -- `read` answered that the expression's records were written
 pub record Accepted (bytes before after : List ℕ) (records pieces : ℕ) : Type 0 where
@@ -54,48 +57,56 @@ pub record Accepted-second (bytes before classes-before after classes-after : Li
 -- a list and class records to lend with it, as reading an expression leaves them: the list is good, there are class
 -- records enough, and its leaves mean by these what was written
 pub record Usable (syntax : Syntax) (bytes list classes : List ℕ) : Type 0 where
-  pub read : Tree Atom
-  pub written : Written syntax bytes read
-  pub good : Good list (recorded read)
-  pub classed : Classed classes (recorded read)
-  pub means : (w : List ℕ) → Of-bytes w → Matches classes (recorded read) w ↔ Matches-written read w
+  pub signs : Signed-tree Atom
+  pub written : Written syntax bytes signs
+  pub good : Good list (recorded (expansion signs))
+  pub classed : Classed classes (recorded (expansion signs))
+  pub means : (w : List ℕ) → Of-bytes w → Matches classes (recorded (expansion signs)) w ↔ Matches-signs signs w
 
 -- what `read` leaves is usable with any class records, with none too: the first syntax has no classes
 pub first-usable : {bytes before after : List ℕ} {records pieces : ℕ} → Accepted bytes before after records pieces
     → (lent : List ℕ) → Usable first bytes (take (record-size * records) after) lent
 first-usable {bytes} {before} {after} {records} {pieces} accepted lent =
     let held = kept bytes before after records pieces (accepted .answer) (accepted .buffer) in
-    let (s, scans, same) = drawn-tree (scanned first bytes) (held .read) (held .scans) in
-    let spelled = scanned-exactly first bytes s .0 scans .1 in
-    let classless : classes-of s ≡ [] = first-has-no-class spelled in
-    let none : classes-in s ≡ 0 = ap length classless in
+    let (t, scans, same) = drawn-tree (expanded first bytes) (held .read) (held .scans) in
+    let spelled = expanded-exactly first bytes t .0 scans .1 in
+    let s = spelled .signs in
+    let classless : classes-of (expansion s) ≡ [] = ap classes-of (sym (spelled .stands))
+    ∙ first-has-no-class spelled in
+    let none : classes-in (expansion s) ≡ 0 = ap length classless in
     record {
-      read = s;
-      written = spelled;
-      good = rw same at (held .good);
-      classed = omega (arith, class-count-recorded s, none);
-      means = λ w bytes-only. rw classless at (same-language s lent w bytes-only);
+      signs = s;
+      written = spelled .spelled;
+      good = rw (same ∙ ap recorded (spelled .stands)) at (held .good);
+      classed = omega (arith, class-count-recorded (expansion s), none);
+      means = λ w bytes-only.
+          rw classless at (same-as-signs s (written-counted (spelled .spelled)) lent w bytes-only);
     }
 
 -- a list and class records that are those of an expression of the second syntax
 kept-usable : {bytes before classes-before after classes-after : List ℕ} {records pieces classes : ℕ}
     → Second-kept bytes before classes-before after classes-after records pieces classes
     → Usable second bytes (take (record-size * records) after) classes-after
-kept-usable {bytes} {before} {classes-before} {classes = classes} held =
-    let stored : List ℕ = encode-classes (classes-of (held .read)) in
+kept-usable {bytes} {before} {classes-before} {classes-after = classes-after} {classes = classes} held =
+    let spelled = expanded-exactly second bytes (held .read) .0 (held .scans) .1 in
+    let s = spelled .signs in
+    let stored : List ℕ = encode-classes (classes-of (expansion s)) in
     let rest : List ℕ = drop (class-record-size * classes) classes-before in
+    let after : classes-after ≡ stored ++ rest = held .class-bytes
+    ∙ ap (λ (t : Tree Atom). encode-classes (classes-of t) ++ rest) (spelled .stands) in
     record {
-      read = held .read;
-      written = scanned-exactly second bytes (held .read) .0 (held .scans) .1;
-      good = held .good;
+      signs = s;
+      written = spelled .spelled;
+      good = rw (spelled .stands) at (held .good);
       classed = omega (
         arith,
-        ap length (held .class-bytes),
+        ap length after,
         length-append stored rest,
-        class-count-recorded (held .read),
-        encode-classes-length (classes-of (held .read)),
+        class-count-recorded (expansion s),
+        encode-classes-length (classes-of (expansion s)),
+        held .classed,
       );
-      means = λ w bytes-only. rw (held .class-bytes) (same-language (held .read) rest w bytes-only);
+      means = λ w bytes-only. rw after (same-as-signs s (written-counted (spelled .spelled)) rest w bytes-only);
     }
 
 -- what `read_second` leaves is usable with the class buffer as it leaves that
@@ -136,26 +147,26 @@ found-same text bytes same s e f =
 
 module _ {syntax : Syntax} {bytes list classes : List ℕ} (usable : Usable syntax bytes list classes) where
   -- the language of the list's tree, by the class records, is that of the expression
-  as-written : (text : List ℕ) → Of-bytes text → Matches classes (recorded (usable .read)) text
+  as-written : (text : List ℕ) → Of-bytes text → Matches classes (recorded (expansion (usable .signs))) text
       ↔ In-expression syntax bytes text
   as-written text of-bytes = (
-    λ matches. (usable .read, usable .written, usable .means text of-bytes .0 matches),
-    λ (t, reads, matches).
+    λ matches. (usable .signs, usable .written, usable .means text of-bytes .0 matches),
+    λ (s, reads, matches).
         usable .means text of-bytes .1
-        (subst (λ (s : Tree Atom). Matches-written s text) (grammar-unique reads (usable .written)) matches),
+        (subst (λ (t : Signed-tree Atom). Matches-signs t text) (grammar-unique reads (usable .written)) matches),
   )
 
   -- what is answered of the list is answered of its tree
   of-read : (text : List ℕ) (P : Tree Leaf → Type 0) → Of-good list classes text P
-      ↔ ((length text ≤ longest-text) × P (recorded (usable .read)))
+      ↔ ((length text ≤ longest-text) × P (recorded (expansion (usable .signs))))
   of-read text P = (
     λ o. (
       o .short,
-      subst P (good-unique list (o .t) (recorded (usable .read)) (o .good) (usable .good)) (o .holds),
+      subst P (good-unique list (o .t) (recorded (expansion (usable .signs))) (o .good) (usable .good)) (o .holds),
     ),
     λ (short, holds).
         record {
-          t = recorded (usable .read);
+          t = recorded (expansion (usable .signs));
           good = usable .good;
           classed = usable .classed;
           short = short;

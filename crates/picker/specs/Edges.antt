@@ -18,6 +18,7 @@ use Rattle.tree.specs.Pieces.{cut-up}
 use Rattle.scanner.specs.Text.{bytes}
 use Rattle.scanner.specs.Bytes.{first}
 use Rattle.scanner.specs.Scanner.{Outcome, tree, refused, scan, scanned}
+use Rattle.reader.specs.Expanded.{expanded}
 use Rattle.reader.specs.Drawn.{drawn}
 use Rattle.reader.specs.Answer.{answer-for, answered, records-after}
 use Rattle.reader.specs.Kept.{kept}
@@ -163,12 +164,12 @@ edges =
     ∷ []
 
 -- whether an outcome is this refusal
-unfoldable is-refusal : ℕ → ℕ → Outcome Leaf → Bool
+unfoldable is-refusal : ℕ → ℕ → Outcome (Tree Leaf) → Bool
 is-refusal number place (tree t) = false
 is-refusal number place (refused n p) = also (eqb n number) (eqb p place)
 
 -- whether an outcome is a tree of few pieces and no class that passes a test
-unfoldable is-tree : (Tree Leaf → Bool) → Outcome Leaf → Bool
+unfoldable is-tree : (Tree Leaf → Bool) → Outcome (Tree Leaf) → Bool
 is-tree test (tree t) =
     also (Bool·beq (ltb most-pieces (piece-count t)) false) (also (eqb (class-count t) 0) (test t))
 is-tree test (refused n p) = false
@@ -194,18 +195,18 @@ steps-test t w (step ∷ later) =
 
 -- a row, as a test that computes
 unfoldable row-test : Row → Bool
-row-test (refuses expression number place) = is-refusal number place (drawn (scanned first expression))
+row-test (refuses expression number place) = is-refusal number place (drawn (expanded first expression))
 row-test (reads expression records pieces) = is-tree (λ t. also (eqb (nodes t) records) (eqb (piece-count t) pieces))
-    (drawn (scanned first expression))
+    (drawn (expanded first expression))
 row-test (marks expression start steps) =
-    is-tree (λ t. also (left-test t [] start) (steps-test t [] steps)) (drawn (scanned first expression))
+    is-tree (λ t. also (left-test t [] start) (steps-test t [] steps)) (drawn (expanded first expression))
 row-test (answers expression text answer) =
     is-tree (λ t. also (Bool·beq (ltb longest-text (length text)) false) (Bool·beq (matches [] t text) answer))
-    (drawn (scanned first expression))
+    (drawn (expanded first expression))
 row-test (finds expression text answer) =
     is-tree
     (λ t. also (Bool·beq (ltb longest-text (length text)) false) (same-answer (searched (matches [] t) text) answer))
-    (drawn (scanned first expression))
+    (drawn (expanded first expression))
 
 -- a test that is as false fails
 fails : (test : Bool) → Bool·beq test false ≡ true → test ≡ false
@@ -213,7 +214,7 @@ fails true e = absurd (false≢true e)
 fails false e = refl
 
 -- an outcome that passes the test is that refusal, whatever the room
-refusal-holds : (number place room : ℕ) (outcome : Outcome Leaf) → is-refusal number place outcome ≡ true
+refusal-holds : (number place room : ℕ) (outcome : Outcome (Tree Leaf)) → is-refusal number place outcome ≡ true
     → answer-for outcome room ≡ record { refusal = number; place = place; records = 0; pieces = 0 }
 unfolding is-refusal
 refusal-holds number place room (tree t) e = absurd (false≢true e)
@@ -222,7 +223,7 @@ refusal-holds number place room (refused n p) e =
 
 module _ (expression : List ℕ) (Says : List ℕ → Type 0) where
   -- an expression with a tree of few pieces is read, and its records are a good list of the tree
-  tree-read : (t : Tree Leaf) → drawn (scanned first expression) ≡ tree t → ltb most-pieces (piece-count t) ≡ false
+  tree-read : (t : Tree Leaf) → drawn (expanded first expression) ≡ tree t → ltb most-pieces (piece-count t) ≡ false
       → ((list : List ℕ) → Good list t → Says list) → Read expression (nodes t) (piece-count t) Says
   tree-read t scans few says =
       let given : (buffer : List ℕ) → record-size * nodes t ≤ length buffer → answered expression (length buffer)
@@ -237,14 +238,14 @@ module _ (expression : List ℕ) (Says : List ℕ → Type 0) where
             says (take (record-size * nodes t) (records-after expression buffer)) (rw same at (k .good));
       }
     where
-      same-tree : {s u : Tree Leaf} → drawn (scanned first expression) ≡ tree s
-          → drawn (scanned first expression) ≡ tree u → s ≡ u
+      same-tree : {s u : Tree Leaf} → drawn (expanded first expression) ≡ tree s
+          → drawn (expanded first expression) ≡ tree u → s ≡ u
       same-tree e f = cc (e, f)
 
   -- an outcome that passes the test is such a tree with no class, and of it holds what the test stands for
   tree-holds : (test : Tree Leaf → Bool)
       → ((t : Tree Leaf) → test t ≡ true → Classed [] t → (list : List ℕ) → Good list t → Says list)
-      → (outcome : Outcome Leaf) → drawn (scanned first expression) ≡ outcome → is-tree test outcome ≡ true
+      → (outcome : Outcome (Tree Leaf)) → drawn (expanded first expression) ≡ outcome → is-tree test outcome ≡ true
       → Of-records expression Says
   unfolding is-tree
   tree-holds test sound (tree t) scans e =
@@ -256,8 +257,8 @@ module _ (expression : List ℕ) (Says : List ℕ → Type 0) where
   tree-holds test sound (refused n p) scans e = absurd (false≢true e)
 
 -- an expression that passes the test for its counts is read with them
-reads-holds : (expression : List ℕ) (records pieces : ℕ) (outcome : Outcome Leaf)
-    → drawn (scanned first expression) ≡ outcome
+reads-holds : (expression : List ℕ) (records pieces : ℕ) (outcome : Outcome (Tree Leaf))
+    → drawn (expanded first expression) ≡ outcome
     → is-tree (λ t. also (eqb (nodes t) records) (eqb (piece-count t) pieces)) outcome ≡ true
     → Read expression records pieces (λ list. Unit {0})
 unfolding is-tree
@@ -343,25 +344,25 @@ module _ {list : List ℕ} {t : Tree Leaf} (good : Good list t) (classed : Class
 row-holds : (row : Row) → row-test row ≡ true → Row-says row
 unfolding row-test
 row-holds (refuses expression number place) e = λ room. refusal-holds number place room
-    (drawn (scanned first expression)) e
+    (drawn (expanded first expression)) e
 row-holds (reads expression records pieces) e = reads-holds expression records pieces
-    (drawn (scanned first expression)) refl e
+    (drawn (expanded first expression)) refl e
 row-holds (marks expression start steps) e =
     tree-holds expression _ _
     (λ t h classed list good. marks-hold good classed start steps (also-first _ _ h) (also-second _ _ h))
-    (drawn (scanned first expression)) refl e
+    (drawn (expanded first expression)) refl e
 row-holds (answers expression text answer) e =
     tree-holds expression _ _
     (λ t h classed list good.
     match-answered (of-good good classed (also-first _ _ h) (match-holds t text answer (also-second _ _ h))))
-    (drawn (scanned first expression)) refl e
+    (drawn (expanded first expression)) refl e
 row-holds (finds expression text answer) e =
     tree-holds expression _ _
     (λ t h classed list good.
     finds-hold good classed text answer (also-first _ _ h)
     (searched-exactly (Matches [] t) (matches [] t) (matches-exactly [] t) text answer .1
     (answer-holds (searched (matches [] t) text) answer (also-second _ _ h))))
-    (drawn (scanned first expression)) refl e
+    (drawn (expanded first expression)) refl e
 
 -- all rows pass
 unfoldable rows-test : List Row → Bool
@@ -376,6 +377,7 @@ rows-hold (row ∷ rows) e = (row-holds row (also-first _ _ e), rows-hold rows (
 
 -- every row of the table holds
 pub edges-hold : Every Row-says edges
-unfolding rows-test row-test is-refusal is-tree same-answer left-test steps-test scan scanned any-split any-repeat
+unfolding rows-test row-test is-refusal is-tree same-answer left-test steps-test scan scanned expanded any-split
+    any-repeat
     leaf-text matched latest-end answer-from walked moved also ends agrees tidy holds-after cut-up piece-count
 edges-hold = rows-hold edges refl

@@ -11,7 +11,8 @@ use Rattle.tree.specs.Limits.{most-pieces}
 use Rattle.tree.specs.Records.{piece-count}
 use Rattle.scanner.specs.Text.{bytes}
 use Rattle.scanner.specs.Bytes.{first}
-use Rattle.scanner.specs.Scanner.{Outcome, tree, refused, scanned}
+use Rattle.scanner.specs.Scanner.{Outcome, tree, refused}
+use Rattle.reader.specs.Expanded.{expanded}
 use Rattle.reader.specs.Drawn.{drawn}
 use Rattle.finder.specs.Decide.{matches}
 use Rattle.picker.specs.Limits.{longest-input}
@@ -19,13 +20,13 @@ use Rattle.picker.specs.Lines.{lines, expression, texts}
 use Rattle.picker.specs.Digits.{digits}
 
 -- a tree is refused with 8 where its cut has more than 128 pieces
-abbrev pub few-pieces : Outcome Leaf → Outcome Leaf
+abbrev pub few-pieces : Outcome (Tree Leaf) → Outcome (Tree Leaf)
 few-pieces (tree t) = cond (ltb most-pieces (piece-count t)) (refused too-many-pieces 0) (tree t)
 few-pieces (refused number place) = refused number place
 
 -- what reading an expression of the first syntax comes to, where there is room for its records
-abbrev pub answered : List ℕ → Outcome Leaf
-answered expr = few-pieces (drawn (scanned first expr))
+abbrev pub answered : List ℕ → Outcome (Tree Leaf)
+answered expr = few-pieces (drawn (expanded first expr))
 
 -- the line of a text: its number, `yes` or `no`, and its rank among the yes lines, or `-`
 abbrev pub text-line : Bool → (number rank : ℕ) → List ℕ
@@ -61,7 +62,7 @@ module _ (matching : Tree Leaf → List ℕ → Bool) where
       ++ text-lines t (count + 1) (yes-after (matching t text) yes-lines) later
 
   -- what is printed for an expression's outcome and the texts
-  abbrev pub reported : Outcome Leaf → List (List ℕ) → List ℕ
+  abbrev pub reported : Outcome (Tree Leaf) → List (List ℕ) → List ℕ
   reported (tree t) later = text-lines t 0 0 later
   reported (refused number place) later = refusal-line number place
 

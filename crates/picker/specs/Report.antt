@@ -16,9 +16,10 @@ use Rattle.tree.specs.Records.{piece-count}
 use Rattle.tree.specs.Lengths.{nodes-positive}
 use Rattle.tree.specs.Pieces.{nodes-per-piece}
 use Rattle.scanner.specs.Bytes.{first}
-use Rattle.scanner.specs.Scanner.{Outcome, tree, refused, scanned}
+use Rattle.scanner.specs.Scanner.{Outcome, tree, refused}
+use Rattle.reader.specs.Expanded.{expanded}
 use Rattle.reader.specs.Drawn.{drawn}
-use Rattle.reader.specs.DrawnLaws.{drawn-size, drawn-refusal}
+use Rattle.reader.specs.DrawnLaws.{first-drawn-size, first-drawn-refusal}
 use Rattle.reader.specs.Answer.{Numbers, refusing, reading, answer-for, answered as answers}
 use Rattle.reader.specs.Kept.{Kept}
 use Rattle.matching.specs.Found.{part}
@@ -47,7 +48,7 @@ records-fit t few = omega (arith, nodes-per-piece t, ltb-false most-pieces (piec
 told-tree : (bytes : List ℕ) (room number place : ℕ) → record-size * most-records ≤ room
     → (t : Tree Leaf) (many short : Bool)
     → ltb most-pieces (piece-count t) ≡ many → ltb room (record-size * nodes t) ≡ short
-    → few-pieces (drawn (scanned first bytes)) ≡ cond many (refused too-many-pieces 0) (tree t)
+    → few-pieces (drawn (expanded first bytes)) ≡ cond many (refused too-many-pieces 0) (tree t)
     → refusing number place
     ≡ cond many (refusing too-many-pieces 0) (cond short (refusing buffer-too-short 0) (reading t))
     → Refusal-read bytes number place
@@ -60,11 +61,12 @@ told-tree bytes room number place large t false true m h outcome e =
 told-tree bytes room number place large t false false m h outcome e =
     absurd (omega (arith, nodes-positive t, ap (λ (n : Numbers). n .records) e))
 
-told-outcome : (bytes : List ℕ) (room number place : ℕ) → record-size * most-records ≤ room → (outcome : Outcome Leaf)
-    → drawn (scanned first bytes) ≡ outcome
+told-outcome : (bytes : List ℕ) (room number place : ℕ) → record-size * most-records ≤ room
+    → (outcome : Outcome (Tree Leaf))
+    → drawn (expanded first bytes) ≡ outcome
     → refusing number place ≡ answer-for outcome room → Refusal-read bytes number place
 told-outcome bytes room number place large (refused number′ place′) scans e =
-    let bounds = drawn-refusal first bytes number′ place′ scans in
+    let bounds = first-drawn-refusal bytes number′ place′ scans in
     let same : number ≡ number′ = ap (λ (n : Numbers). n .refusal) e in
     let there : place ≡ place′ = ap (λ (n : Numbers). n .place) e in
     record {
@@ -81,7 +83,7 @@ told-outcome bytes room number place large (tree t) scans e =
 pub told : (bytes : List ℕ) (room number place : ℕ) → record-size * most-records ≤ room
     → refusing number place ≡ answers bytes room
     → Refusal-read bytes number place
-told bytes room number place large e = told-outcome bytes room number place large (drawn (scanned first bytes)) refl e
+told bytes room number place large e = told-outcome bytes room number place large (drawn (expanded first bytes)) refl e
 
 -- where it answers that the records were written, the outcome is their tree
 pub read-outcome : {bytes before after : List ℕ} {records pieces : ℕ} (k : Kept bytes before after records pieces)
@@ -109,7 +111,7 @@ module _ (input : List ℕ) (end : ℕ) (ends : Ends input 0 end) where
       → Print-space input (after input end) 0 0 0 out
   texts-space short room k =
       let line = first-line input end ends in
-      let long = drawn-size first (part 0 end input) (k .read) (k .scans) in
+      let long = first-drawn-size (part 0 end input) (k .read) (k .scans) in
       let count : length (lines (drop (after input end) input)) ≤ length input - (length (part 0 end input) + 1) =
       rw (line .is-expression, line .are-texts) at (texts-count input) in
       record {

@@ -13,9 +13,10 @@ use Rattle.tree.specs.Leaf.{Leaf}
 use Rattle.tree.specs.Limits.{most-pieces}
 use Rattle.tree.specs.Records.{piece-count}
 use Rattle.scanner.specs.Bytes.{first}
-use Rattle.scanner.specs.Scanner.{Outcome, tree, refused, scanned}
+use Rattle.scanner.specs.Scanner.{Outcome, tree, refused}
+use Rattle.reader.specs.Expanded.{expanded}
 use Rattle.reader.specs.Drawn.{drawn}
-use Rattle.reader.specs.DrawnLaws.{drawn-size, drawn-refusal}
+use Rattle.reader.specs.DrawnLaws.{first-drawn-size, first-drawn-refusal}
 use Rattle.picker.specs.Lines.{lines, expression, texts}
 use Rattle.picker.specs.LineLaws.{texts-count}
 use Rattle.picker.specs.DigitLaws.{digits-length}
@@ -77,12 +78,12 @@ module _ (matching : Tree Leaf → List ℕ → Bool) where
       ))
 
   -- an expression that is read has a byte, so there are at most 65,534 texts
-  reported-length : (expr : List ℕ) (outcome : Outcome Leaf) → drawn (scanned first expr) ≡ outcome
+  reported-length : (expr : List ℕ) (outcome : Outcome (Tree Leaf)) → drawn (expanded first expr) ≡ outcome
       → (later : List (List ℕ))
       → length later ≤ longest-input - (length expr + 1) → length (reported matching (few-pieces outcome) later)
       ≤ most-output
   reported-length expr (refused number place) e later h =
-      let bounds = drawn-refusal first expr number place e in
+      let bounds = first-drawn-refusal expr number place e in
       omega (arith, refusal-line-length number place (omega (arith, bounds)) (omega (arith, bounds)))
   reported-length expr (tree t) e later h = either (ltb most-pieces (piece-count t))
     where
@@ -90,7 +91,7 @@ module _ (matching : Tree Leaf → List ℕ → Bool) where
           → length (reported matching (cond test (refused too-many-pieces 0) (tree t)) later) ≤ most-output
       either true = omega (arith, refusal-line-length too-many-pieces 0 (omega arith) (omega arith))
       either false =
-          let long = drawn-size first expr t e in
+          let long = first-drawn-size expr t e in
           omega (arith, text-lines-length t later 0 0 (omega arith) (omega (arith, long)), long)
 
   -- the whole output has at most 1,048,575 bytes
@@ -100,7 +101,7 @@ module _ (matching : Tree Leaf → List ℕ → Bool) where
         | yes h ↦ rw (output-long matching input h) (omega arith)
         | no h ↦
             rw (output-short matching input (omega arith))
-            (reported-length (expression (lines input)) (drawn (scanned first (expression (lines input)))) refl
+            (reported-length (expression (lines input)) (drawn (expanded first (expression (lines input)))) refl
             (texts (lines input))
             (omega (arith, texts-count input)))
       ]

@@ -5,6 +5,7 @@ use mathlib.Core.List.{List, [], _∷_}
 use Rattle.tree.specs.Records.{piece-count}
 use Rattle.scanner.specs.Text.{bytes}
 use Rattle.scanner.specs.Scanner.{scan, scanned}
+use Rattle.reader.specs.Expanded.{expanded}
 use Rattle.finder.specs.Decide.{any-split, any-repeat, leaf-text, matched}
 use Rattle.picker.specs.Edges.{Every}
 use Rattle.picker.specs.Lines.{lines}
@@ -63,9 +64,11 @@ return-runs =
 
 -- every run prints so
 pub runs-print : Every Prints-so runs
-unfolding scan scanned piece-count any-split any-repeat leaf-text matched lines digits digits-within text-lines output
+unfolding scan scanned expanded piece-count any-split any-repeat leaf-text matched lines digits digits-within
+    text-lines output
 runs-print = (refl, (refl, (refl, (refl, (refl, (refl, (refl, tt)))))))
 
 pub return-runs-print : Every Prints-so return-runs
-unfolding scan scanned piece-count any-split any-repeat leaf-text matched lines digits digits-within text-lines output
+unfolding scan scanned expanded piece-count any-split any-repeat leaf-text matched lines digits digits-within
+    text-lines output
 return-runs-print = (refl, (refl, (refl, (refl, (refl, (refl, (refl, (refl, tt))))))))
