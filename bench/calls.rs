@@ -1,6 +1,7 @@
-//! What a call costs by itself, on a few bytes: a match, a search, a start and a step.
+//! What a call costs by itself, on a few bytes: a match, a search, a start and a step; and what checking and reading cost, up
+//! to the largest trees that counts stand for.
 
-use crate::foamlattice::{self, MOST_WORDS};
+use crate::foamlattice::{self, MOST_CLASS_BYTES, MOST_RECORD_BYTES, MOST_WORDS};
 use crate::{expected, quickest, workloads, ROUNDS};
 
 /// How often a call is made for one figure: a clock is too coarse for a single one.
@@ -33,7 +34,41 @@ fn print_row(name: &str, expression: &[u8], text: &[u8]) {
     println!("  {name:<28}{cells}");
 }
 
+/// What an expression of the second syntax is read as, or by which number it is refused; a check's time and a reading's.
+fn print_reading(name: &str, expression: &[u8]) {
+    let mut records = vec![0; MOST_RECORD_BYTES];
+    let mut classes = vec![0; MOST_CLASS_BYTES];
+    let answer = match foamlattice::check_second(expression) {
+        Ok(counts) => format!("{} records, {} pieces", counts.records, counts.pieces),
+        Err(refusal) => format!("refused by {}", refusal.number),
+    };
+    let figures = [
+        nanoseconds(|| foamlattice::check_second(expression).is_ok()),
+        nanoseconds(|| foamlattice::read_second(expression, &mut records, &mut classes).is_ok()),
+    ];
+    println!("  {name:<44}{answer:>28}{:>10.0}{:>10.0}", figures[0], figures[1]);
+}
+
+fn print_readings() {
+    println!("\nwhat reading the second syntax costs, in nanoseconds");
+    println!("  {:<72}{:>10}{:>10}", "", "check", "read");
+    let explosion = [b"a", &b"{16,16}".repeat(146)[..]].concat();
+    let rows: [(&str, &[u8]); 9] = [
+        ("a", b"a"),
+        ("[0-9]{4,4}-[0-9]{2,2}-[0-9]{2,2}", b"[0-9]{4,4}-[0-9]{2,2}-[0-9]{2,2}"),
+        ("897 letters", &[b'a'; 897]),
+        ("897 dots", &[b'.'; 897]),
+        ("a{8,8}{15,15}{8,8}", b"a{8,8}{15,15}{8,8}"),
+        (".{8,8}{15,15}{8,8}", b".{8,8}{15,15}{8,8}"),
+        ("((a{16,16}){16,16}){4,4}", b"((a{16,16}){16,16}){4,4}"),
+        ("((a{16,16}){16,16}){4,4}*", b"((a{16,16}){16,16}){4,4}*"),
+        ("a and 146 times {16,16}", &explosion),
+    ];
+    rows.iter().for_each(|(name, expression)| print_reading(name, expression));
+}
+
 pub fn print() {
+    print_readings();
     println!("\nwhat a call costs by itself, in nanoseconds");
     println!("  {:<28}{:>10}{:>10}{:>10}{:>10}", "", "match", "search", "start", "step");
     print_row("`ab` on two bytes", b"ab", b"ab");

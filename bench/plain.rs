@@ -74,6 +74,7 @@ impl Plain {
             match n.kind {
                 Kind::Character(c) => leaves[i] = Some(Takes::Byte(c)),
                 Kind::Class(number) => leaves[i] = Some(Takes::Set(number)),
+                Kind::Empty => next[start] = [accepting, NONE],
                 Kind::Catenation => {
                     next[start] = [left, NONE];
                     next[left + 1] = [right, NONE];

@@ -38,7 +38,7 @@ fn busy(expression: &[u8]) -> Size {
                 letters += 1;
             }
             Kind::Catenation => node.kind = Kind::Union,
-            Kind::Union | Kind::Star | Kind::Class(_) => {}
+            Kind::Union | Kind::Star | Kind::Class(_) | Kind::Empty => {}
         }
     }
     let mut r = Random::new(4);

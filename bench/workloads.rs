@@ -141,6 +141,34 @@ fn log_by_classes() -> Workload {
     }
 }
 
+/// The days of a leap year with the year before them, and as many texts that are no dates.
+fn dates_by_counts() -> Workload {
+    let with_year = |year: &str| date_lines().into_iter().map(|date| [year.as_bytes(), b"-", &date].concat()).collect::<Vec<_>>();
+    Workload {
+        name: "dates by counts: [0-9]{4,4}-[0-9]{2,2}-[0-9]{2,2} on 732 lines of 9 or 10 bytes",
+        syntax: Syntax::Second,
+        expressions: vec![b"[0-9]{4,4}-[0-9]{2,2}-[0-9]{2,2}".to_vec()],
+        texts: [with_year("2028"), with_year("202")].concat(),
+        as_lines: false,
+    }
+}
+
+fn log_by_signs() -> Workload {
+    let mut r = Random::new(3);
+    let rules = [
+        "[0-9]+-[0-9]+-[0-9]+ [0-9:]+ [a-z]+(-[0-9]+)? (error|warning): .+",
+        "user [0-9]{1,5} log(in|out)",
+        "(in [0-9]+ ms, )?port [0-9]+",
+    ];
+    Workload {
+        name: "log by signs: 3 rules with +, ? and a count on 2,000 lines of some 80 bytes",
+        syntax: Syntax::Second,
+        expressions: rules.map(|rule| rule.as_bytes().to_vec()).to_vec(),
+        texts: (0..2_000).map(|_| log_line(&mut r)).collect(),
+        as_lines: false,
+    }
+}
+
 /// One rule that most of a long text keeps busy: words of letters between anything.
 fn words_by_classes() -> Workload {
     let mut r = Random::new(5);
@@ -164,6 +192,7 @@ fn early(name: &'static str, length: usize) -> Workload {
 pub fn all() -> Vec<Workload> {
     let early_failures = [early("fails at its third byte: 10 bytes", 10), early("fails at its third byte: 60,000 bytes", 60_000)];
     let mut all = vec![dates(), words(), stars(), log(), dates_by_classes(), log_by_classes(), words_by_classes()];
+    all.extend([dates_by_counts(), log_by_signs()]);
     all.extend(early_failures);
     all
 }

@@ -66,11 +66,13 @@ uint64_t foam_check2(const uint8_t *expression, size_t expression_length);
  * group, 7 a bad `\`; 8 more than 128 pieces; 9 the record buffer is too short. Bytes past the records are not written. */
 uint64_t foam_read(const uint8_t *expression, size_t expression_length, uint8_t *records, size_t records_length);
 
-/* Reads an expression of the second syntax, which has `.` (each byte but 10) and classes `[..]` too, into tree records and
- * class records: for each class leaf, in the order of leaves, 32 bytes, value v at bit v % 8 of byte v / 8. Refusals as
- * foam_read, and from left to right with 3 to 7 also 14 a class that is not of the form, at its `[`, or a `]` outside a
- * class, at it; after 9 also 15 the class buffer is too short. Bytes past the records and past the classes are not
- * written. */
+/* Reads an expression of the second syntax, which has `.` (each byte but 10), classes `[..]`, and behind an operand `+`, `?`
+ * and counts `{m,n}` too, into tree records and class records: for each class leaf, in the order of leaves, 32 bytes, value
+ * v at bit v % 8 of byte v / 8. What a sign repeats is copied, its class leaves too, each with a class record of its own.
+ * Refusals as foam_read, and from left to right with 3 to 7 (3 also at `+`, `?` or `{` where an operand is due) also 14 a
+ * class that is not of the form, at its `[`, or a `]` outside a class, at it, and 16 a count that is not of the form, at its
+ * `{`, or a `}` outside a count, at it; before 8 also 17 more than 2,047 nodes, copies counted; after 9 also 15 the class
+ * buffer is too short. Bytes past the records and past the classes are not written. */
 uint64_t foam_read2(const uint8_t *expression, size_t expression_length, uint8_t *records, size_t records_length,
                     uint8_t *classes, size_t classes_length);
 

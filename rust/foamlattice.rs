@@ -140,7 +140,7 @@ impl Expression {
         Ok(Expression { records, classes: vec![], pieces: counts.pieces })
     }
 
-    /// Reads an expression of the second syntax, which has classes and the dot too.
+    /// Reads an expression of the second syntax, which has classes, the dot, `+`, `?` and counts `{m,n}` too.
     pub fn second(expression: &[u8]) -> Result<Expression, Refusal> {
         let counts = check_second(expression)?;
         let mut records = vec![0; RECORD_SIZE * counts.records];
@@ -192,7 +192,8 @@ pub fn check(expression: &[u8]) -> Result<Counts, Refusal> {
     packed.checked().map(|p| p.counts())
 }
 
-/// Checks an expression of the second syntax: its counts, or every refusal that [`read_second`] has but 9 and 15.
+/// Checks an expression of the second syntax: its counts, those of copies that `+` and counts make included, or every refusal
+/// that [`read_second`] has but 9 and 15.
 pub fn check_second(expression: &[u8]) -> Result<Counts, Refusal> {
     // SAFETY: the slice is valid for its length for the call.
     let packed = Packed(unsafe { foam_check2(expression.as_ptr(), expression.len()) });
@@ -206,7 +207,9 @@ pub fn read(expression: &[u8], records: &mut [u8]) -> Result<Counts, Refusal> {
     packed.checked().map(|p| p.counts())
 }
 
-/// Reads an expression of the second syntax into `records` and `classes`; on a refusal no byte of them is changed.
+/// Reads an expression of the second syntax into `records` and `classes`; on a refusal no byte of them is changed. Beside those
+/// of [`read`] it has the refusals 14 (a class that is not of the form), 15 (`classes` is too short), 16 (a count that is not of
+/// the form) and 17 (more than 2,047 nodes).
 pub fn read_second(expression: &[u8], records: &mut [u8], classes: &mut [u8]) -> Result<Counts, Refusal> {
     let (records_length, classes_length) = (records.len(), classes.len());
     let (records, classes) = (records.as_mut_ptr(), classes.as_mut_ptr());

@@ -2,7 +2,7 @@
 
 use crate::expected::{self, Automaton, Tree, CLASS_SIZE};
 use crate::wrapper::foamlattice::MOST_OUTPUT;
-use crate::written::{self, LaidOut, Written};
+use crate::written::{self, LaidOut, Written, MOST_NODES};
 use std::fmt::Debug;
 
 // SAFETY of every call below: each pointer and length is that of one whole slice, and what is written to is lent alone.
@@ -150,9 +150,16 @@ fn expected_second(e: &[u8]) -> (Answer, [Vec<u8>; 2], Option<Written>) {
         Err((number, place)) => return refused(number, place),
         Ok(written) => written,
     };
+    if written.nodes() > MOST_NODES {
+        return refused(17, 0);
+    }
     let laid_out: LaidOut = written.laid_out();
     let pieces = expected::pieces(&laid_out.tree).1;
-    hold("the fewest pieces", || e.escape_ascii().to_string(), pieces, expected::fewest_pieces(&laid_out.tree));
+    let input = || e.escape_ascii().to_string();
+    hold("the fewest pieces", input, pieces, expected::fewest_pieces(&laid_out.tree));
+    hold("the fewest pieces of what is written", input, pieces, written.fewest_pieces());
+    let [laid, counted] = [[laid_out.tree.len(), laid_out.sets.len()], [written.nodes(), written.classes()]];
+    hold("the nodes and classes of what is written", input, laid, counted);
     if pieces > 128 {
         return refused(8, 0);
     }

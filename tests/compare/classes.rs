@@ -5,21 +5,22 @@ use crate::calls::{self, List};
 use crate::expected::{self, CLASS_SIZE};
 use crate::generate::{self, Random};
 use crate::wrapper::foamlattice::{MOST_CLASS_BYTES, MOST_RECORD_BYTES};
-use crate::{all_rows, compare_list, growing, steps, written};
+use crate::written::{self, MOST_NODES};
+use crate::{all_rows, compare_list, growing, steps};
 
 /// Buffers that are long enough for every expression.
-const ENOUGH: [usize; 2] = [MOST_RECORD_BYTES, MOST_CLASS_BYTES];
+pub const ENOUGH: [usize; 2] = [MOST_RECORD_BYTES, MOST_CLASS_BYTES];
 
 /// The bytes that an expression's records and classes need; some numbers for one that is refused.
-fn need(e: &[u8]) -> [usize; 2] {
-    written::read(e).map_or([8, 32], |written| {
-        let laid_out = written.laid_out();
-        [8 * laid_out.tree.len(), CLASS_SIZE * laid_out.sets.len()]
-    })
+pub fn need(e: &[u8]) -> [usize; 2] {
+    match written::read(e) {
+        Ok(written) if written.nodes() <= MOST_NODES => [8 * written.nodes(), CLASS_SIZE * written.classes()],
+        _ => [8, 32],
+    }
 }
 
 /// Reads into buffers that just fit, after both a byte too short.
-fn compare_rooms(e: &[u8]) -> Option<List> {
+pub fn compare_rooms(e: &[u8]) -> Option<List> {
     let [records, classes] = need(e);
     calls::read_second(e, [records - 1, classes.saturating_sub(1)]);
     calls::read_second(e, [records, classes])

@@ -7,6 +7,8 @@ pub enum Kind {
     Character(u8),
     /// A class leaf with the number of its class.
     Class(usize),
+    /// The leaf of the empty text.
+    Empty,
     Catenation,
     Union,
     Star,
@@ -141,7 +143,7 @@ pub fn read(e: &[u8]) -> Result<Tree, (u8, usize)> {
 
 fn children(n: &Node) -> Vec<usize> {
     match n.kind {
-        Kind::Character(_) | Kind::Class(_) => vec![],
+        Kind::Character(_) | Kind::Class(_) | Kind::Empty => vec![],
         Kind::Star => vec![n.left],
         _ => vec![n.left, n.right],
     }
@@ -216,6 +218,7 @@ pub fn records(t: &Tree) -> Vec<u8> {
             Kind::Union => (3, 0, n.left),
             Kind::Star => (4, 0, n.left),
             Kind::Class(number) => (5, 0, number),
+            Kind::Empty => (6, 0, n.left),
         };
         out.extend([kind, character]);
         for number in [first, n.right, piece[i]] {
@@ -241,6 +244,7 @@ pub fn decode(list: &[u8]) -> Option<Tree> {
             2 => (Kind::Catenation, 2),
             3 => (Kind::Union, 2),
             4 => (Kind::Star, 1),
+            6 => (Kind::Empty, 0),
             _ => return None,
         };
         if roots.len() < pops {
@@ -291,6 +295,7 @@ pub fn parts(t: &Tree, sets: &[Set], text: &[u8]) -> Parts {
     for n in t {
         let from = |s: usize| match n.kind {
             Kind::Character(_) | Kind::Class(_) => (text.get(s).is_some_and(|&b| takes(&n.kind, sets, b)) as u128) << s << 1,
+            Kind::Empty => 1 << s,
             Kind::Catenation => ends(of[n.left][s], &of[n.right]),
             Kind::Union => of[n.left][s] | of[n.right][s],
             Kind::Star => {
@@ -341,6 +346,7 @@ pub fn automaton(t: &Tree, sets: Vec<Set>) -> Automaton {
         let (l, r) = (2 * n.left, 2 * n.right);
         match n.kind {
             Kind::Character(_) | Kind::Class(_) => {}
+            Kind::Empty => a.empty[start].push(accepting),
             Kind::Catenation => {
                 a.empty[start].push(l);
                 a.empty[l + 1].push(r);

@@ -46,7 +46,7 @@ pub fn write_character(b: u8, out: &mut Vec<u8>) {
 
 /// One character as the second syntax writes it, outside a class.
 pub fn write_second_character(b: u8, out: &mut Vec<u8>) {
-    if b"()|*\\.[]".contains(&b) {
+    if b"()|*\\.[]+?{}".contains(&b) {
         out.push(b'\\');
     }
     out.push(b);
@@ -88,49 +88,83 @@ fn write_leaf(r: &mut Random, letters: &[u8], out: &mut Vec<u8>) {
     }
 }
 
+/// A sign behind an operand: a star, `+`, `?`, or a count, mostly of few.
+fn write_sign(r: &mut Random, out: &mut Vec<u8>) {
+    match r.below(6) {
+        0 => out.push(b'*'),
+        1 => out.push(b'+'),
+        2 | 3 => out.push(b'?'),
+        _ => {
+            let largest = if r.one_in(10) { 16 } else { 3 };
+            let ends = [r.below(largest + 1), 1 + r.below(largest)];
+            out.extend(format!("{{{},{}}}", ends[0].min(ends[1]), ends[1].max(ends[0])).bytes());
+        }
+    }
+}
+
 /// Writes one operand with no sign after it.
 type WriteLeaf = fn(&mut Random, &[u8], &mut Vec<u8>);
 
-/// A written expression of about `size` nodes with at most `depth` groups open at once.
-fn expression_of(leaf: WriteLeaf, r: &mut Random, size: usize, depth: usize, letters: &[u8], out: &mut Vec<u8>) {
+/// Writes one sign behind an operand.
+type WriteSign = fn(&mut Random, &mut Vec<u8>);
+
+/// How an expression's operands and the signs behind them are written.
+#[derive(Clone, Copy)]
+struct Style {
+    leaf: WriteLeaf,
+    sign: WriteSign,
+}
+
+/// A written expression of about `size` operands and signs with at most `depth` groups open at once.
+fn expression_of(style: Style, r: &mut Random, size: usize, depth: usize, letters: &[u8], out: &mut Vec<u8>) {
     if size <= 1 {
-        return leaf(r, letters, out);
+        return (style.leaf)(r, letters, out);
     }
     match r.below(8) {
         0 | 1 if depth > 0 => {
             out.push(b'(');
-            expression_of(leaf, r, size - 1, depth - 1, letters, out);
+            expression_of(style, r, size - 1, depth - 1, letters, out);
             out.push(b')');
             if r.one_in(2) {
-                out.push(b'*');
+                (style.sign)(r, out);
             }
         }
         2 => {
             let cut = r.below(size - 1) + 1;
-            expression_of(leaf, r, cut, depth, letters, out);
+            expression_of(style, r, cut, depth, letters, out);
             out.push(b'|');
-            expression_of(leaf, r, size - cut, depth, letters, out);
+            expression_of(style, r, size - cut, depth, letters, out);
         }
         3 => {
-            expression_of(leaf, r, size - 1, depth, letters, out);
-            out.push(b'*');
+            expression_of(style, r, size - 1, depth, letters, out);
+            (style.sign)(r, out);
         }
         _ => {
             let cut = r.below(size - 1) + 1;
-            expression_of(leaf, r, cut, depth, letters, out);
-            expression_of(leaf, r, size - cut, depth, letters, out);
+            expression_of(style, r, cut, depth, letters, out);
+            expression_of(style, r, size - cut, depth, letters, out);
         }
     }
 }
 
-/// An expression of the first syntax.
-pub fn expression(r: &mut Random, size: usize, depth: usize, letters: &[u8], out: &mut Vec<u8>) {
-    expression_of(|r, letters, out| write_character(r.pick(letters), out), r, size, depth, letters, out);
+fn write_star(_: &mut Random, out: &mut Vec<u8>) {
+    out.push(b'*');
 }
 
-/// An expression of the second syntax.
+/// An expression of the first syntax.
+pub fn expression(r: &mut Random, size: usize, depth: usize, letters: &[u8], out: &mut Vec<u8>) {
+    let style = Style { leaf: |r, letters, out| write_character(r.pick(letters), out), sign: write_star };
+    expression_of(style, r, size, depth, letters, out);
+}
+
+/// An expression of the second syntax, with classes and stars.
 pub fn expression_with_classes(r: &mut Random, size: usize, depth: usize, letters: &[u8], out: &mut Vec<u8>) {
-    expression_of(write_leaf, r, size, depth, letters, out);
+    expression_of(Style { leaf: write_leaf, sign: write_star }, r, size, depth, letters, out);
+}
+
+/// An expression of the second syntax, with classes and all signs and counts.
+pub fn expression_with_signs(r: &mut Random, size: usize, depth: usize, letters: &[u8], out: &mut Vec<u8>) {
+    expression_of(Style { leaf: write_leaf, sign: write_sign }, r, size, depth, letters, out);
 }
 
 /// One random change: a byte changed, taken out, put in, or the end cut off.
@@ -187,7 +221,22 @@ pub fn sample(r: &mut Random, written: &Written, most: usize, out: &mut Vec<u8>)
             sample(r, &parts[chosen], most, out);
         }
         Written::Star(operand) => (0..r.below(4)).for_each(|_| sample(r, operand, most, out)),
+        Written::OneOrMore(operand) => (0..1 + r.below(3)).for_each(|_| sample(r, operand, most, out)),
+        Written::NoneOrOne(operand) => (0..r.below(2)).for_each(|_| sample(r, operand, most, out)),
+        Written::Between(fewest, times, operand) => {
+            // One time in eight a part too many or too few.
+            let [fewest, times] = if r.one_in(8) { [fewest.saturating_sub(1), times + 1] } else { [*fewest, *times] };
+            (0..fewest + r.below(times - fewest + 1)).for_each(|_| sample(r, operand, most, out));
+        }
     }
+}
+
+/// A text of about 40 bytes at most, in the language of what is written or near it, now and then with bytes before it.
+pub fn short_sample(r: &mut Random, written: &Written) -> Vec<u8> {
+    let most = [0, 0, 2][r.below(3)];
+    let mut text = r.bytes(most, b"abc");
+    sample(r, written, 40, &mut text);
+    text
 }
 
 /// One random change to a list: to some byte, to a byte by a little, or the last records cut off.
@@ -198,7 +247,7 @@ pub fn damage_list(r: &mut Random, list: &mut Vec<u8>) {
             let at = r.below(list.len());
             list[at] = list[at].wrapping_add(r.below(3) as u8);
         }
-        _ => damage(r, list, &[0, 1, 2, 3, 4, 5, 254, 255]),
+        _ => damage(r, list, &[0, 1, 2, 3, 4, 5, 6, 254, 255]),
     }
 }
 
@@ -216,6 +265,15 @@ pub fn put_classes(r: &mut Random, tree: &mut Tree) -> usize {
         }
     }
     count
+}
+
+/// Turns some leaves of a tree into leaves of the empty text.
+pub fn put_empty_texts(r: &mut Random, tree: &mut Tree) {
+    for node in tree {
+        if matches!(node.kind, Kind::Character(_)) && r.one_in(3) {
+            node.kind = Kind::Empty;
+        }
+    }
 }
 
 /// So many class records of any bytes, one time in four with a few bytes more or less.

@@ -1,6 +1,6 @@
 //! Compares the proved library, through its C interface, with an independent implementation: on all short expressions, all
 //! bytes, all lists with one byte changed, and on inputs from a fixed seed, the small ones first. Prints how many inputs of
-//! each kind agreed; the first difference ends the run with status 1, and so do fewer inputs than 1,000,000.
+//! each kind agreed; the first difference ends the run with status 1, and so do fewer inputs than 1,900,000.
 
 mod calls;
 mod classes;
@@ -9,6 +9,7 @@ mod expected;
 mod generate;
 mod pick;
 mod program;
+mod signs;
 mod wrapper;
 mod written;
 
@@ -19,7 +20,7 @@ use wrapper::foamlattice::{MOST_RECORD_BYTES, MOST_WORDS};
 const SIGNS: &[u8] = b"ab()|*\\";
 
 /// A run that compares fewer inputs fails: something was left out.
-const FEWEST_INPUTS: usize = 1_000_000;
+const FEWEST_INPUTS: usize = 1_900_000;
 
 /// The bytes that an expression's records need; some number for one that is refused.
 fn need(e: &[u8]) -> usize {
@@ -285,7 +286,7 @@ fn long_texts(_: &mut Random) -> usize {
 type Compare = fn(&mut Random) -> usize;
 
 fn main() {
-    let kinds: [(&str, Compare); 28] = [
+    let kinds: [(&str, Compare); 44] = [
         ("edges through the Rust wrapper", |_| wrapper::compare()),
         ("short expressions", short_expressions),
         ("pairs of bytes", all_bytes),
@@ -311,6 +312,22 @@ fn main() {
         ("trees with classes", classes::trees),
         ("lengths of class buffers", classes::lengths_of_classes),
         ("long expressions with classes", classes::long_expressions),
+        ("counts of 0 to 17 and 0 to 17, with texts", signs::all_counts),
+        ("spellings of counts", signs::spellings_of_counts),
+        ("numbers of counts", signs::numbers_of_counts),
+        ("short expressions with signs", signs::short_expressions),
+        ("rows of signs and counts", signs::rows_of_signs),
+        ("counts of counts", signs::counts_of_counts),
+        ("numbers of nodes", signs::sizes),
+        ("largest trees", signs::largest),
+        ("explosions", signs::explosions),
+        ("random expressions with signs", signs::random_expressions),
+        ("matches and searches with signs", signs::matches),
+        ("runs of starts and steps with signs", signs::runs_of_steps),
+        ("lists with empty texts and one byte changed", signs::changed_lists),
+        ("damaged lists with empty texts", signs::damaged_lists),
+        ("trees with empty texts", signs::trees),
+        ("signs in the first syntax", signs::first_syntax),
         ("runs of pick", pick::compare_runs),
         ("runs of pick in parts", pick::compare_runs_in_parts),
         ("calls of pick", pick::compare_calls),

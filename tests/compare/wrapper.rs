@@ -77,7 +77,7 @@ fn compare_first() -> usize {
 }
 
 /// Expressions of the second syntax with a fault, its number and its place.
-const FAULTS: [(&[u8], u8, usize); 36] = [
+const FAULTS: [(&[u8], u8, usize); 55] = [
     (b"", 1, 0),
     (b"[]", 14, 0),
     (b"[^]", 14, 0),
@@ -111,13 +111,32 @@ const FAULTS: [(&[u8], u8, usize); 36] = [
     (b".|", 3, 2),
     (b"a\\-", 7, 1),
     (b"a\\^", 7, 1),
-    (b"a\\+", 7, 1),
+    (b"a\\,", 7, 1),
     (b"(a\\b[", 7, 2),
     (b"a|*[", 3, 2),
+    (b"+", 3, 0),
+    (b"(?", 3, 1),
+    (b"a|{1,2}", 3, 2),
+    (b"{", 3, 0),
+    (b"a{", 16, 1),
+    (b"a{}", 16, 1),
+    (b"a{3}", 16, 1),
+    (b"a{3,}", 16, 1),
+    (b"a{,3}", 16, 1),
+    (b"a{2,1}", 16, 1),
+    (b"a{0,0}", 16, 1),
+    (b"a{01,2}", 16, 1),
+    (b"a{1,17}", 16, 1),
+    (b"a{1,2", 16, 1),
+    (b"a{1,\\b}", 16, 1),
+    (b"}", 16, 0),
+    (b"a}", 16, 1),
+    (b"a{1,2}}", 16, 6),
+    (b"a{16,16}{16,16}{16,16}{16,16})", 5, 29),
 ];
 
 /// Expressions of the second syntax with their records and classes, all of one piece, a text of each and one that is none.
-const GOOD: [(&[u8], usize, usize, &[u8], &[u8]); 17] = [
+const GOOD: [(&[u8], usize, usize, &[u8], &[u8]); 25] = [
     (b".", 1, 1, b"\r", b"\n"),
     (b"\\.", 1, 0, b".", b"a"),
     (b"\\[\\]", 3, 0, b"[]", b"["),
@@ -133,7 +152,15 @@ const GOOD: [(&[u8], usize, usize, &[u8], &[u8]); 17] = [
     (b"[.*()|\n]", 1, 1, b"\n", b"a"),
     (b"[aaaaaaaaaaaaaaaa]", 1, 1, b"a", b"b"),
     (b"[^\x00-\xff]*", 2, 1, b"", b"a"),
-    (b"-^+{}", 9, 0, b"-^+{}", b"-^+{"),
+    (b"-^\\+\\{\\}", 9, 0, b"-^+{}", b"-^+{"),
+    (b"a+", 4, 0, b"aaa", b""),
+    (b"a?", 3, 0, b"", b"aa"),
+    (b"a{1,1}", 1, 0, b"a", b""),
+    (b"a{0,1}", 3, 0, b"", b"aa"),
+    (b"a{2,3}", 7, 0, b"aa", b"a"),
+    (b"(ab){1,1}", 3, 0, b"ab", b"a"),
+    (b"[a]+?", 6, 2, b"", b"b"),
+    (b"[+?{}]", 1, 1, b"}", b"a"),
     (b"[01][0-9]-[0-3][0-9]", 9, 4, b"02-29", b"02-49"),
 ];
 
@@ -149,6 +176,8 @@ fn compare_second() -> usize {
     }
     assert_eq!(read_second(&[b'.'; 1_025], &mut buffers.0, &mut buffers.1), refused(2, 1_024));
     assert_eq!(read_second(&[b'.'; 898], &mut buffers.0, &mut buffers.1), refused(8, 0));
+    assert_eq!(read_second(b"((a{16,16}){16,16}){4,4}", &mut buffers.0, &mut buffers.1), refused(8, 0));
+    assert_eq!(read_second(b"((a{16,16}){16,16}){4,4}*", &mut buffers.0, &mut buffers.1), refused(17, 0));
     assert_eq!(read_second(b".", &mut buffers.0[..7], &mut buffers.1[..31]), refused(9, 0));
     assert_eq!(read_second(b".", &mut buffers.0[..8], &mut buffers.1[..31]), refused(15, 0));
     let dots = Counts { records: 1_793, pieces: 128, classes: 897 };
@@ -161,7 +190,10 @@ fn compare_second() -> usize {
     assert_eq!(start(dot.records(), b"", &mut []), refused(15, 0));
     assert_eq!(step(dot.records(), b"", &mut [256], b'a'), refused(15, 0));
     assert_eq!(second(b"[b-d][b-d]*").find(b"abcda"), Ok(Some(1..4)));
-    FAULTS.len() + GOOD.len() + 11
+    let perhaps = second(b"a?");
+    assert_eq!(perhaps.records()[8..16], [6, 0, 255, 255, 255, 255, 0, 0]);
+    assert_eq!(second(b"[0-9]{2,4}").find(b"in 2028"), Ok(Some(3..7)));
+    FAULTS.len() + GOOD.len() + 15
 }
 
 pub fn compare() -> usize {

@@ -1,6 +1,7 @@
 //! The second syntax as it is written, after docs/REFERENCE.md: read by functions that call each other, each answering the
-//! part that it took; and its language on what is written, by the places where a text of it can end. With `expected.rs` it
-//! shares the tree that it is laid out as, and no method.
+//! part that it took; its language on what is written, signs and counts too, by the places where a text of it can end; and
+//! how many nodes, classes and pieces it stands for, from those of its parts. With `expected.rs` it shares the tree that it
+//! is laid out as, and no method; the tree says which records are to be written, and no more.
 
 use crate::expected::{Kind, Node, Set, Tree, NONE};
 use std::ops::Range;
@@ -12,14 +13,21 @@ pub enum Written {
     Byte(u8),
     OneOf(Box<Set>),
     Star(Box<Written>),
+    OneOrMore(Box<Written>),
+    NoneOrOne(Box<Written>),
+    /// At least so many and at most so many in a row.
+    Between(usize, usize, Box<Written>),
     InARow(Vec<Written>),
     AnyOf(Vec<Written>),
 }
 
-const SIGNS: &[u8] = b"()|*\\.[]";
+const SIGNS: &[u8] = b"()|*\\.[]+?{}";
 const SIGNS_IN_CLASSES: &[u8] = b"\\]^-";
 const MOST_ITEMS: usize = 16;
 const MOST_OPEN: usize = 32;
+const MOST_TIMES: usize = 16;
+/// The most nodes of a tree.
+pub const MOST_NODES: usize = 2_047;
 
 /// Several parts, or the only one as it is.
 fn together(mut parts: Vec<Written>, join: fn(Vec<Written>) -> Written) -> Written {
@@ -63,6 +71,22 @@ fn class(e: &[u8], at: usize) -> Option<(Set, usize)> {
     (1..=MOST_ITEMS).contains(&items).then_some((set, after + 1))
 }
 
+/// A number of a count: 0 to 16, spelled with no more digits than it has.
+fn times(spelled: &[u8]) -> Option<usize> {
+    (0..=MOST_TIMES).find(|number| number.to_string().as_bytes() == spelled)
+}
+
+/// The count whose `{` stands at a place, and the place after its `}`; `None` where it is not of the form.
+fn count(e: &[u8], at: usize) -> Option<(usize, usize, usize)> {
+    let inside = e[at + 1..].split(|&byte| byte == b'}').next()?;
+    let after = at + 1 + inside.len() + 1;
+    let numbers: Option<Vec<usize>> = inside.split(|&byte| byte == b',').map(times).collect();
+    match numbers?[..] {
+        [fewest, most] if after <= e.len() && fewest <= most && most > 0 => Some((fewest, most, after)),
+        _ => None,
+    }
+}
+
 struct Reading<'a> {
     e: &'a [u8],
     at: usize,
@@ -93,9 +117,20 @@ impl Reading<'_> {
 
     fn operand(&mut self) -> Result<Written, Fault> {
         let mut operand = self.single()?;
-        while self.next() == Some(b'*') {
+        while let Some(sign @ (b'*' | b'+' | b'?' | b'{')) = self.next() {
+            let place = self.at;
             self.at += 1;
-            operand = Written::Star(Box::new(operand));
+            let below = Box::new(operand);
+            operand = match sign {
+                b'*' => Written::Star(below),
+                b'+' => Written::OneOrMore(below),
+                b'?' => Written::NoneOrOne(below),
+                _ => {
+                    let (fewest, most, after) = count(self.e, place).ok_or((16, place))?;
+                    self.at = after;
+                    Written::Between(fewest, most, below)
+                }
+            };
         }
         Ok(operand)
     }
@@ -103,7 +138,8 @@ impl Reading<'_> {
     fn single(&mut self) -> Result<Written, Fault> {
         let place = self.at;
         let (written, after) = match self.next() {
-            None | Some(b'|' | b'*' | b')') => return Err((3, place)),
+            None | Some(b'|' | b'*' | b')' | b'+' | b'?' | b'{') => return Err((3, place)),
+            Some(b'}') => return Err((16, place)),
             Some(b'(') => return self.group(),
             Some(b']') => return Err((14, place)),
             Some(b'[') => {
@@ -138,7 +174,7 @@ impl Reading<'_> {
     }
 }
 
-/// What an expression of the second syntax says, or its first fault among 1 to 7 and 14.
+/// What an expression of the second syntax says, or its first fault among 1 to 7, 14 and 16.
 pub fn read(e: &[u8]) -> Result<Written, Fault> {
     match e.len() {
         0 => return Err((1, 0)),
@@ -151,6 +187,32 @@ pub fn read(e: &[u8]) -> Result<Written, Fault> {
         Err((5, reading.at))
     } else {
         Ok(written)
+    }
+}
+
+/// The fewest cut edges below a node, for each number of nodes, 1 to 15, that are left hanging together with it.
+#[derive(Clone, Copy)]
+struct Cuts([usize; 16]);
+
+impl Cuts {
+    const NEVER: usize = usize::MAX / 4;
+
+    fn fewest(&self) -> usize {
+        *self.0.iter().min().expect("there are sizes")
+    }
+
+    /// A node with these children: each is cut off, or stays with all that hangs together with it.
+    fn node(children: &[Cuts]) -> Cuts {
+        let mut here = [Cuts::NEVER; 16];
+        here[1] = 0;
+        for child in children {
+            let mut all = here.map(|cuts| (cuts + 1 + child.fewest()).min(Cuts::NEVER));
+            for (size, more) in (1..16).flat_map(|size| (1..16 - size).map(move |more| (size, more))) {
+                all[size + more] = all[size + more].min(here[size] + child.0[more]);
+            }
+            here = all;
+        }
+        Cuts(here)
     }
 }
 
@@ -193,19 +255,96 @@ impl Written {
                 let below = operand.lay_out(out);
                 out.push(Kind::Star, below, NONE)
             }
-            Written::InARow(parts) => Written::join(parts, Kind::Catenation, out),
-            Written::AnyOf(parts) => Written::join(parts, Kind::Union, out),
+            Written::OneOrMore(operand) => {
+                let first = operand.lay_out(out);
+                let copy = operand.lay_out(out);
+                let more = out.push(Kind::Star, copy, NONE);
+                out.push(Kind::Catenation, first, more)
+            }
+            Written::NoneOrOne(operand) => operand.lay_out_or_not(out),
+            Written::Between(fewest, most, operand) => {
+                let parts = (0..*most).map(|i| (&**operand, i >= *fewest));
+                Written::join(parts, Kind::Catenation, out)
+            }
+            Written::InARow(parts) => Written::join(parts.iter().map(|part| (part, false)), Kind::Catenation, out),
+            Written::AnyOf(parts) => Written::join(parts.iter().map(|part| (part, false)), Kind::Union, out),
         }
     }
 
-    /// Several parts, two at a time from the left.
-    fn join(parts: &[Written], kind: Kind, out: &mut LaidOut) -> usize {
-        let mut left = parts[0].lay_out(out);
-        for part in &parts[1..] {
-            let right = part.lay_out(out);
-            left = out.push(kind.clone(), left, right);
+    /// Adds its nodes, the leaf of the empty text, and their union.
+    fn lay_out_or_not(&self, out: &mut LaidOut) -> usize {
+        let one = self.lay_out(out);
+        let none = out.push(Kind::Empty, NONE, NONE);
+        out.push(Kind::Union, one, none)
+    }
+
+    /// Several parts, two at a time from the left; each may be one that can be left out.
+    fn join<'a>(parts: impl Iterator<Item = (&'a Written, bool)>, kind: Kind, out: &mut LaidOut) -> usize {
+        let mut root = None;
+        for (part, or_not) in parts {
+            let right = if or_not { part.lay_out_or_not(out) } else { part.lay_out(out) };
+            root = Some(match root {
+                None => right,
+                Some(left) => out.push(kind.clone(), left, right),
+            });
         }
-        left
+        root.expect("there is a part")
+    }
+
+    /// How many nodes it stands for, from those of its parts; a number past all limits where there are more than that.
+    pub fn nodes(&self) -> usize {
+        let all = |parts: &[Written]| parts.iter().fold(parts.len() - 1, |sum, part| sum.saturating_add(part.nodes()));
+        match self {
+            Written::Byte(_) | Written::OneOf(_) => 1,
+            Written::Star(operand) => operand.nodes().saturating_add(1),
+            Written::OneOrMore(operand) => operand.nodes().saturating_mul(2).saturating_add(2),
+            Written::NoneOrOne(operand) => operand.nodes().saturating_add(2),
+            Written::Between(fewest, most, operand) => {
+                operand.nodes().saturating_mul(*most).saturating_add(2 * (most - fewest) + most - 1)
+            }
+            Written::InARow(parts) | Written::AnyOf(parts) => all(parts),
+        }
+    }
+
+    /// How many class leaves it stands for.
+    pub fn classes(&self) -> usize {
+        match self {
+            Written::Byte(_) => 0,
+            Written::OneOf(_) => 1,
+            Written::Star(operand) | Written::NoneOrOne(operand) => operand.classes(),
+            Written::OneOrMore(operand) => operand.classes().saturating_mul(2),
+            Written::Between(_, most, operand) => operand.classes().saturating_mul(*most),
+            Written::InARow(parts) | Written::AnyOf(parts) => {
+                parts.iter().fold(0, |sum, part| sum.saturating_add(part.classes()))
+            }
+        }
+    }
+
+    /// The fewest pieces that what it stands for can be cut into.
+    pub fn fewest_pieces(&self) -> usize {
+        1 + self.cuts().fewest()
+    }
+
+    fn cuts(&self) -> Cuts {
+        let leaf = Cuts::node(&[]);
+        let joined = |cuts: &mut dyn Iterator<Item = Cuts>| {
+            cuts.reduce(|left, right| Cuts::node(&[left, right])).expect("there is a part")
+        };
+        match self {
+            Written::Byte(_) | Written::OneOf(_) => leaf,
+            Written::Star(operand) => Cuts::node(&[operand.cuts()]),
+            Written::OneOrMore(operand) => {
+                let one = operand.cuts();
+                Cuts::node(&[one, Cuts::node(&[one])])
+            }
+            Written::NoneOrOne(operand) => Cuts::node(&[operand.cuts(), leaf]),
+            Written::Between(fewest, most, operand) => {
+                let one = operand.cuts();
+                let or_not = Cuts::node(&[one, leaf]);
+                joined(&mut (0..*most).map(|i| if i < *fewest { one } else { or_not }))
+            }
+            Written::InARow(parts) | Written::AnyOf(parts) => joined(&mut parts.iter().map(Written::cuts)),
+        }
     }
 
     /// The places where a part of the text can end that starts at one of `starts` and lies in the language: sets of places
@@ -226,15 +365,33 @@ impl Written {
             Written::OneOf(set) => after(&|byte| set[byte as usize]),
             Written::InARow(parts) => parts.iter().fold(starts, |starts, part| part.ends(text, starts)),
             Written::AnyOf(parts) => parts.iter().fold(0, |ends, part| ends | part.ends(text, starts)),
-            Written::Star(operand) => {
-                let (mut all, mut new) = (starts, starts);
-                while new != 0 {
-                    new = operand.ends(text, new) & !all;
-                    all |= new;
+            Written::Star(operand) => operand.ends_of_any(text, starts),
+            Written::OneOrMore(operand) => operand.ends_of_any(text, operand.ends(text, starts)),
+            Written::NoneOrOne(operand) => starts | operand.ends(text, starts),
+            Written::Between(fewest, most, operand) => {
+                let (mut now, mut all) = (starts, 0);
+                for times in 0..=*most {
+                    if times >= *fewest {
+                        all |= now;
+                    }
+                    if now == 0 {
+                        break;
+                    }
+                    now = operand.ends(text, now);
                 }
                 all
             }
         }
+    }
+
+    /// The places where any number of such parts in a row can end.
+    fn ends_of_any(&self, text: &[u8], starts: u128) -> u128 {
+        let (mut all, mut new) = (starts, starts);
+        while new != 0 {
+            new = self.ends(text, new) & !all;
+            all |= new;
+        }
+        all
     }
 
     /// Whether a text of at most 127 bytes lies in the language.
