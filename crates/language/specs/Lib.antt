@@ -6,6 +6,10 @@ pub mod Language
 pub mod SignedTree
 pub mod StandsFor
 pub mod StandsForLaws
+pub mod PlacedTree
+pub mod PlacedStandsFor
+pub mod PlacedLaws
+pub mod EachPlace
 mod JoinedTexts
 mod CountedTexts
 pub mod SameTexts

@@ -31,13 +31,13 @@ module _ {A : Type 0} where
 
   -- THE RESULT: the nodes of the tree that the signs stand for
   pub nodes-signed : (empty : A) (s : Signed-tree A) → nodes (stands-for empty s) ≡ signed-size s
-  nodes-signed empty (leaf a) = refl
-  nodes-signed empty (catenation s t) = omega (arith, nodes-signed empty s, nodes-signed empty t)
-  nodes-signed empty (union s t) = omega (arith, nodes-signed empty s, nodes-signed empty t)
-  nodes-signed empty (star s) = omega (arith, nodes-signed empty s)
-  nodes-signed empty (one-or-more s) = omega (arith, nodes-signed empty s)
-  nodes-signed empty (optional s) = omega (arith, nodes-signed empty s)
-  nodes-signed empty (counted fewest most s) =
+  nodes-signed empty (leaf place a) = refl
+  nodes-signed empty (catenation place s t) = omega (arith, nodes-signed empty s, nodes-signed empty t)
+  nodes-signed empty (union place s t) = omega (arith, nodes-signed empty s, nodes-signed empty t)
+  nodes-signed empty (star place s) = omega (arith, nodes-signed empty s)
+  nodes-signed empty (one-or-more place s) = omega (arith, nodes-signed empty s)
+  nodes-signed empty (optional place s) = omega (arith, nodes-signed empty s)
+  nodes-signed empty (counted place fewest most s) =
       nodes-times empty fewest most (stands-for empty s) ∙ rw (nodes-signed empty s) refl
 
 -- a count has its operand's nodes, and more
@@ -106,13 +106,13 @@ module _ (limit : ℕ) where
 
   -- so does the whole tree, counted on the signs
   pub capped-signed : {A : Type 0} (s : Signed-tree A) → capped-size limit s ≡ capped limit (signed-size s)
-  capped-signed (leaf a) = refl
-  capped-signed (catenation s t) = omega (arith, capped-signed s, capped-signed t)
-  capped-signed (union s t) = omega (arith, capped-signed s, capped-signed t)
-  capped-signed (star s) = omega (arith, capped-signed s)
-  capped-signed (one-or-more s) = omega (arith, capped-signed s)
-  capped-signed (optional s) = omega (arith, capped-signed s)
-  capped-signed (counted fewest most s) =
+  capped-signed (leaf place a) = refl
+  capped-signed (catenation place s t) = omega (arith, capped-signed s, capped-signed t)
+  capped-signed (union place s t) = omega (arith, capped-signed s, capped-signed t)
+  capped-signed (star place s) = omega (arith, capped-signed s)
+  capped-signed (one-or-more place s) = omega (arith, capped-signed s)
+  capped-signed (optional place s) = omega (arith, capped-signed s)
+  capped-signed (counted place fewest most s) =
       ap (λ (n : ℕ). capped limit (times-size fewest most n)) (capped-signed s)
       ∙ capped-times fewest most (signed-size s)
 

@@ -26,10 +26,10 @@ module _ {A : Type 0} (empty : A) where
 
   -- the tree that the signs stand for; the leaf `empty` is the one for the empty text
   abbrev pub stands-for : Signed-tree A → Tree A
-  stands-for (Signed-tree.leaf a) = leaf a
-  stands-for (Signed-tree.catenation s t) = catenation (stands-for s) (stands-for t)
-  stands-for (Signed-tree.union s t) = union (stands-for s) (stands-for t)
-  stands-for (Signed-tree.star s) = star (stands-for s)
-  stands-for (one-or-more s) = repeated (stands-for s)
-  stands-for (optional s) = perhaps (stands-for s)
-  stands-for (counted fewest most s) = times fewest most (stands-for s)
+  stands-for (Signed-tree.leaf place a) = leaf a
+  stands-for (Signed-tree.catenation place s t) = catenation (stands-for s) (stands-for t)
+  stands-for (Signed-tree.union place s t) = union (stands-for s) (stands-for t)
+  stands-for (Signed-tree.star place s) = star (stands-for s)
+  stands-for (one-or-more place s) = repeated (stands-for s)
+  stands-for (optional place s) = perhaps (stands-for s)
+  stands-for (counted place fewest most s) = times fewest most (stands-for s)

@@ -12,14 +12,15 @@ module _ {A B : Type 0} (f : A → B) where
 
   -- the same of a tree with signs
   abbrev pub signed-with-leaves : Signed-tree A → Signed-tree B
-  signed-with-leaves (Signed-tree.leaf a) = Signed-tree.leaf (f a)
-  signed-with-leaves (Signed-tree.catenation s t) =
-      Signed-tree.catenation (signed-with-leaves s) (signed-with-leaves t)
-  signed-with-leaves (Signed-tree.union s t) = Signed-tree.union (signed-with-leaves s) (signed-with-leaves t)
-  signed-with-leaves (Signed-tree.star s) = Signed-tree.star (signed-with-leaves s)
-  signed-with-leaves (one-or-more s) = one-or-more (signed-with-leaves s)
-  signed-with-leaves (optional s) = optional (signed-with-leaves s)
-  signed-with-leaves (counted fewest most s) = counted fewest most (signed-with-leaves s)
+  signed-with-leaves (Signed-tree.leaf place a) = Signed-tree.leaf place (f a)
+  signed-with-leaves (Signed-tree.catenation place s t) =
+      Signed-tree.catenation place (signed-with-leaves s) (signed-with-leaves t)
+  signed-with-leaves (Signed-tree.union place s t) = Signed-tree.union place (signed-with-leaves s)
+      (signed-with-leaves t)
+  signed-with-leaves (Signed-tree.star place s) = Signed-tree.star place (signed-with-leaves s)
+  signed-with-leaves (one-or-more place s) = one-or-more place (signed-with-leaves s)
+  signed-with-leaves (optional place s) = optional place (signed-with-leaves s)
+  signed-with-leaves (counted place fewest most s) = counted place fewest most (signed-with-leaves s)
 
 -- every leaf of a tree is in P
 abbrev pub Every-leaf : {A : Type 0} (P : A → Type 0) → Tree A → Type 0
@@ -30,10 +31,10 @@ Every-leaf P (star s) = Every-leaf P s
 
 -- every leaf of a tree with signs is in P
 abbrev pub Every-signed-leaf : {A : Type 0} (P : A → Type 0) → Signed-tree A → Type 0
-Every-signed-leaf P (Signed-tree.leaf a) = P a
-Every-signed-leaf P (Signed-tree.catenation s t) = Every-signed-leaf P s × Every-signed-leaf P t
-Every-signed-leaf P (Signed-tree.union s t) = Every-signed-leaf P s × Every-signed-leaf P t
-Every-signed-leaf P (Signed-tree.star s) = Every-signed-leaf P s
-Every-signed-leaf P (one-or-more s) = Every-signed-leaf P s
-Every-signed-leaf P (optional s) = Every-signed-leaf P s
-Every-signed-leaf P (counted fewest most s) = Every-signed-leaf P s
+Every-signed-leaf P (Signed-tree.leaf place a) = P a
+Every-signed-leaf P (Signed-tree.catenation place s t) = Every-signed-leaf P s × Every-signed-leaf P t
+Every-signed-leaf P (Signed-tree.union place s t) = Every-signed-leaf P s × Every-signed-leaf P t
+Every-signed-leaf P (Signed-tree.star place s) = Every-signed-leaf P s
+Every-signed-leaf P (one-or-more place s) = Every-signed-leaf P s
+Every-signed-leaf P (optional place s) = Every-signed-leaf P s
+Every-signed-leaf P (counted place fewest most s) = Every-signed-leaf P s

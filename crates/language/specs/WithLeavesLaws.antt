@@ -26,14 +26,14 @@ module _ {A B : Type 0} (f : A → B) where
   -- THE RESULT: with other leaves the signs stand for the same tree with these leaves
   pub stands-for-leaves : (empty : A) (s : Signed-tree A)
       → stands-for (f empty) (signed-with-leaves f s) ≡ with-leaves f (stands-for empty s)
-  stands-for-leaves empty (Signed-tree.leaf a) = refl
-  stands-for-leaves empty (Signed-tree.catenation s t) =
+  stands-for-leaves empty (Signed-tree.leaf place a) = refl
+  stands-for-leaves empty (Signed-tree.catenation place s t) =
       rw (stands-for-leaves empty s, stands-for-leaves empty t) refl
-  stands-for-leaves empty (Signed-tree.union s t) = rw (stands-for-leaves empty s, stands-for-leaves empty t) refl
-  stands-for-leaves empty (Signed-tree.star s) = ap star (stands-for-leaves empty s)
-  stands-for-leaves empty (one-or-more s) = ap repeated (stands-for-leaves empty s)
-  stands-for-leaves empty (optional s) = ap (perhaps (f empty)) (stands-for-leaves empty s)
-  stands-for-leaves empty (counted fewest most s) =
+  stands-for-leaves empty (Signed-tree.union place s t) = rw (stands-for-leaves empty s, stands-for-leaves empty t) refl
+  stands-for-leaves empty (Signed-tree.star place s) = ap star (stands-for-leaves empty s)
+  stands-for-leaves empty (one-or-more place s) = ap repeated (stands-for-leaves empty s)
+  stands-for-leaves empty (optional place s) = ap (perhaps (f empty)) (stands-for-leaves empty s)
+  stands-for-leaves empty (counted place fewest most s) =
       ap (times (f empty) fewest most) (stands-for-leaves empty s)
       ∙ times-leaves empty fewest most (stands-for empty s)
 
@@ -46,15 +46,15 @@ module _ {A B : Type 0} (f : A → B) where
 
   -- well counted as before
   pub well-counted-leaves : (s : Signed-tree A) → Well-counted s → Well-counted (signed-with-leaves f s)
-  well-counted-leaves (Signed-tree.leaf a) well = tt
-  well-counted-leaves (Signed-tree.catenation s t) well =
+  well-counted-leaves (Signed-tree.leaf place a) well = tt
+  well-counted-leaves (Signed-tree.catenation place s t) well =
       (well-counted-leaves s (well .0), well-counted-leaves t (well .1))
-  well-counted-leaves (Signed-tree.union s t) well =
+  well-counted-leaves (Signed-tree.union place s t) well =
       (well-counted-leaves s (well .0), well-counted-leaves t (well .1))
-  well-counted-leaves (Signed-tree.star s) well = well-counted-leaves s well
-  well-counted-leaves (one-or-more s) well = well-counted-leaves s well
-  well-counted-leaves (optional s) well = well-counted-leaves s well
-  well-counted-leaves (counted fewest most s) well = (well .0, well .1, well-counted-leaves s (well .2))
+  well-counted-leaves (Signed-tree.star place s) well = well-counted-leaves s well
+  well-counted-leaves (one-or-more place s) well = well-counted-leaves s well
+  well-counted-leaves (optional place s) well = well-counted-leaves s well
+  well-counted-leaves (counted place fewest most s) well = (well .0, well .1, well-counted-leaves s (well .2))
 
 module _ {A : Type 0} (P : A → Type 0) where
   -- what holds of the leaves of t and of x, holds of those of t followed by x
@@ -73,14 +73,14 @@ module _ {A : Type 0} (P : A → Type 0) where
   -- what holds of the written leaves, and of the one for the empty text, holds of all that the signs stand for
   pub every-stands-for : (empty : A) → P empty → (s : Signed-tree A) → Every-signed-leaf P s
       → Every-leaf P (stands-for empty s)
-  every-stands-for empty e (Signed-tree.leaf a) each = each
-  every-stands-for empty e (Signed-tree.catenation s t) each =
+  every-stands-for empty e (Signed-tree.leaf place a) each = each
+  every-stands-for empty e (Signed-tree.catenation place s t) each =
       (every-stands-for empty e s (each .0), every-stands-for empty e t (each .1))
-  every-stands-for empty e (Signed-tree.union s t) each =
+  every-stands-for empty e (Signed-tree.union place s t) each =
       (every-stands-for empty e s (each .0), every-stands-for empty e t (each .1))
-  every-stands-for empty e (Signed-tree.star s) each = every-stands-for empty e s each
-  every-stands-for empty e (one-or-more s) each =
+  every-stands-for empty e (Signed-tree.star place s) each = every-stands-for empty e s each
+  every-stands-for empty e (one-or-more place s) each =
       (every-stands-for empty e s each, every-stands-for empty e s each)
-  every-stands-for empty e (optional s) each = (every-stands-for empty e s each, e)
-  every-stands-for empty e (counted fewest most s) each =
+  every-stands-for empty e (optional place s) each = (every-stands-for empty e s each, e)
+  every-stands-for empty e (counted place fewest most s) each =
       every-times empty e fewest most (stands-for empty s) (every-stands-for empty e s each)
