@@ -25,6 +25,8 @@ use Rattle.tree.specs.Layout.{
   label-with,
   label-at,
 }
+use Rattle.tree.specs.Places.{bare, Is-record}
+use Rattle.tree.specs.PlacesLaws.{length-bare, kind-bare}
 use Rattle.tree.specs.Cut.{one, cut-only, open-size, edge, nest, wanted}
 use Rattle.tree.specs.Parts.{pieces-below, below-each}
 use Rattle.tree.specs.Nesting.{pieces-below-edge, pieces-below-nest}
@@ -45,7 +47,7 @@ use Rattle.tree.specs.Saying.{true-false}
 use Rattle.deciding.specs.Judged.{Judged, Counts-below}
 use Rattle.deciding.specs.declared.good.Decided.{Decided}
 use Rattle.deciding.specs.declared.good.Decided.the-variants.{Good as good, NotGood as not-good}
-use Rattle.deciding.specs.Decide.{Taken, Compared, Agrees}
+use Rattle.deciding.specs.Decide.{Taken, List-of, Compared, Agrees}
 
 -- two answers that fit are the same
 pub decided-unique : (bytes : List ℕ) (a b : Decided) → Judged bytes a → Judged bytes b → a ≡ b
@@ -141,24 +143,30 @@ module _ (ls list : List ℕ) (i left right label left-number right-number piece
       (is-label ∙ label-is ls t i e (in-tree ls t i e inside)) small is-left is-right (facts t e .1)
 
   -- a list that has it not is not the tree's
-  pub compared-no : (record-at list i ≡ labelled-record label left-number right-number piece → ⊥)
-      → Compared ls list false
-  compared-no differs =
+  pub compared-no : length list ≡ record-size * length ls
+      → (Is-record list i (labelled-record label left-number right-number piece) → ⊥) → Compared ls list false
+  compared-no long differs =
       record {
         if-so = λ e. absurd (true-false (sym e));
-        if-not = λ e t same is-list. differs (ap (λ (l : List ℕ). record-at l i) is-list
-            ∙ own-record t i (in-tree ls t i same inside) ∙ sym (given-record t same));
+        if-not = λ e t same is-list. differs
+            (record {
+              same = ap (λ (l : List ℕ). record-at l i) (is-list .of-tree)
+                  ∙ own-record t i (in-tree ls t i same inside) ∙ sym (given-record t same);
+              placed = is-list .placed .each i (omega arith);
+            });
       }
 
   -- a list that has it agrees with the tree's in one record more
-  pub agrees-more : record-at list i ≡ labelled-record label left-number right-number piece → Agrees ls list i
+  pub agrees-more : Is-record list i (labelled-record label left-number right-number piece) → Agrees ls list i
       → Agrees ls list (i + 1)
   agrees-more has so-far = record { each = λ t e r h. by-place t e r h (decLt r i) }
     where
       by-place : (t : Tree Leaf) → ls ≡ labels t → (r : ℕ) → r < i + 1 → Dec (r < i)
-          → record-at list r ≡ seat-record r (seat-at (seats t 0 1) r)
+          → Is-record list r (seat-record r (seat-at (seats t 0 1) r))
       by-place t e r h (yes before) = so-far .each t e r before
-      by-place t e r h (no after) = let here : r ≡ i = omega arith in rw here (has ∙ given-record t e)
+      by-place t e r h (no after) =
+          let here : r ≡ i = omega arith in
+          rw here (record { same = has .same ∙ given-record t e; placed = has .placed })
 
 -- where each record of a list is that of a seat, the list is what is written for the seats
 same-records : (list : List ℕ) (i : ℕ) (xs : List Seat) → length list ≡ record-size * length xs
@@ -186,16 +194,20 @@ compared-all ls list long agrees =
     record {
       if-so = λ e t same.
           let n : length ls ≡ nodes t = ap length same ∙ length-labels t in
-          same-records list 0 (seats t 0 1) (omega (arith, length-seats t 0 1))
-          (λ r h. agrees .each t same r (omega (arith, length-seats t 0 1))
-          ∙ ap (λ (k : ℕ). seat-record k (seat-at (seats t 0 1) r)) (sym (zero-add r)))
-          ∙ sym (encode-written t);
+          record {
+            of-tree = same-records (bare list) 0 (seats t 0 1)
+                (omega (arith, length-bare list, length-seats t 0 1))
+                (λ r h. agrees .each t same r (omega (arith, length-seats t 0 1)) .same
+                ∙ ap (λ (k : ℕ). seat-record k (seat-at (seats t 0 1) r)) (sym (zero-add r)))
+                ∙ sym (encode-written t);
+            placed = record { each = λ r room. agrees .each t same r (omega (arith, long)) .placed };
+          };
       if-not = λ e t same is-list. true-false e;
     }
 
 -- a good list has a record for each of its tree's nodes
 pub good-length : (bytes : List ℕ) (t : Tree Leaf) → Good bytes t → length bytes ≡ record-size * nodes t
-good-length bytes t g = ap length (g .of-tree) ∙ length-encode t
+good-length bytes t g = sym (length-bare bytes) ∙ ap length (g .of-tree) ∙ length-encode t
 
 -- why a list is not good: its length is no multiple of a record's
 pub not-by-length : (bytes : List ℕ) → (length bytes % record-size ≡ 0 → ⊥) → Judged bytes not-good
@@ -224,12 +236,17 @@ module _ (bytes ls : List ℕ) (shown : Labels-of bytes ls) where
   -- not good: a record is not the tree's
   pub not-by-records : Compared ls bytes false → Judged bytes not-good
   not-by-records c =
-      record { fits = λ t g. c .if-not refl t (labels-of-good bytes ls t (g .of-tree) (g .ranked) shown) (g .of-tree) }
+      record {
+        fits = λ t g. c .if-not refl t (labels-of-good bytes ls t (g .of-tree) (g .ranked) shown)
+            (record { of-tree = g .of-tree; placed = g .placed });
+      }
 
   -- the records of class leaves are where the labels of the list's tree say so
-  kinds-by-tree : (t : Tree Leaf) → bytes ≡ encode t → ls ≡ labels t → Same-kinds bytes ls (length ls)
+  kinds-by-tree : (t : Tree Leaf) → bare bytes ≡ encode t → ls ≡ labels t → Same-kinds bytes ls (length ls)
   kinds-by-tree t of-tree same =
-      rw (of-tree, same) (kinds-of-tree t (length (labels t)) (omega (arith, length-labels t)))
+      let kinds : Same-kinds (bare bytes) ls (length ls) =
+      rw (of-tree, same) (kinds-of-tree t (length (labels t)) (omega (arith, length-labels t))) in
+      record { room = kinds .room; kinds = λ r h. rw (kind-bare bytes r) at (kinds .kinds r h) }
 
   -- good: every record is the tree's; then the number of each class leaf is its rank, which its label was made of
   pub good-by-records : (pieces classes : ℕ) → Postorder ls → Counts-pieces ls pieces → pieces ≤ most-pieces
@@ -238,15 +255,16 @@ module _ (bytes ls : List ℕ) (shown : Labels-of bytes ls) where
   good-by-records pieces classes o c few counted same =
       let t : Tree Leaf = o .tree in
       let count : pieces ≡ piece-count t = c .count t (o .same) in
-      let of-tree : bytes ≡ encode t = same .if-so refl t (o .same) in
-      let kinds : Same-kinds bytes ls (length ls) = kinds-by-tree t of-tree (o .same) in
+      let list : List-of bytes t = same .if-so refl t (o .same) in
+      let kinds : Same-kinds bytes ls (length ls) = kinds-by-tree t (list .of-tree) (o .same) in
       let numbers : numbers-in (take (length ls) ls) ≡ class-numbers t =
       ap numbers-in (take-length ls ∙ o .same) ∙ numbers-labels t in
       record {
         fits = record {
           tree = t;
           is-good = record {
-            of-tree = of-tree;
+            of-tree = list .of-tree;
+            placed = list .placed;
             few = rw (← count) few;
             ranked = record { each = rw numbers at (taken-ranks bytes ls (length ls) kinds (shown .each)) };
           };

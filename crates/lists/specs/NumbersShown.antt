@@ -7,6 +7,7 @@ use lib.ListN.{getD}
 use Rattle.language.specs.Tree.{Tree, leaf, catenation, union, star, nodes}
 use Rattle.tree.specs.Leaf.{Leaf}
 use Rattle.tree.specs.Layout.{record-size, piece-at}
+use Rattle.tree.specs.PlacesLaws.{piece-bare}
 use Rattle.tree.specs.Cut.{wanted}
 use Rattle.tree.specs.Records.{encode, Good}
 use Rattle.tree.specs.Numbering.{in-postorder, numbered}
@@ -37,6 +38,6 @@ pieces-of-good bytes t good r h =
     let place : record-size * r + 6 + 1 ≡ record-size * r + 7 = omega arith in
     let shown : piece-at (encode t) r ≡ piece =
     rw (place, low, high) (omega (arith, bounded .older, bounded .bounded, good .few)) in
-    ap (λ (l : List ℕ). piece-at l r) (good .of-tree) ∙ shown
+    sym (piece-bare bytes r) ∙ ap (λ (l : List ℕ). piece-at l r) (good .of-tree) ∙ shown
     ∙ sym (held-seat (λ (x : Seat). x .piece) (seats t 0 1) r (rw (length-seats t 0 1) h))
     ∙ ap (λ (l : List ℕ). getD l r 0) (sym (numbered-seats t 0 1))

@@ -10,6 +10,8 @@ use lib.Seq.{getD-drop, ext-getD}
 use Rattle.language.specs.Tree.{Tree, leaf, catenation, union, star, nodes}
 use Rattle.tree.specs.Leaf.{Leaf}
 use Rattle.tree.specs.Layout.{record-size, class-kind, kind-at, class-records, label-with, label-at}
+use Rattle.tree.specs.Places.{bare}
+use Rattle.tree.specs.PlacesLaws.{length-bare, label-bare}
 use Rattle.tree.specs.Records.{encode, Ranked, Good, labels}
 use Rattle.tree.specs.Lengths.{length-encode, length-labels}
 use Rattle.tree.specs.Postorder.{labels-injective}
@@ -77,17 +79,30 @@ label-shown t ranked r h =
     (root-labels (node t r) (length (numbers-in (take r (labels t)))) (rw here at (ranked-number t ranked r h)))
 
 -- the labels that a tree's list shows are the tree's
-pub labels-of-good : (list ls : List ℕ) (t : Tree Leaf) → list ≡ encode t → Ranked t → Labels-of list ls → ls ≡ labels t
-labels-of-good list ls t e ranked shown =
+labels-of-tree : (list ls : List ℕ) (t : Tree Leaf) → list ≡ encode t → Ranked t → Labels-of list ls → ls ≡ labels t
+labels-of-tree list ls t e ranked shown =
     let long : length ls ≡ nodes t = omega (arith, shown .long, ap length e, length-encode t) in
     ext-getD 0 ls (labels t) (long ∙ sym (length-labels t))
     (λ r h. shown .each r h ∙ ap (λ (l : List ℕ). label-at l r) e ∙ label-shown t ranked r (omega arith))
+
+-- a list without its places shows the same labels
+pub labels-of-bare : {list ls : List ℕ} → Labels-of list ls → Labels-of (bare list) ls
+labels-of-bare {list} shown =
+    record {
+      long = length-bare list ∙ shown .long;
+      each = λ r h. shown .each r h ∙ sym (label-bare list r);
+    }
+
+-- so the labels that a good list shows are its tree's
+pub labels-of-good : (list ls : List ℕ) (t : Tree Leaf) → bare list ≡ encode t → Ranked t → Labels-of list ls
+    → ls ≡ labels t
+labels-of-good list ls t e ranked shown = labels-of-tree (bare list) ls t e ranked (labels-of-bare shown)
 
 -- a list gives back one tree and no other, where classes are numbered by their rank
 pub encode-injective : (s t : Tree Leaf) → Ranked s → Ranked t → encode s ≡ encode t → s ≡ t
 encode-injective s t ranked-s ranked-t e =
     labels-injective s t
-    (labels-of-good (encode s) (labels s) t e ranked-t
+    (labels-of-tree (encode s) (labels s) t e ranked-t
     (record {
       long = length-encode s ∙ ap (λ (n : ℕ). record-size * n) (sym (length-labels s));
       each = λ r h. sym (label-shown s ranked-s r (omega (arith, length-labels s)));

@@ -12,6 +12,7 @@ use Rattle.tree.specs.Limits.{most-pieces, most-records, most-states}
 use Rattle.tree.specs.Layout.{record-size}
 use Rattle.tree.specs.Records.{Good, Ranked, piece-count, class-numbers, class-count}
 use Rattle.tree.specs.Parts.{Small, Every-below}
+use Rattle.tree.specs.PlacesLaws.{length-bare}
 use Rattle.tree.specs.Stored.{stored}
 use Rattle.deciding.specs.Judged.{Counts-below}
 use Rattle.tree.specs.Pieces.{cut-up, stated, good-small, good-tells}
@@ -123,7 +124,7 @@ good-top {list} {t} good =
         numbers = subst Low-numbers (sym (told .cut .same-tree)) (low-numbers good);
       };
       plain = small-plain x (small .0);
-      all = ap length (told .bytes-stored) ∙ length-stored x 0 0 1;
+      all = sym (length-bare list) ∙ ap length (told .bytes-stored) ∙ length-stored x 0 0 1;
     }
 
 -- the list is good

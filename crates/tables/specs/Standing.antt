@@ -21,6 +21,8 @@ use Rattle.tree.specs.Layout.{
   piece-at,
   Shows,
 }
+use Rattle.tree.specs.Places.{bare}
+use Rattle.tree.specs.PlacesLaws.{length-bare, shows-bare}
 use Rattle.tree.specs.Fields.{shows}
 use Rattle.tree.specs.Records.{leaf-kind, leaf-character, leaf-number}
 use Rattle.tree.specs.Stored.{stored}
@@ -153,11 +155,11 @@ Low-numbers (Tree.catenation s t) = Low-numbers s × Low-numbers t
 Low-numbers (Tree.union s t) = Low-numbers s × Low-numbers t
 Low-numbers (Tree.star s) = Low-numbers s
 
--- the records of the site stand in the list
+-- the records of the site stand in the list, but for their places
 pub record Written (list : List ℕ) (s : Site) : Type 0 where
   pub before : List ℕ
   pub after : List ℕ
-  pub parts : list ≡ before ++ (stored (tree s) (first s) (piece s) (new s) ++ after)
+  pub parts : bare list ≡ before ++ (stored (tree s) (first s) (piece s) (new s) ++ after)
   pub begins : length before ≡ record-size * first s
 
 -- the site stands in the list, and its numbers are within bounds: its pieces are among the first `room`
@@ -307,17 +309,18 @@ in-fine (step c m) h = in-fine m (child-fine c h)
 -- the root's record of a site in the list
 root-shows : {list : List ℕ} {s : Site} → Written list s → (r kind character left right own : ℕ)
     → r + 1 ≡ first s + size (tree s)
-    → root-record (tree s) (first s) (piece s) (new s) ≡ record-of kind character left right own → left < two-bytes-limit
+    → root-record (tree s) (first s) (piece s) (new s) ≡ record-of kind character left right own
+    → left < two-bytes-limit
     → right < two-bytes-limit → own < two-bytes-limit
     → Shows list r kind character left right own
 root-shows {list} {s = site x f p n i} w r kind character left right own at e small-left small-right small-piece =
-    let split : list ≡ (w .before ++ inner x f p n) ++ (record-of kind character left right own ++ w .after) =
+    let split : bare list ≡ (w .before ++ inner x f p n) ++ (record-of kind character left right own ++ w .after) =
     w .parts ∙ ap (λ (l : List ℕ). w .before ++ (l ++ w .after))
     (stored-inner x f p n ∙ ap (λ (l : List ℕ). inner x f p n ++ l) e) ∙ simp append-assoc in
     let begins = w .begins in
     let long = length-inner x f p n in
-    rw split (shows (w .before ++ inner x f p n) (w .after) r kind character left right own
-    (simp length-append (omega arith)) small-left small-right small-piece)
+    shows-bare (rw split (shows (w .before ++ inner x f p n) (w .after) r kind character left right own
+    (simp length-append (omega arith)) small-left small-right small-piece))
 
 module _ {list : List ℕ} {f p n i : ℕ} {room : ℕ} where
   -- what the record of a node shows, by the node's kind
@@ -359,7 +362,7 @@ pub within : {list : List ℕ} {s : Site} {room : ℕ} → Fine list room s → 
 within {list} {s = site x f p n i} h =
     let w = h .written in
     let e = w .begins in
-    omega (arith, simp length-append at (ap length (w .parts)), length-stored x f p n)
+    omega (arith, length-bare list, simp length-append at (ap length (w .parts)), length-stored x f p n)
 
 -- k is the number of a child piece below the site
 abbrev pub Reaches-piece : Site → ℕ → Type 0

@@ -204,7 +204,12 @@ coded empty-text e = omega arith
 
 -- nodes with children have such a kind
 catenation-no-leaf : No-leaf-kind catenation-kind
-catenation-no-leaf = record { no-character = λ e. omega arith; no-class = λ e. omega arith; no-empty = λ e. omega arith }
+catenation-no-leaf = record {
+  no-character = λ e. omega arith;
+  no-class = λ e. omega arith;
+  no-empty = λ e.
+      omega arith;
+}
 
 union-no-leaf : No-leaf-kind union-kind
 union-no-leaf = record { no-character = λ e. omega arith; no-class = λ e. omega arith; no-empty = λ e. omega arith }

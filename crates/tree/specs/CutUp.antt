@@ -6,6 +6,7 @@ use Rattle.language.specs.Tree.{Tree}
 use Rattle.language.specs.Nested.{Nested, whole}
 use Rattle.tree.specs.Leaf.{Leaf}
 use Rattle.tree.specs.Cut.{nest, wanted}
+use Rattle.tree.specs.Places.{bare}
 use Rattle.tree.specs.Records.{encode, piece-count}
 use Rattle.tree.specs.Limits.{most-pieces}
 use Rattle.tree.specs.Parts.{pieces-below, Every-piece, Small}
@@ -26,8 +27,8 @@ pub record Stated (t : Tree Leaf) (x : Nested Leaf) : Type 0 where
   -- the list of t tells the pieces of x, the root's is 0, and a piece and those below it have a run of numbers
   pub as-stored : stored x 0 0 1 ≡ encode t
 
--- a good list, seen from above: the records of a cut tree with small pieces, at most 128 of them
+-- a good list, seen from above: but for the places, the records of a cut tree with small pieces, at most 128 of them
 pub record Tells-cut (bytes : List ℕ) (t : Tree Leaf) (x : Nested Leaf) : Type 0 where
   pub cut : Stated t x
-  pub bytes-stored : bytes ≡ stored x 0 0 1
+  pub bytes-stored : bare bytes ≡ stored x 0 0 1
   pub few-pieces : 1 + pieces-below x ≤ most-pieces

@@ -12,7 +12,6 @@ use Rattle.tree.specs.Layout.{
   two-bytes,
   record-of,
   four-numbers,
-  Holds-number,
   kind-at,
   character-at,
   left-at,
@@ -41,12 +40,17 @@ shows before after r kind character left right piece e small-left small-right sm
       piece-is = omega (arith, at 6 (record-size * r + 6) (omega arith), at 7 (record-size * r + 6 + 1) (omega arith));
     }
 
--- numbers stored two bytes at a time, side by side, are the four numbers
-pub written-in-turn : (a b c d e : List ℕ) (at label left right piece : ℕ) → b ≡ sets a at (two-bytes label)
+-- ten bytes on
+add-ten : (n : ℕ) → n + 10 ≡ suc (suc (n + 8))
+add-ten n = omega arith
+
+-- numbers stored two bytes at a time, side by side, and the place 0 are the four numbers
+pub written-in-turn : (a b c d e f g : List ℕ) (at label left right piece : ℕ) → b ≡ sets a at (two-bytes label)
     → c ≡ sets b (at + 2) (two-bytes left) → d ≡ sets c (at + 4) (two-bytes right)
-    → e ≡ sets d (at + 6) (two-bytes piece)
-    → e ≡ sets a at (four-numbers label left right piece)
-written-in-turn a b c d e at label left right piece p q r s = rw (s, r, q, p) (simp towards-suc)
+    → e ≡ sets d (at + 6) (two-bytes piece) → f ≡ sets e (at + 8) (two-bytes 0) → g ≡ sets f (at + 10) (two-bytes 0)
+    → g ≡ sets a at (four-numbers label left right piece)
+written-in-turn a b c d e f g at label left right piece p q r s u v =
+    rw (v, u, s, r, q, p) (simp (add-ten, towards-suc))
 
 -- a record put into a list
 pub record-put : (list : List ℕ) (at : ℕ) (bytes : List ℕ) → length bytes ≡ record-size → at + record-size ≤ length list
@@ -61,49 +65,15 @@ two-more list at room =
     ∙ ap (λ (l : List ℕ). getD list at 0 ∷ l) (simp towards-suc (drop-cons list (suc at) 0 (omega arith)))
 
 -- a record's bytes, two at a time
-record-bytes : (list : List ℕ) (at : ℕ) → at + record-size ≤ length list → take record-size (drop at list)
+pub record-bytes : (list : List ℕ) (at : ℕ) → at + record-size ≤ length list → take record-size (drop at list)
     ≡ getD list at 0 ∷ getD list (at + 1) 0 ∷ getD list (at + 2) 0 ∷ getD list (at + 2 + 1) 0
-    ∷ getD list (at + 4) 0 ∷ getD list (at + 4 + 1) 0 ∷ getD list (at + 6) 0 ∷ getD list (at + 6 + 1) 0 ∷ []
+    ∷ getD list (at + 4) 0 ∷ getD list (at + 4 + 1) 0 ∷ getD list (at + 6) 0 ∷ getD list (at + 6 + 1) 0
+    ∷ getD list (at + 8) 0 ∷ getD list (at + 8 + 1) 0 ∷ getD list (at + 10) 0 ∷ getD list (at + 10 + 1) 0 ∷ []
 record-bytes list at room =
     let first = two-more list at (omega arith) in
     let second = two-more list (at + 2) (omega arith) in
     let third = two-more list (at + 2 + 2) (omega arith) in
     let fourth = two-more list (at + 2 + 2 + 2) (omega arith) in
-    rw (first, second, third, fourth) (simp towards-suc)
-
--- the bytes from a place on hold the numbers of a record
-pub record Holds-fields (list : List ℕ) (at label left right piece : ℕ) : Type 0 where
-  pub holds-label : Holds-number list at label
-  pub holds-left : Holds-number list (at + 2) left
-  pub holds-right : Holds-number list (at + 4) right
-  pub holds-piece : Holds-number list (at + 6) piece
-
--- then they are that record
-pub record-same : (list : List ℕ) (at label left right piece : ℕ) → at + record-size ≤ length list
-    → Holds-fields list at label left right piece
-    → take record-size (drop at list) ≡ four-numbers label left right piece
-record-same list at label left right piece room h =
-    record-bytes list at room
-    ∙ rw (
-      h .holds-label .low,
-      h .holds-label .high,
-      h .holds-left .low,
-      h .holds-left .high,
-      h .holds-right .low,
-      h .holds-right .high,
-      h .holds-piece .low,
-      h .holds-piece .high,
-    )
-
--- and only then
-pub record-holds : (list : List ℕ) (at label left right piece : ℕ) → at + record-size ≤ length list
-    → take record-size (drop at list) ≡ four-numbers label left right piece
-    → Holds-fields list at label left right piece
-record-holds list at label left right piece room e =
-    let bytes = record-bytes list at room in
-    record {
-      holds-label = record { low = cc; high = cc };
-      holds-left = record { low = cc; high = cc };
-      holds-right = record { low = cc; high = cc };
-      holds-piece = record { low = cc; high = cc };
-    }
+    let fifth = two-more list (at + 2 + 2 + 2 + 2) (omega arith) in
+    let sixth = two-more list (at + 2 + 2 + 2 + 2 + 2) (omega arith) in
+    rw (first, second, third, fourth, fifth, sixth) (simp (add-ten, towards-suc))

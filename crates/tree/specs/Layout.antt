@@ -1,6 +1,6 @@
 -- The layout of a tree record. No other file of definitions knows which byte holds what:
 --   byte 0 the kind · byte 1 the character · bytes 2-3 the left or only child, or the number of a class · bytes 4-5 the
---   right child · bytes 6-7 the piece; numbers little-endian.
+-- right child · bytes 6-7 the piece · bytes 8-9 the place in the expression · bytes 10-11 zero; numbers little-endian.
 use Prim.Native.Nat.{ℕ, zero, suc, _+_, _*_, _%_, _/_}
 use mathlib.Core.Path.{_≡_}
 use mathlib.Core.Bool.{cond}
@@ -10,7 +10,7 @@ use lib.ListN.{getD, take, drop}
 
 -- how many bytes a record has
 abbrev pub record-size : ℕ
-record-size = 8
+record-size = 12
 
 -- the kinds of a record
 abbrev pub character-kind : ℕ
@@ -47,17 +47,23 @@ two-bytes-limit = 65536
 abbrev pub two-bytes : ℕ → List ℕ
 two-bytes n = n % 256 ∷ n / 256 % 256 ∷ []
 
--- the bytes of a record: kind, character, left or only child, right child, piece
+-- the last four bytes of a record: the place 0, and two bytes that are 0
+abbrev pub unplaced : List ℕ
+unplaced = 0 ∷ 0 ∷ 0 ∷ 0 ∷ []
+
+-- the bytes of a record with the place 0: kind, character, left or only child, right child, piece
 abbrev pub record-of : (kind character left right piece : ℕ) → List ℕ
-record-of kind character left right piece = kind ∷ character ∷ (two-bytes left ++ two-bytes right ++ two-bytes piece)
+record-of kind character left right piece =
+    kind ∷ character ∷ (two-bytes left ++ two-bytes right ++ two-bytes piece ++ unplaced)
 
 -- kind and character of a record as one number: what its first two bytes hold
 abbrev pub label-of : (kind character : ℕ) → ℕ
 label-of kind character = kind + 256 * character
 
--- four numbers side by side: kind and character, left or only child, right child, piece
+-- four numbers side by side, kind and character, left or only child, right child, piece; and the place 0
 abbrev pub four-numbers : (first left right piece : ℕ) → List ℕ
-four-numbers first left right piece = two-bytes first ++ two-bytes left ++ two-bytes right ++ two-bytes piece
+four-numbers first left right piece =
+    two-bytes first ++ two-bytes left ++ two-bytes right ++ two-bytes piece ++ unplaced
 
 -- the label of a class leaf, which tells its number: of no other kind is it 5 more than a multiple of 8
 abbrev pub class-label : (number : ℕ) → ℕ
@@ -101,6 +107,10 @@ right-at list r = number-at list (record-size * r + 4)
 -- the number of the piece
 abbrev pub piece-at : List ℕ → (r : ℕ) → ℕ
 piece-at list r = number-at list (record-size * r + 6)
+
+-- the place in the expression
+abbrev pub place-at : List ℕ → (r : ℕ) → ℕ
+place-at list r = number-at list (record-size * r + 8)
 
 -- record r of a list has these fields
 pub record Shows (list : List ℕ) (r kind character left right piece : ℕ) : Type 0 where

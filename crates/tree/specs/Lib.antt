@@ -3,6 +3,7 @@ pub mod Leaf
 pub mod Limits
 pub mod RefusalNumbers
 pub mod Layout
+pub mod Places
 pub mod Cut
 pub mod Numbering
 pub mod Records
@@ -11,6 +12,8 @@ pub mod Says
 pub mod Saying
 pub mod Fields
 pub mod Lengths
+pub mod PlacesLaws
+pub mod Comparing
 pub mod Postorder
 pub mod Choice
 pub mod Least

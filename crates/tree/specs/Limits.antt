@@ -25,6 +25,10 @@ most-records = 1920
 abbrev pub longest-expression : ℕ
 longest-expression = 1024
 
+-- the largest place in an expression
+abbrev pub most-place : ℕ
+most-place = 1023
+
 -- how many groups of an expression may be open at once
 abbrev pub most-groups : ℕ
 most-groups = 32

@@ -18,6 +18,7 @@ use Rattle.tree.specs.Layout.{
   empty-kind,
   class-label,
 }
+use Rattle.tree.specs.Places.{bare, Low-places}
 use Rattle.tree.specs.Cut.{pieces, wanted}
 use Rattle.tree.specs.Numbering.{Numbers, at-root, at-left, at-right, numbered}
 
@@ -80,10 +81,11 @@ class-count t = length (class-numbers t)
 pub record Ranked (t : Tree Leaf) : Type 0 where
   pub each : (j : ℕ) → j < class-count t → getD (class-numbers t) j 0 ≡ j
 
--- the list is good, and t is its tree: it is the list of t, there are at most 128 pieces, and classes are numbered by
--- their rank
+-- the list is good, and t is its tree: but for the places it is the list of t, every place is at most 1,023, there are
+-- at most 128 pieces, and classes are numbered by their rank
 pub record Good (bytes : List ℕ) (t : Tree Leaf) : Type 0 where
-  pub of-tree : bytes ≡ encode t
+  pub of-tree : bare bytes ≡ encode t
+  pub placed : Low-places bytes
   pub few : piece-count t ≤ most-pieces
   pub ranked : Ranked t
 

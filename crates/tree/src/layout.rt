@@ -1,7 +1,8 @@
 // The layout of a tree record: no other file of code knows which byte holds what.
+use crate::limits::MOST_PLACE;
 ghost use mathlib.Core.Path.{_≡_};
 ghost use Prim.Native.Nat.{_+_, _*_, _%_, _/_, _≤_, _<_};
-ghost use lib.ListN.{length, take, drop};
+ghost use lib.ListN.{length};
 ghost use lib.Seq.{sets};
 ghost use Rattle.tree.specs.Says.{Says};
 ghost use Rattle.tree.specs.Limits.{most-labels};
@@ -10,7 +11,6 @@ ghost use Rattle.tree.specs.Layout.{
   two-bytes,
   four-numbers,
   labelled-record,
-  record-at,
   label-of,
   class-label,
   one-if-class,
@@ -22,10 +22,13 @@ ghost use Rattle.tree.specs.Layout.{
   left-at,
   right-at,
   piece-at,
+  place-at,
 };
+ghost use Rattle.tree.specs.Places.{with-places, Is-record};
+ghost use Rattle.tree.specs.Comparing.{Holds-fields};
 
 // How many bytes a record has.
-pub const RECORD_SIZE: usize = 8;
+pub const RECORD_SIZE: usize = 12;
 
 // The kinds of a record.
 pub const CHARACTER: u8 = 1;
@@ -147,6 +150,14 @@ pub fn piece_at(list: &[u8], i: usize) -> usize
     number_at(list, RECORD_SIZE * i + 6)
 }
 
+// Its place in the expression.
+pub fn place_at(list: &[u8], i: usize) -> usize
+    requires { ⌜ record-size * i + record-size ≤ length (now list) ⌝ }
+    ensures { λ n. ⌜ n ≡ place-at (now (list .entry)) i ⌝ }
+{
+    number_at(list, RECORD_SIZE * i + 8)
+}
+
 // The low byte of a number.
 fn low(n: u16) -> u8
     ensures { λ r. ⌜ r ≡ n % 256 ⌝ }
@@ -170,7 +181,7 @@ fn write_number(out: &mut [u8], at: usize, n: u16)
     out[at + 1] = high(n);
 }
 
-// Writes the four numbers of a record, and nothing else.
+// Writes the four numbers of a record and the place 0, and nothing else.
 fn write_numbers(out: &mut [u8], at: usize, first: u16, left: u16, right: u16, piece: u16)
     requires { ⌜ at + record-size ≤ length (now out) ⌝ }
     ensures { λ _. ⌜ now (out .exit) ≡ sets (now (out .entry)) at (four-numbers first left right piece) ⌝ }
@@ -179,6 +190,8 @@ fn write_numbers(out: &mut [u8], at: usize, first: u16, left: u16, right: u16, p
     write_number(out, at + 2, left);
     write_number(out, at + 4, right);
     write_number(out, at + 6, piece);
+    write_number(out, at + 8, 0);
+    write_number(out, at + 10, 0);
 }
 
 // Writes a record that has this label, and nothing else.
@@ -195,6 +208,18 @@ pub fn write_record(out: &mut [u8], i: usize, label: u16, left: u16, right: u16,
     }
 }
 
+// Writes places into the records, the first into record 0 and so on, and nothing else.
+pub fn write_places(places: &[u16], out: &mut [u8])
+    requires { ⌜ record-size * length (now places) ≤ length (now out) ⌝ }
+    ensures { λ _. ⌜ now (out .exit) ≡ with-places (now (places .entry)) (now (out .entry)) ⌝ }
+{
+    let mut i = 0;
+    while i < places.len() {
+        write_number(out, RECORD_SIZE * i + 8, places[i]);
+        i += 1;
+    }
+}
+
 // Whether two bytes hold this number.
 fn holds_number(list: &[u8], at: usize, n: u16) -> bool
     requires { ⌜ at + 2 ≤ length (now list) ⌝ }
@@ -206,10 +231,10 @@ fn holds_number(list: &[u8], at: usize, n: u16) -> bool
     list[at + 1] == high(n)
 }
 
-// Whether the bytes from a place on hold the four numbers of a record.
+// Whether the bytes from a place on hold the four numbers of a record, and 0 in the last two.
 fn holds_numbers(list: &[u8], at: usize, first: u16, left: u16, right: u16, piece: u16) -> bool
     requires { ⌜ at + record-size ≤ length (now list) ⌝ }
-    ensures { λ b. ⌜ Says (take record-size (drop at (now (list .entry))) ≡ four-numbers first left right piece) b ⌝ }
+    ensures { λ b. ⌜ Says (Holds-fields (now (list .entry)) at first left right piece) b ⌝ }
 {
     if !holds_number(list, at, first) {
         return false;
@@ -220,14 +245,20 @@ fn holds_numbers(list: &[u8], at: usize, first: u16, left: u16, right: u16, piec
     if !holds_number(list, at + 4, right) {
         return false;
     }
-    holds_number(list, at + 6, piece)
+    if !holds_number(list, at + 6, piece) {
+        return false;
+    }
+    holds_number(list, at + 10, 0)
 }
 
-// Whether a record is the one that has this label, these children and this piece.
+// Whether a record is the one that has this label, these children and this piece, and a place that is not too large.
 pub fn is_record(list: &[u8], i: usize, label: u16, left: u16, right: u16, piece: u16) -> bool
     requires { ⌜ record-size * i + record-size ≤ length (now list) ⌝ }
-    ensures { λ b. ⌜ Says (record-at (now (list .entry)) i ≡ labelled-record label left right piece) b ⌝ }
+    ensures { λ b. ⌜ Says (Is-record (now (list .entry)) i (labelled-record label left right piece)) b ⌝ }
 {
+    if MOST_PLACE < place_at(list, i) {
+        return false;
+    }
     let at = RECORD_SIZE * i;
     if label % 8 == CLASS_LABEL {
         return holds_numbers(list, at, CLASS_LABEL, label / 8, NO_CHILD, piece);

@@ -10,6 +10,9 @@ pub const MOST_PIECES: usize = 128;
 pub const MOST_RECORDS: usize = 1920;
 // How many bytes an expression has at most.
 pub const LONGEST_EXPRESSION: usize = 1024;
+// The largest place in an expression.
+pub const MOST_PLACE: usize = 1023;
+
 // How many groups of an expression may be open at once.
 pub const MOST_GROUPS: usize = 32;
 // How many nodes the tree of an expression has at most.

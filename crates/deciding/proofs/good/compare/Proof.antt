@@ -112,7 +112,7 @@ returns c =
     (numbers k .child-number2 .result) (getD (s .args .pieces .now) (l .loop .i + 1) 0) (s .args .sizes .now)
     (right k .before .before .loop-test .taken) (facts k) refl
     (right k .before .shared-slice-known5 .given (l .loop .i) .fits) (numbers k .before .child-number .ensures)
-    (numbers k .child-number2 .ensures) (k .is-record .ensures .if-not (not-true _ (c .if1 .taken)))
+    (numbers k .child-number2 .ensures) (s .pre .1 .0 .1) (k .is-record .ensures .if-not (not-true _ (c .if1 .taken)))
 
 add-i : tie.Need-add-i Inv-loop μ-loop
 add-i c = omega arith

@@ -1,4 +1,5 @@
--- `tree::layout::holds_number` meets its contract: a byte that differs is the reason for no, and two that agree for yes.
+-- `tree::layout::holds_number` meets its contract: a byte that differs is the reason for no, and two that agree for
+-- yes.
 use mathlib.Core.Path.{sym, _∙_}
 use borrow.Author.Tests.{eqb-true, eqb-false}
 use borrow.Author.Needs.{needs}
