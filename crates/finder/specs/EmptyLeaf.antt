@@ -9,28 +9,37 @@ use lib.ListN.{length, getD}
 use Rattle.language.specs.Tree.{Tree, leaf, catenation, union, star}
 use Rattle.tree.specs.Leaf.{Leaf, Matches}
 use Rattle.tree.specs.Layout.{record-of, empty-kind, no-child}
+use Rattle.tree.specs.Places.{bare}
+use Rattle.tree.specs.PlacesLaws.{length-bare}
 use Rattle.tree.specs.Records.{encode, piece-count, Good}
 use Rattle.tree.specs.Lengths.{nodes-positive, length-encode}
 
--- a record of kind 6 with no child, in piece 0
+-- a record of kind 6 with no child, in piece 0 and at place 0
 abbrev pub empty-record : (character : ℕ) → List ℕ
 empty-record character = record-of empty-kind character no-child no-child 0
 
 -- without a character it is the list of the leaf of the empty text
 pub empty-leaf-good : Good (empty-record 0) (leaf Leaf.empty-text)
-unfolding encode piece-count
-empty-leaf-good =
-    record { of-tree = refl; few = omega arith; ranked = record { each = λ j inside. absurd (omega arith) } }
+unfolding bare encode piece-count
+empty-leaf-good = record {
+  of-tree = refl;
+  placed = record { each = λ r inside. let only : r ≡ 0 = omega arith in rw only (omega arith) };
+  few = omega arith;
+  ranked = record { each = λ j inside. absurd (omega arith) };
+}
 
 -- with one it is the list of no tree
-no-character : (c : ℕ) (t : Tree Leaf) → empty-record (suc c) ≡ encode t → ⊥
-unfolding encode
+no-character : (c : ℕ) (t : Tree Leaf) → bare (empty-record (suc c)) ≡ encode t → ⊥
+unfolding bare encode
 no-character c (leaf (Leaf.character a)) e = omega (arith, ap (λ (l : List ℕ). getD l 0 0) e)
 no-character c (leaf (Leaf.class k)) e = omega (arith, ap (λ (l : List ℕ). getD l 0 0) e)
 no-character c (leaf Leaf.empty-text) e = omega (arith, ap (λ (l : List ℕ). getD l 1 0) e)
-no-character c (catenation s t) e = omega (arith, ap length e, length-encode (catenation s t), nodes-positive s)
-no-character c (union s t) e = omega (arith, ap length e, length-encode (union s t), nodes-positive s)
-no-character c (star s) e = omega (arith, ap length e, length-encode (star s), nodes-positive s)
+no-character c (catenation s t) e =
+    omega (arith, length-bare (empty-record (suc c)), ap length e, length-encode (catenation s t), nodes-positive s)
+no-character c (union s t) e =
+    omega (arith, length-bare (empty-record (suc c)), ap length e, length-encode (union s t), nodes-positive s)
+no-character c (star s) e =
+    omega (arith, length-bare (empty-record (suc c)), ap length e, length-encode (star s), nodes-positive s)
 
 pub empty-leaf-has-no-character : (c : ℕ) (t : Tree Leaf) → Good (empty-record (suc c)) t → ⊥
 empty-leaf-has-no-character c t good = no-character c t (good .of-tree)

@@ -5,6 +5,8 @@ pub mod Promise
 pub mod Refusals
 mod SearchUnique
 pub mod Unique
+-- lists that differ only in places
+pub mod ButPlaces
 -- the leaf of the empty text by itself
 pub mod EmptyLeaf
 -- tests that compute what is in a language, what is found and which marks words hold

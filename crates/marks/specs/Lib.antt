@@ -4,6 +4,8 @@ pub mod Answer
 pub mod Promise
 pub mod Chain
 pub mod Unique
+-- lists that differ only in places
+pub mod ButPlaces
 pub mod ChainFollows
 pub mod States
 -- The layer inside, for callers that make a list's tables once: its start and step, and the words after a text.
