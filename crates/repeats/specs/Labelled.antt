@@ -1,16 +1,17 @@
--- What the functions promise that write labels behind those in the scratch: the count stops one past the most that
--- there is room for, and up to there every label is written.
+-- What the functions promise that write labels behind those in the scratch, or places behind places: the count stops
+-- one past the most that there is room for, and up to there every one is written.
 use Prim.Native.Nat.{ℕ, zero, suc, _+_, _≤_}
 use mathlib.Core.Path.{_≡_}
 use mathlib.Core.Bool.{Bool, true, false}
 use mathlib.Core.List.{List, [], _∷_, _++_}
 use lib.ListN.{length, take, drop}
-use Rattle.language.specs.Tree.{Tree, nodes}
+use Rattle.language.specs.Tree.{nodes}
+use Rattle.language.specs.PlacedTree.{Placed-tree, unplaced}
 use Rattle.language.specs.SignedSize.{capped}
 use Rattle.tree.specs.Leaf.{Leaf}
 use Rattle.tree.specs.Limits.{most-labels, slot-count}
 use Rattle.tree.specs.Layout.{label-of, catenation-kind, union-kind, empty-kind}
-use Rattle.tree.specs.Records.{labels}
+use Rattle.repeats.specs.Noted.{note, noted}
 
 -- the scratch has room for the most labels, and so many were counted so far
 pub record Label-room (scratch : List ℕ) (count : ℕ) : Type 0 where
@@ -22,24 +23,26 @@ pub record Appended (earlier : List ℕ) (count : ℕ) (new : List ℕ) (total :
   pub counted : total ≡ capped most-labels (count + length new)
   pub written : total ≤ most-labels → take total later ≡ take count earlier ++ new
 
--- behind the `begin` earlier labels those of the tree x were counted, and stand there where all have room
-pub record Labelled (x : Tree Leaf) (begin : ℕ) (earlier : List ℕ) (total : ℕ) (later : List ℕ) : Type 0 where
-  pub counted : total ≡ capped most-labels (begin + nodes x)
-  pub written : total ≤ most-labels → take total later ≡ take begin earlier ++ labels x
+-- behind the `begin` earlier labels those of the tree x were counted, and stand there where all have room; or its
+-- places behind earlier places
+pub record Labelled (places : Bool) (x : Placed-tree Leaf) (begin : ℕ) (earlier : List ℕ) (total : ℕ)
+    (later : List ℕ) : Type 0 where
+  pub counted : total ≡ capped most-labels (begin + nodes (unplaced x))
+  pub written : total ≤ most-labels → take total later ≡ take begin earlier ++ noted places x
 
--- the labels of whatever tree stands last become those of another tree
-pub record Relabels (count : ℕ) (before : List ℕ) (turned : Tree Leaf → Tree Leaf) (total : ℕ) (after : List ℕ)
-    : Type 0 where
-  pub on : (x : Tree Leaf) (begin : ℕ) (earlier : List ℕ) → Labelled x begin earlier count before
-      → Labelled (turned x) begin earlier total after
+-- what is noted of whatever tree stands last becomes what is noted of another tree
+pub record Relabels (places : Bool) (count : ℕ) (before : List ℕ) (turned : Placed-tree Leaf → Placed-tree Leaf)
+    (total : ℕ) (after : List ℕ) : Type 0 where
+  pub on : (x : Placed-tree Leaf) (begin : ℕ) (earlier : List ℕ) → Labelled places x begin earlier count before
+      → Labelled places (turned x) begin earlier total after
   pub grown : count ≤ total
   pub few : total ≤ slot-count
 
--- the same where its labels begin at a place that is told
-pub record Relabels-from (begin count : ℕ) (before : List ℕ) (turned : Tree Leaf → Tree Leaf) (total : ℕ)
-    (after : List ℕ) : Type 0 where
-  pub on : (x : Tree Leaf) (earlier : List ℕ) → Labelled x begin earlier count before
-      → Labelled (turned x) begin earlier total after
+-- the same where it begins at `begin`
+pub record Relabels-from (places : Bool) (begin count : ℕ) (before : List ℕ)
+    (turned : Placed-tree Leaf → Placed-tree Leaf) (total : ℕ) (after : List ℕ) : Type 0 where
+  pub on : (x : Placed-tree Leaf) (earlier : List ℕ) → Labelled places x begin earlier count before
+      → Labelled places (turned x) begin earlier total after
   pub grown : count ≤ total
   pub few : total ≤ slot-count
 
@@ -57,14 +60,14 @@ pub record Copies (earlier : List ℕ) (begin size count : ℕ) (made : List ℕ
     : Type 0 where
   pub on : (run : List ℕ) → Run-at earlier begin size count run → Appended earlier count (made run) total later
 
--- the labels that a `?` adds: the empty text, and the union
-abbrev pub question-labels : List ℕ
-question-labels = label-of empty-kind 0 ∷ label-of union-kind 0 ∷ []
+-- what is noted of the nodes that a `?` at a place adds: the empty text, and the union
+abbrev pub question-notes : (places : Bool) (place : ℕ) → List ℕ
+question-notes places place = note places (label-of empty-kind 0) place ∷ note places (label-of union-kind 0) place ∷ []
 
--- the labels behind a copy that follows: those of its `?`, if it has one, and the catenation
-abbrev pub copy-end : (with-question : Bool) → List ℕ
-copy-end false = label-of catenation-kind 0 ∷ []
-copy-end true = question-labels ++ (label-of catenation-kind 0 ∷ [])
+-- what is noted behind a copy that follows: of its `?`, if it has one, and of the catenation
+abbrev pub copy-end : (places : Bool) (place : ℕ) (with-question : Bool) → List ℕ
+copy-end places place false = note places (label-of catenation-kind 0) place ∷ []
+copy-end places place true = question-notes places place ++ (note places (label-of catenation-kind 0) place ∷ [])
 
 -- n copies, one after the other
 abbrev pub copied : (n : ℕ) → List ℕ → List ℕ

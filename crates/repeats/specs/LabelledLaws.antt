@@ -1,4 +1,4 @@
--- Laws of labels that are appended: one after the other, as the labels of a tree, and copies of a run.
+-- Laws of labels or places that are appended: one after the other, as those of a tree, and copies of a run.
 use Prim.Native.Nat.{ℕ, zero, suc, _+_, _-_, _≤_, _<_}
 use mathlib.Core.Path.{_≡_, refl, ap, sym, _∙_}
 use mathlib.Core.Bool.{Bool, true, false}
@@ -18,13 +18,13 @@ use lib.Seq.{
   getD-take,
   slice-empty,
 }
-use Rattle.language.specs.Tree.{Tree, leaf, catenation, union, star, nodes}
-use Rattle.language.specs.StandsFor.{followed, repeated, perhaps, times}
+use Rattle.language.specs.PlacedTree.{Placed-tree, leaf, catenation, union, star}
+use Rattle.language.specs.PlacedStandsFor.{placed-followed, placed-repeated, placed-perhaps, placed-times}
 use Rattle.tree.specs.Leaf.{Leaf, empty-text}
 use Rattle.tree.specs.Limits.{most-labels, slot-count}
 use Rattle.tree.specs.Layout.{label-of, catenation-kind, union-kind, star-kind, empty-kind}
-use Rattle.tree.specs.Records.{leaf-label, labels}
-use Rattle.tree.specs.Lengths.{length-labels}
+use Rattle.tree.specs.Records.{leaf-label}
+use Rattle.repeats.specs.Noted.{note, noted, length-noted}
 use Rattle.repeats.specs.Labelled.{
   Label-room,
   Appended,
@@ -34,7 +34,7 @@ use Rattle.repeats.specs.Labelled.{
   Copy-room,
   Run-at,
   Copies,
-  question-labels,
+  question-notes,
   copy-end,
   copied,
 }
@@ -44,20 +44,21 @@ pub appended-few : {earlier later new : List ℕ} {count total : ℕ} → Append
     → total ≤ slot-count
 appended-few a = omega (arith, a .counted)
 
-pub labelled-few : {x : Tree Leaf} {begin total : ℕ} {earlier later : List ℕ} → Labelled x begin earlier total later
-    → total ≤ slot-count
+pub labelled-few : {places : Bool} {x : Placed-tree Leaf} {begin total : ℕ} {earlier later : List ℕ}
+    → Labelled places x begin earlier total later → total ≤ slot-count
 labelled-few a = omega (arith, a .counted)
 
--- the labels of a tree are its labels appended, and the other way round
-pub as-appended : {x : Tree Leaf} {begin total : ℕ} {earlier later : List ℕ} → Labelled x begin earlier total later
-    → Appended earlier begin (labels x) total later
-as-appended {x} a = record { counted = omega (arith, a .counted, length-labels x); written = a .written }
+-- what is noted of a tree is appended, and the other way round
+pub as-appended : {places : Bool} {x : Placed-tree Leaf} {begin total : ℕ} {earlier later : List ℕ}
+    → Labelled places x begin earlier total later → Appended earlier begin (noted places x) total later
+as-appended {places} {x} a =
+    record { counted = omega (arith, a .counted, length-noted places x); written = a .written }
 
-pub as-labelled : (x : Tree Leaf) {begin total : ℕ} {earlier later new : List ℕ}
-    → Appended earlier begin new total later → new ≡ labels x → Labelled x begin earlier total later
-as-labelled x {begin = begin} {earlier = earlier} a e =
+pub as-labelled : {places : Bool} (x : Placed-tree Leaf) {begin total : ℕ} {earlier later new : List ℕ}
+    → Appended earlier begin new total later → new ≡ noted places x → Labelled places x begin earlier total later
+as-labelled {places} x {begin = begin} {earlier = earlier} a e =
     record {
-      counted = omega (arith, a .counted, length-labels x, ap length e);
+      counted = omega (arith, a .counted, length-noted places x, ap length e);
       written = λ h. a .written h ∙ ap (λ (l : List ℕ). take begin earlier ++ l) e;
     }
 
@@ -91,50 +92,57 @@ pub put-left : (scratch later : List ℕ) (count : ℕ) (new : List ℕ) (total 
 put-left scratch later count new total e h = record { counted = omega arith; written = λ k. absurd (omega arith) }
 
 -- the trees: a leaf, a star, and two trees with the node over them
-pub labelled-leaf : (a : Leaf) {earlier later : List ℕ} {count total : ℕ}
-    → Appended earlier count (leaf-label a ∷ []) total later → Labelled (leaf a) count earlier total later
-labelled-leaf a w = as-labelled (leaf a) w refl
+pub labelled-leaf : {places : Bool} (place : ℕ) (a : Leaf) {earlier later : List ℕ} {count total : ℕ}
+    → Appended earlier count (note places (leaf-label a) place ∷ []) total later
+    → Labelled places (leaf place a) count earlier total later
+labelled-leaf place a w = as-labelled (leaf place a) w refl
 
-pub labelled-star : {x : Tree Leaf} {begin n total : ℕ} {earlier middle later : List ℕ}
-    → Labelled x begin earlier n middle → Appended middle n (label-of star-kind 0 ∷ []) total later
-    → Labelled (star x) begin earlier total later
-labelled-star {x} a w = as-labelled (star x) (appended-both (as-appended a) w) refl
+pub labelled-star : {places : Bool} {x : Placed-tree Leaf} {begin n total : ℕ} {earlier middle later : List ℕ}
+    (place : ℕ) → Labelled places x begin earlier n middle
+    → Appended middle n (note places (label-of star-kind 0) place ∷ []) total later
+    → Labelled places (star place x) begin earlier total later
+labelled-star {x = x} place a w = as-labelled (star place x) (appended-both (as-appended a) w) refl
 
-module _ {x y : Tree Leaf} {begin place n total : ℕ} {earlier middle late later : List ℕ}
-    (a : Labelled x begin earlier place middle) (b : Labelled y place middle n late) where
-  pub labelled-catenation : Appended late n (label-of catenation-kind 0 ∷ []) total later
-      → Labelled (catenation x y) begin earlier total later
+module _ {places : Bool} {x y : Placed-tree Leaf} {begin middle-count n total : ℕ}
+    {earlier middle late later : List ℕ} (place : ℕ) (a : Labelled places x begin earlier middle-count middle)
+    (b : Labelled places y middle-count middle n late) where
+  pub labelled-catenation : Appended late n (note places (label-of catenation-kind 0) place ∷ []) total later
+      → Labelled places (catenation place x y) begin earlier total later
   labelled-catenation w =
-      as-labelled (catenation x y) (appended-both (appended-both (as-appended a) (as-appended b)) w) refl
+      as-labelled (catenation place x y) (appended-both (appended-both (as-appended a) (as-appended b)) w) refl
 
-  pub labelled-union : Appended late n (label-of union-kind 0 ∷ []) total later
-      → Labelled (union x y) begin earlier total later
-  labelled-union w = as-labelled (union x y) (appended-both (appended-both (as-appended a) (as-appended b)) w) refl
+  pub labelled-union : Appended late n (note places (label-of union-kind 0) place ∷ []) total later
+      → Labelled places (union place x y) begin earlier total later
+  labelled-union w =
+      as-labelled (union place x y) (appended-both (appended-both (as-appended a) (as-appended b)) w) refl
 
 -- a `?`
-pub labelled-perhaps : {x : Tree Leaf} {begin n total : ℕ} {earlier middle later : List ℕ}
-    → Labelled x begin earlier n middle → Appended middle n question-labels total later
-    → Labelled (perhaps empty-text x) begin earlier total later
-labelled-perhaps {x} a w =
-    as-labelled (perhaps empty-text x) (appended-both (as-appended a) w)
-    (sym (append-assoc (labels x) (label-of empty-kind 0 ∷ []) (label-of union-kind 0 ∷ [])))
+pub labelled-perhaps : {places : Bool} {x : Placed-tree Leaf} {begin n total : ℕ} {earlier middle later : List ℕ}
+    (place : ℕ) → Labelled places x begin earlier n middle
+    → Appended middle n (question-notes places place) total later
+    → Labelled places (placed-perhaps empty-text place x) begin earlier total later
+labelled-perhaps {places} {x} place a w =
+    as-labelled (placed-perhaps empty-text place x) (appended-both (as-appended a) w)
+    (sym (append-assoc (noted places x) (note places (label-of empty-kind 0) place ∷ [])
+    (note places (label-of union-kind 0) place ∷ [])))
 
--- the labels of the tree that stands last are a run
-run-of-tree : {x : Tree Leaf} {begin count : ℕ} {earlier scratch : List ℕ} → Label-room scratch count → begin ≤ count
-    → Labelled x begin earlier count scratch → Run-at scratch begin (count - begin) count (labels x)
-run-of-tree {x} {begin} {count} {earlier} {scratch} room ordered a = record { here = λ h. go h (a .written h) }
+-- what is noted of the tree that stands last is a run
+run-of-tree : {places : Bool} {x : Placed-tree Leaf} {begin count : ℕ} {earlier scratch : List ℕ}
+    → Label-room scratch count → begin ≤ count → Labelled places x begin earlier count scratch
+    → Run-at scratch begin (count - begin) count (noted places x)
+run-of-tree {places} {x} {begin} {count} {earlier} {scratch} room ordered a = record { here = λ h. go h (a .written h) }
   where
     all : begin + (count - begin) ≡ count
     all = omega arith
 
-    go : count ≤ most-labels → take count scratch ≡ take begin earlier ++ labels x
-        → drop begin (take (begin + (count - begin)) scratch) ≡ labels x
+    go : count ≤ most-labels → take count scratch ≡ take begin earlier ++ noted places x
+        → drop begin (take (begin + (count - begin)) scratch) ≡ noted places x
     go h e =
         let long : length (take count scratch) ≡ count = length-take-le count scratch (omega (arith, room .long)) in
-        let both : length (take begin earlier ++ labels x) ≡ count = sym (ap length e) ∙ long in
+        let both : length (take begin earlier ++ noted places x) ≡ count = sym (ap length e) ∙ long in
         let front : length (take begin earlier) ≡ begin
-        = omega (arith, both, length-append (take begin earlier) (labels x), length-labels x, a .counted) in
-        rw (all, e) (drop-at (take begin earlier) (labels x) begin front)
+        = omega (arith, both, length-append (take begin earlier) (noted places x), length-noted places x, a .counted) in
+        rw (all, e) (drop-at (take begin earlier) (noted places x) begin front)
 
 -- a run stays where it is when labels are appended
 run-stays : {earlier later new run : List ℕ} {begin size count total : ℕ} → Copy-room earlier begin size count
@@ -261,42 +269,48 @@ pub appended-counted : {earlier later new : List ℕ} {count total : ℕ} → Ap
 appended-counted a h = record { onward = omega (arith, a .counted); few = omega (arith, a .counted) }
 
 -- no copy follows
-pub follows-none : {scratch : List ℕ} {begin size count : ℕ} (with-question : Bool) → count ≤ slot-count
-    → Copies scratch begin size count (λ run. copied 0 (run ++ copy-end with-question)) count scratch
-follows-none {scratch} {count = count} with-question h = record { on = λ run at. appended-none scratch count h }
+pub follows-none : {scratch : List ℕ} {begin size count : ℕ} (places : Bool) (place : ℕ) (with-question : Bool)
+    → count ≤ slot-count
+    → Copies scratch begin size count (λ run. copied 0 (run ++ copy-end places place with-question)) count scratch
+follows-none {scratch} {count = count} places place with-question h = record
+    { on = λ run at. appended-none scratch count h }
 
 -- one more follows
-pub follows-more : {earlier middle late later : List ℕ} {begin size count n k total : ℕ} (i : ℕ) (with-question : Bool)
-    → Copy-room earlier begin size count
-    → Copies earlier begin size count (λ run. copied i (run ++ copy-end with-question)) n middle
-    → Copies middle begin size n (λ run. run) k late → Appended late k (copy-end with-question) total later
-    → Copies earlier begin size count (λ run. copied (i + 1) (run ++ copy-end with-question)) total later
-follows-more i with-question room before copy end =
+pub follows-more : {earlier middle late later : List ℕ} {begin size count n k total : ℕ} (i : ℕ)
+    (places : Bool) (place : ℕ) (with-question : Bool) → Copy-room earlier begin size count
+    → Copies earlier begin size count (λ run. copied i (run ++ copy-end places place with-question)) n middle
+    → Copies middle begin size n (λ run. run) k late → Appended late k (copy-end places place with-question) total later
+    → Copies earlier begin size count (λ run. copied (i + 1) (run ++ copy-end places place with-question)) total later
+follows-more i places place with-question room before copy end =
     record {
       on = λ run at.
           let a = before .on run at in
           rw add-one (appended-both a (appended-both (copy .on run (run-stays room at a)) end));
     }
 
--- the labels of a tree that others follow
-labels-followed : (t x : Tree Leaf) (n : ℕ)
-    → labels (followed t n x) ≡ labels t ++ copied n (labels x ++ (label-of catenation-kind 0 ∷ []))
-labels-followed t x zero = sym (append-nil (labels t))
-labels-followed t x (suc n) =
-    ap (λ (l : List ℕ). l ++ labels x ++ (label-of catenation-kind 0 ∷ [])) (labels-followed t x n)
-    ∙ simp append-assoc
+module _ (places : Bool) (place : ℕ) where
+  -- what is noted of a tree that others follow
+  noted-followed : (t x : Placed-tree Leaf) (n : ℕ)
+      → noted places (placed-followed place t n x)
+      ≡ noted places t ++ copied n (noted places x ++ copy-end places place false)
+  noted-followed t x zero = sym (append-nil (noted places t))
+  noted-followed t x (suc n) =
+      ap (λ (l : List ℕ). l ++ noted places x ++ copy-end places place false) (noted-followed t x n)
+      ∙ simp append-assoc
 
--- what a copy with its `?` ends with
-question-end : (x : Tree Leaf) → labels (perhaps empty-text x) ++ (label-of catenation-kind 0 ∷ [])
-    ≡ labels x ++ copy-end true
-question-end x = simp append-assoc
+  -- what a copy with its `?` ends with
+  question-end : (x : Placed-tree Leaf)
+      → noted places (placed-perhaps empty-text place x) ++ copy-end places place false
+      ≡ noted places x ++ copy-end places place true
+  question-end x = simp append-assoc
 
--- `n` copies with their `?` follow
-labels-perhaps-followed : (t x : Tree Leaf) (n : ℕ)
-    → labels t ++ copied n (labels x ++ copy-end true) ≡ labels (followed t n (perhaps empty-text x))
-labels-perhaps-followed t x n =
-    sym (labels-followed t (perhaps empty-text x) n
-    ∙ ap (λ (l : List ℕ). labels t ++ copied n l) (question-end x))
+  -- `n` copies with their `?` follow
+  noted-perhaps-followed : (t x : Placed-tree Leaf) (n : ℕ)
+      → noted places t ++ copied n (noted places x ++ copy-end places place true)
+      ≡ noted places (placed-followed place t n (placed-perhaps empty-text place x))
+  noted-perhaps-followed t x n =
+      sym (noted-followed t (placed-perhaps empty-text place x) n
+      ∙ ap (λ (l : List ℕ). noted places t ++ copied n l) (question-end x))
 
 -- the room for a copy of the tree that stands last
 pub tree-room : {before : List ℕ} {begin count : ℕ} → Label-room before count → begin ≤ count
@@ -304,22 +318,25 @@ pub tree-room : {before : List ℕ} {begin count : ℕ} → Label-room before co
 tree-room room ordered = record { room = room; inside = omega arith }
 
 -- `?`
-pub question-relabels : {before after : List ℕ} {count total : ℕ} → Label-room before count
-    → Appended before count question-labels total after → Relabels count before (perhaps empty-text) total after
-question-relabels room question =
+pub question-relabels : {places : Bool} {before after : List ℕ} {count total : ℕ} (place : ℕ)
+    → Label-room before count → Appended before count (question-notes places place) total after
+    → Relabels places count before (placed-perhaps empty-text place) total after
+question-relabels place room question =
     let a = appended-counted question (room .few) in
     record {
-      on = λ x begin earlier last. labelled-perhaps last question;
+      on = λ x begin earlier last. labelled-perhaps place last question;
       grown = a .onward;
       few = a .few;
     }
 
-module _ {before middle after : List ℕ} {begin count n total : ℕ} (room : Label-room before count)
-    (ordered : begin ≤ count) where
+module _ {before middle after : List ℕ} {begin count n total : ℕ} (places : Bool) (place : ℕ)
+    (room : Label-room before count) (ordered : begin ≤ count) where
   -- `+`
   pub more-relabels : Copies before begin (count - begin) count (λ run. run) n middle
-      → Appended middle n (label-of star-kind 0 ∷ label-of catenation-kind 0 ∷ []) total after
-      → Relabels-from begin count before repeated total after
+      → Appended middle n (note places (label-of star-kind 0) place ∷ note places (label-of catenation-kind 0)
+      place ∷ [])
+      total after
+      → Relabels-from places begin count before (placed-repeated place) total after
   more-relabels copy end =
       let a = copies-counted copy (room .few) in
       let b = appended-counted end (a .few) in
@@ -327,16 +344,16 @@ module _ {before middle after : List ℕ} {begin count n total : ℕ} (room : La
         grown = omega (arith, a .onward, b .onward);
         few = b .few;
         on = λ x earlier last.
-            as-labelled (repeated x)
+            as-labelled (placed-repeated place x)
             (appended-both (as-appended last)
-            (appended-both (copy .on (labels x) (run-of-tree room ordered last)) end))
+            (appended-both (copy .on (noted places x) (run-of-tree room ordered last)) end))
             (simp append-assoc);
       }
 
   -- `{0,most}`
-  pub none-relabels : (fewest most : ℕ) → fewest ≡ 0 → Appended before count question-labels n middle
-      → Copies middle begin (count - begin) n (λ run. copied (most - 1) (run ++ copy-end true)) total after
-      → Relabels-from begin count before (times empty-text fewest most) total after
+  pub none-relabels : (fewest most : ℕ) → fewest ≡ 0 → Appended before count (question-notes places place) n middle
+      → Copies middle begin (count - begin) n (λ run. copied (most - 1) (run ++ copy-end places place true)) total after
+      → Relabels-from places begin count before (placed-times empty-text place fewest most) total after
   none-relabels fewest most e question copies =
       let a = appended-counted question (room .few) in
       let b = copies-counted copies (a .few) in
@@ -345,16 +362,18 @@ module _ {before middle after : List ℕ} {begin count n total : ℕ} (room : La
         few = b .few;
         on = λ x earlier last.
             let at = run-stays (tree-room room ordered) (run-of-tree room ordered last) question in
-            as-labelled (times empty-text 0 most x)
-            (appended-both (as-appended (labelled-perhaps last question)) (copies .on (labels x) at))
-            (labels-perhaps-followed (perhaps empty-text x) x (most - 1));
+            as-labelled (placed-times empty-text place 0 most x)
+            (appended-both (as-appended (labelled-perhaps place last question)) (copies .on (noted places x) at))
+            (noted-perhaps-followed places place (placed-perhaps empty-text place x) x (most - 1));
       })
 
   -- `{fewest,most}` with at least one
   pub some-relabels : (fewest most : ℕ) → 1 ≤ fewest
-      → Copies before begin (count - begin) count (λ run. copied (fewest - 1) (run ++ copy-end false)) n middle
-      → Copies middle begin (count - begin) n (λ run. copied (most - fewest) (run ++ copy-end true)) total after
-      → Relabels-from begin count before (times empty-text fewest most) total after
+      → Copies before begin (count - begin) count (λ run. copied (fewest - 1) (run ++ copy-end places place false))
+      n middle
+      → Copies middle begin (count - begin) n (λ run. copied (most - fewest) (run ++ copy-end places place true))
+      total after
+      → Relabels-from places begin count before (placed-times empty-text place fewest most) total after
   some-relabels zero most h needed others = absurd (omega arith)
   some-relabels (suc m) most h needed others =
       let a = copies-counted needed (room .few) in
@@ -365,10 +384,11 @@ module _ {before middle after : List ℕ} {begin count n total : ℕ} (room : La
         on = λ x earlier last.
             let at = run-of-tree room ordered last in
             let less : suc m - 1 ≡ m = omega arith in
-            let first = rw less at (needed .on (labels x) at) in
-            let all = as-labelled (followed x m x) (appended-both (as-appended last) first)
-            (sym (labels-followed x x m)) in
-            as-labelled (times empty-text (suc m) most x)
-            (appended-both (as-appended all) (others .on (labels x) (run-stays (tree-room room ordered) at first)))
-            (labels-perhaps-followed (followed x m x) x (most - suc m));
+            let first = rw less at (needed .on (noted places x) at) in
+            let all = as-labelled (placed-followed place x m x) (appended-both (as-appended last) first)
+            (sym (noted-followed places place x x m)) in
+            as-labelled (placed-times empty-text place (suc m) most x)
+            (appended-both (as-appended all)
+            (others .on (noted places x) (run-stays (tree-room room ordered) at first)))
+            (noted-perhaps-followed places place (placed-followed place x m x) x (most - suc m));
       }

@@ -8,5 +8,6 @@ pub mod CountSound
 pub mod CountComplete
 pub mod CountReading
 pub mod CountReadingLaws
+pub mod Noted
 pub mod Labelled
 pub mod LabelledLaws

@@ -87,40 +87,40 @@ class-shorter (these r h) = omega (arith, items-shorter r)
 class-shorter (all-but-these r h) = omega (arith, items-shorter r)
 
 -- a written tree takes a byte at least
-reads-shorter : {syntax : Syntax} {depth : ℕ} {level : Level} {bytes rest : List ℕ} {t : Signed-tree Atom}
-    → Spells syntax depth level bytes rest t → length rest < length bytes
-reads-shorter (itself p) = omega arith
-reads-shorter (escaped p) = omega arith
-reads-shorter (any-but-line-end p) = omega arith
-reads-shorter (bracketed p r) = omega (arith, class-shorter r)
+pub reads-shorter : {syntax : Syntax} {size depth : ℕ} {level : Level} {bytes rest : List ℕ} {t : Signed-tree Atom}
+    → Spells syntax size depth level bytes rest t → length rest < length bytes
+reads-shorter (itself p at) = omega arith
+reads-shorter (escaped p at) = omega arith
+reads-shorter (any-but-line-end p at) = omega arith
+reads-shorter (bracketed p at r) = omega (arith, class-shorter r)
 reads-shorter (group h r) = omega (arith, reads-shorter r)
 reads-shorter (no-sign r) = reads-shorter r
-reads-shorter (one-star r) = omega (arith, reads-shorter r)
-reads-shorter (one-or-more p r) = omega (arith, reads-shorter r)
-reads-shorter (none-or-one p r) = omega (arith, reads-shorter r)
-reads-shorter (so-many p r q) = omega (arith, reads-shorter r, count-shorter q)
+reads-shorter (one-star at r) = omega (arith, reads-shorter r)
+reads-shorter (one-or-more p at r) = omega (arith, reads-shorter r)
+reads-shorter (none-or-one p at r) = omega (arith, reads-shorter r)
+reads-shorter (so-many p at r q) = omega (arith, reads-shorter r, count-shorter q)
 reads-shorter (one-factor r) = reads-shorter r
-reads-shorter (next-factor r q) = omega (arith, reads-shorter r, reads-shorter q)
+reads-shorter (next-factor at r q) = omega (arith, reads-shorter r, reads-shorter q)
 reads-shorter (one-branch r) = reads-shorter r
-reads-shorter (next-branch r q) = omega (arith, reads-shorter r, reads-shorter q)
+reads-shorter (next-branch at r q) = omega (arith, reads-shorter r, reads-shorter q)
 
 -- in every written count the fewest are at most the most, and the most are at least 1
-reads-counted : {syntax : Syntax} {depth : ℕ} {level : Level} {bytes rest : List ℕ} {t : Signed-tree Atom}
-    → Spells syntax depth level bytes rest t → Well-counted t
-reads-counted (itself p) = tt
-reads-counted (escaped p) = tt
-reads-counted (any-but-line-end p) = tt
-reads-counted (bracketed p r) = tt
+reads-counted : {syntax : Syntax} {size depth : ℕ} {level : Level} {bytes rest : List ℕ} {t : Signed-tree Atom}
+    → Spells syntax size depth level bytes rest t → Well-counted t
+reads-counted (itself p at) = tt
+reads-counted (escaped p at) = tt
+reads-counted (any-but-line-end p at) = tt
+reads-counted (bracketed p at r) = tt
 reads-counted (group h r) = reads-counted r
 reads-counted (no-sign r) = reads-counted r
-reads-counted (one-star r) = reads-counted r
-reads-counted (one-or-more p r) = reads-counted r
-reads-counted (none-or-one p r) = reads-counted r
-reads-counted (so-many p r q) = let b = count-bounds q in (b .ordered, b .some, reads-counted r)
+reads-counted (one-star at r) = reads-counted r
+reads-counted (one-or-more p at r) = reads-counted r
+reads-counted (none-or-one p at r) = reads-counted r
+reads-counted (so-many p at r q) = let b = count-bounds q in (b .ordered, b .some, reads-counted r)
 reads-counted (one-factor r) = reads-counted r
-reads-counted (next-factor r q) = (reads-counted r, reads-counted q)
+reads-counted (next-factor at r q) = (reads-counted r, reads-counted q)
 reads-counted (one-branch r) = reads-counted r
-reads-counted (next-branch r q) = (reads-counted r, reads-counted q)
+reads-counted (next-branch at r q) = (reads-counted r, reads-counted q)
 
 pub written-counted : {syntax : Syntax} {bytes : List ℕ} {t : Signed-tree Atom} → Written syntax bytes t
     → Well-counted t
@@ -145,7 +145,8 @@ cases syntax (b ∷ rest) = go (ltb longest-expression (suc (length rest))) refl
     go false e = usual (omega arith) (ltb-false longest-expression (suc (length rest)) e)
 
 -- an outcome that is a tree comes from a written expression of at most 1,024 bytes
-tree-case : {syntax : Syntax} {bytes : List ℕ} {outcome : Outcome (Signed-tree Atom)} {t : Signed-tree Atom} → Case syntax bytes outcome
+tree-case : {syntax : Syntax} {bytes : List ℕ} {outcome : Outcome (Signed-tree Atom)} {t : Signed-tree Atom}
+    → Case syntax bytes outcome
     → outcome ≡ tree t
     → (length bytes ≤ longest-expression) × Written syntax bytes t
 tree-case (empty p) e = no-tree e
@@ -153,7 +154,8 @@ tree-case (long h) e = no-tree e
 tree-case {syntax} {bytes} {t = t} (usual h k) e = (k, scanner-reads syntax bytes t e)
 
 -- a written expression of at most 1,024 bytes has its tree for an outcome
-written-case : {syntax : Syntax} {bytes : List ℕ} {outcome : Outcome (Signed-tree Atom)} {t : Signed-tree Atom} → Case syntax bytes outcome
+written-case : {syntax : Syntax} {bytes : List ℕ} {outcome : Outcome (Signed-tree Atom)} {t : Signed-tree Atom}
+    → Case syntax bytes outcome
     → length bytes ≤ longest-expression
     → Written syntax bytes t → outcome ≡ tree t
 written-case {bytes = bytes} (empty p) h w = let none : length bytes ≡ 0 =
@@ -169,21 +171,24 @@ scanned-exactly syntax bytes t = (tree-case (cases syntax bytes), λ (h, w). wri
 -- the number of a refusal tells the case apart, since the scan itself gives none below 3
 module _ {syntax : Syntax} {bytes : List ℕ} {place : ℕ} where
   -- 1 comes from no bytes alone
-  empty-case : {outcome : Outcome (Signed-tree Atom)} → Case syntax bytes outcome → outcome ≡ refused expression-empty place
+  empty-case : {outcome : Outcome (Signed-tree Atom)} → Case syntax bytes outcome
+      → outcome ≡ refused expression-empty place
       → (bytes ≡ []) × (place ≡ 0)
   empty-case (empty p) e = (p, cc)
   empty-case (long h) e = let z : _≡_ {A = ℕ} 2 1 = cc in absurd (omega arith)
   empty-case (usual h k) e = absurd (omega (arith, refused-cases syntax bytes 1 place e))
 
   -- 2 comes from more than 1,024 bytes alone
-  long-case : {outcome : Outcome (Signed-tree Atom)} → Case syntax bytes outcome → outcome ≡ refused expression-too-long place
+  long-case : {outcome : Outcome (Signed-tree Atom)} → Case syntax bytes outcome
+      → outcome ≡ refused expression-too-long place
       → (longest-expression < length bytes) × (place ≡ longest-expression)
   long-case (empty p) e = let z : _≡_ {A = ℕ} 1 2 = cc in absurd (omega arith)
   long-case (long h) e = (h, cc)
   long-case (usual h k) e = absurd (omega (arith, refused-cases syntax bytes 2 place e))
 
   -- and more than 1,024 bytes give 2
-  long-given : {outcome : Outcome (Signed-tree Atom)} → Case syntax bytes outcome → longest-expression < length bytes → place
+  long-given : {outcome : Outcome (Signed-tree Atom)} → Case syntax bytes outcome
+      → longest-expression < length bytes → place
       ≡ longest-expression → outcome ≡ refused expression-too-long place
   long-given (empty p) h q = let none : length bytes ≡ 0 = rw p in absurd (omega arith)
   long-given (long k) h q = rw q

@@ -32,14 +32,14 @@ use Rattle.classes.specs.ClassItems.{Class-ended, found-at, dot-at}
 -- a class that was found is a leaf of the second syntax, in all surroundings
 pub class-leads : {bytes : List ℕ} {at next : ℕ} (depth : ℕ) → at < length bytes → getD bytes at 0 ≡ 91
     → Class-ended bytes at next (run-at bytes at)
-    → Leads second starred bytes depth at (signs-at bytes (leaf (Leaf.class at))) next
+    → Leads second starred bytes depth at (signs-at bytes (leaf at (Leaf.class at))) next
 class-leads {bytes} {at} {next} depth h e r =
     let same : class-at bytes at ≡ r .class = found-at bytes at (r .class) (drop next bytes) next e (r .finds) in
     rw same (leads-class bytes depth at h e (r .finds))
 
 -- so is the dot
 pub dot-leads : (bytes : List ℕ) (depth at : ℕ) → at < length bytes → getD bytes at 0 ≡ 46
-    → Leads second starred bytes depth at (signs-at bytes (leaf (Leaf.class at))) (at + 1)
+    → Leads second starred bytes depth at (signs-at bytes (leaf at (Leaf.class at))) (at + 1)
 dot-leads bytes depth at h e = rw (dot-at bytes at e) (leads-dot bytes depth at h e)
 
 -- where neither of two signs is one that only the second syntax has, the one picked is none

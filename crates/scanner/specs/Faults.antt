@@ -83,8 +83,8 @@ abbrev pub highest : Syntax → ℕ
 highest first = backslash-before-no-sign
 highest second = count-faulty
 
--- a refusal of the scanner: its number is one of 3 to 7, or 14 or 16 and these not above the syntax's highest; its place
--- is at most the end
+-- a refusal of the scanner: its number is one of 3 to 7, or 14 or 16 and these not above the syntax's highest; its
+-- place is at most the end
 pub record Fault (syntax : Syntax) (end number place : ℕ) : Type 0 where
   pub least : operand-missing ≤ number
   pub most : number ≤ highest syntax
@@ -149,7 +149,8 @@ module _ (syntax : Syntax) (end place : ℕ) (h : place ≤ end) (on : Onward) (
     (groups : List Group) → Escape-before syntax end phase → Open-before end groups
     → Tree-or-fault syntax end (on phase before groups)) where
   -- whichever of two outcomes a test picks
-  picked-fits : (test : Bool) (a b : Outcome (Signed-tree Atom)) → Tree-or-fault syntax end a → Tree-or-fault syntax end b
+  picked-fits : (test : Bool) (a b : Outcome (Signed-tree Atom)) → Tree-or-fault syntax end a
+      → Tree-or-fault syntax end b
       → Tree-or-fault syntax end (cond test a b)
   picked-fits true a b p q = p
   picked-fits false a b p q = q
@@ -165,7 +166,7 @@ module _ (syntax : Syntax) (end place : ℕ) (h : place ≤ end) (on : Onward) (
   operand-fits bar b before groups m o = usual syntax end (omega arith) (omega arith) h
   operand-fits asterisk b before groups m o = usual syntax end (omega arith) (omega arith) h
   operand-fits backslash b before groups m o = fits (escaping place) before groups h o
-  operand-fits dot b before groups m o = fits (after (leaf (one-of the-dot))) before groups tt o
+  operand-fits dot b before groups m o = fits (after (leaf place (one-of the-dot))) before groups tt o
   operand-fits bracket b before groups m o =
       fits (in-class place unread opened) before groups (h, sixteen-given syntax (m .0)) o
   operand-fits end-bracket b before groups m o = class-fault syntax end h (sixteen-given syntax (m .0))
@@ -173,7 +174,7 @@ module _ (syntax : Syntax) (end place : ℕ) (h : place ≤ end) (on : Onward) (
   operand-fits question b before groups m o = usual syntax end (omega arith) (omega arith) h
   operand-fits brace b before groups m o = usual syntax end (omega arith) (omega arith) h
   operand-fits end-brace b before groups m o = count-fault syntax end h (sixteen-given syntax (m .0))
-  operand-fits plain b before groups m o = fits (after (leaf (literal b))) before groups tt o
+  operand-fits plain b before groups m o = fits (after (leaf place (literal b))) before groups tt o
 
   -- at a `)` after an operand
   closed-fits : (t : Signed-tree Atom) (before : Before) (groups : List Group) → Open-before end groups
@@ -184,20 +185,20 @@ module _ (syntax : Syntax) (end place : ℕ) (h : place ≤ end) (on : Onward) (
   -- after an operand
   follow-fits : (s : Sign) (b : ℕ) (t : Signed-tree Atom) (before : Before) (groups : List Group) → Means syntax b s
       → Open-before end groups → Tree-or-fault syntax end (follow s b t place on before groups)
-  follow-fits asterisk b t before groups m o = fits (after (star t)) before groups tt o
-  follow-fits plus b t before groups m o = fits (after (one-or-more t)) before groups tt o
-  follow-fits question b t before groups m o = fits (after (optional t)) before groups tt o
+  follow-fits asterisk b t before groups m o = fits (after (star place t)) before groups tt o
+  follow-fits plus b t before groups m o = fits (after (one-or-more place t)) before groups tt o
+  follow-fits question b t before groups m o = fits (after (optional place t)) before groups tt o
   follow-fits brace b t before groups m o =
       fits (in-count place t fewest-due) before groups (h, sixteen-given syntax (m .0)) o
-  follow-fits bar b t before groups m o = fits due (next-union before t) groups tt o
+  follow-fits bar b t before groups m o = fits due (next-union before t place) groups tt o
   follow-fits closing b t before groups m o = closed-fits t before groups o
-  follow-fits opening b t before groups m o = operand-fits opening b (next-factor before t) groups m o
-  follow-fits backslash b t before groups m o = operand-fits backslash b (next-factor before t) groups m o
-  follow-fits dot b t before groups m o = operand-fits dot b (next-factor before t) groups m o
-  follow-fits bracket b t before groups m o = operand-fits bracket b (next-factor before t) groups m o
-  follow-fits end-bracket b t before groups m o = operand-fits end-bracket b (next-factor before t) groups m o
-  follow-fits end-brace b t before groups m o = operand-fits end-brace b (next-factor before t) groups m o
-  follow-fits plain b t before groups m o = operand-fits plain b (next-factor before t) groups m o
+  follow-fits opening b t before groups m o = operand-fits opening b (next-factor before t place) groups m o
+  follow-fits backslash b t before groups m o = operand-fits backslash b (next-factor before t place) groups m o
+  follow-fits dot b t before groups m o = operand-fits dot b (next-factor before t place) groups m o
+  follow-fits bracket b t before groups m o = operand-fits bracket b (next-factor before t place) groups m o
+  follow-fits end-bracket b t before groups m o = operand-fits end-bracket b (next-factor before t place) groups m o
+  follow-fits end-brace b t before groups m o = operand-fits end-brace b (next-factor before t place) groups m o
+  follow-fits plain b t before groups m o = operand-fits plain b (next-factor before t place) groups m o
 
   -- in a class
   class-fits : (step : Step) (begin : ℕ) (before : Before) (groups : List Group) → begin ≤ end
@@ -205,7 +206,7 @@ module _ (syntax : Syntax) (end place : ℕ) (h : place ≤ end) (on : Onward) (
       → Open-before end groups → Tree-or-fault syntax end (classed step begin on before groups)
   class-fits (goes-on class inside) begin before groups i m o =
       fits (in-class begin class inside) before groups (i, m) o
-  class-fits (whole class) begin before groups i m o = fits (after (leaf (one-of class))) before groups tt o
+  class-fits (whole class) begin before groups i m o = fits (after (leaf begin (one-of class))) before groups tt o
   class-fits faulty begin before groups i m o = class-fault syntax end i m
 
   -- in a count
@@ -215,7 +216,7 @@ module _ (syntax : Syntax) (end place : ℕ) (h : place ≤ end) (on : Onward) (
   count-fits (counts-on counting) begin t before groups i m o =
       fits (in-count begin t counting) before groups (i, m) o
   count-fits (count-whole fewest most) begin t before groups i m o =
-      fits (after (counted fewest most t)) before groups tt o
+      fits (after (counted begin fewest most t)) before groups tt o
   count-fits count-wrong begin t before groups i m o = count-fault syntax end i m
 
   -- in each phase
@@ -224,7 +225,7 @@ module _ (syntax : Syntax) (end place : ℕ) (h : place ≤ end) (on : Onward) (
   byte-fits b due before groups m o = operand-fits (sign-of syntax b) b before groups (sign-means syntax b) o
   byte-fits b (escaping begin) before groups m o =
       picked-fits (special (sign-of syntax b)) _ (refused backslash-before-no-sign begin)
-      (fits (after (leaf (literal b))) before groups tt o) (usual syntax end (omega arith) (omega arith) m)
+      (fits (after (leaf begin (literal b))) before groups tt o) (usual syntax end (omega arith) (omega arith) m)
   byte-fits b (in-class begin class inside) before groups m o =
       class-fits (class-step b class inside) begin before groups (m .0) (m .1) o
   byte-fits b (in-count begin t counting) before groups m o =

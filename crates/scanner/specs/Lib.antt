@@ -10,6 +10,7 @@ pub mod Sound
 pub mod Faults
 pub mod Agree
 pub mod FirstSyntax
+pub mod PlacesInside
 pub mod Text
 pub mod Stopping
 pub mod Placed

@@ -2,13 +2,15 @@
 -- surroundings, with the labels of what it stands for written while there is room; or the refusal.
 use Prim.Native.Nat.{ℕ, _<_, _≤_}
 use mathlib.Core.Path.{_≡_}
+use mathlib.Core.Bool.{Bool}
 use mathlib.Core.List.{List, [], _∷_}
 use lib.ListN.{length}
-use Rattle.language.specs.Tree.{Tree}
 use Rattle.language.specs.SignedTree.{Signed-tree}
-use Rattle.language.specs.StandsFor.{stands-for}
+use Rattle.language.specs.PlacedTree.{Placed-tree}
+use Rattle.language.specs.PlacedStandsFor.{placed-stands-for}
 use Rattle.tree.specs.Limits.{most-groups, longest-expression, most-labels, slot-count}
 use Rattle.tree.specs.Leaf.{Leaf}
+use Rattle.repeats.specs.Noted.{note}
 use Rattle.repeats.specs.Labelled.{Labelled, Appended}
 use Rattle.scanner.specs.Bytes.{Syntax}
 use Rattle.scanner.specs.Placed.{signs-at, Signs-placed}
@@ -27,104 +29,115 @@ pub record Scratch-room (bytes : List ℕ) (at depth count : ℕ) (scratch : Lis
   pub long : most-labels ≤ length scratch
   pub few : count ≤ slot-count
 
--- the tree that the labels are of
-abbrev pub whole-tree : Signed-tree Leaf → Tree Leaf
-whole-tree s = stands-for Leaf.empty-text s
+-- the tree that the labels or the places are of
+abbrev pub whole-tree : Signed-tree Leaf → Placed-tree Leaf
+whole-tree s = placed-stands-for Leaf.empty-text s
 
--- a tree was read from `at` up to `next`, and the labels of what it stands for come after the `count` earlier ones
-pub record Read-up-to (syntax : Syntax) (level : Level) (bytes : List ℕ) (depth at count : ℕ) (earlier : List ℕ)
+-- a tree was read from `at` up to `next`, and the labels of what it stands for come after the `count` earlier ones; or
+-- its places after earlier places
+pub record Read-up-to (syntax : Syntax) (places : Bool) (level : Level) (bytes : List ℕ) (depth at count : ℕ)
+    (earlier : List ℕ)
     (next total : ℕ)
     (later : List ℕ) : Type 0 where
   pub read : Signed-tree Leaf
   pub leads : Leads syntax level bytes depth at (signs-at bytes read) next
   pub placed : Signs-placed bytes read
-  pub labelled : Labelled (whole-tree read) count earlier total later
+  pub labelled : Labelled places (whole-tree read) count earlier total later
   pub further : at < next
   pub within : next ≤ length bytes
   pub grown : count ≤ total
   pub few : total ≤ slot-count
 
 -- the same, and nothing more of this level follows
-pub record Whole (syntax : Syntax) (level : Level) (bytes : List ℕ) (depth at count : ℕ) (earlier : List ℕ)
+pub record Whole (syntax : Syntax) (places : Bool) (level : Level) (bytes : List ℕ) (depth at count : ℕ)
+    (earlier : List ℕ)
     (next total : ℕ)
     (later : List ℕ) : Type 0 where
-  pub went : Read-up-to syntax level bytes depth at count earlier next total later
+  pub went : Read-up-to syntax places level bytes depth at count earlier next total later
   pub stops : Stops syntax level bytes next
 
 -- what a reader of this level answers
-abbrev pub Part-answer : Syntax → Level → List ℕ → (at depth count : ℕ) → (earlier later : List ℕ) → Part → Type 0
-Part-answer syntax level bytes at depth count earlier later (Read next total) =
-    Whole syntax level bytes depth at count earlier next total later
-Part-answer syntax level bytes at depth count earlier later (Refused number place) =
+abbrev pub Part-answer : Syntax → (places : Bool) → Level → List ℕ → (at depth count : ℕ) → (earlier later : List ℕ)
+    → Part → Type 0
+Part-answer syntax places level bytes at depth count earlier later (Read next total) =
+    Whole syntax places level bytes depth at count earlier next total later
+Part-answer syntax places level bytes at depth count earlier later (Refused number place) =
     Fails syntax level bytes depth at number place
 
 -- one character was read, whatever is open
-pub record Character (syntax : Syntax) (bytes : List ℕ) (at count : ℕ) (earlier : List ℕ) (next total : ℕ)
+pub record Character (syntax : Syntax) (places : Bool) (bytes : List ℕ) (at count : ℕ) (earlier : List ℕ)
+    (next total : ℕ)
     (later : List ℕ) : Type 0 where
-  pub went : (depth : ℕ) → Read-up-to syntax starred bytes depth at count earlier next total later
+  pub went : (depth : ℕ) → Read-up-to syntax places starred bytes depth at count earlier next total later
 
 -- no character stands there, whatever is open
 pub record Faulty (syntax : Syntax) (bytes : List ℕ) (at number place : ℕ) : Type 0 where
   pub fails : (depth : ℕ) → Fails syntax starred bytes depth at number place
 
 -- what the reader of one character answers
-abbrev pub Character-answer : Syntax → List ℕ → (at count : ℕ) → (earlier later : List ℕ) → Part → Type 0
-Character-answer syntax bytes at count earlier later (Read next total) =
-    Character syntax bytes at count earlier next total later
-Character-answer syntax bytes at count earlier later (Refused number place) = Faulty syntax bytes at number place
+abbrev pub Character-answer : Syntax → (places : Bool) → List ℕ → (at count : ℕ) → (earlier later : List ℕ) → Part
+    → Type 0
+Character-answer syntax places bytes at count earlier later (Read next total) =
+    Character syntax places bytes at count earlier next total later
+Character-answer syntax places bytes at count earlier later (Refused number place) = Faulty syntax bytes at number place
 
 -- what was read up to `place`, with labels from `first` on, can be read on up to `next`
-pub record Carries (syntax : Syntax) (level : Level) (bytes : List ℕ) (depth first place count : ℕ)
+pub record Carries (syntax : Syntax) (places : Bool) (level : Level) (bytes : List ℕ) (depth first place count : ℕ)
     (earlier : List ℕ) (next total : ℕ)
     (later : List ℕ) : Type 0 where
-  pub on : (at : ℕ) (start : List ℕ) → Read-up-to syntax level bytes depth at first start place count earlier
-      → Read-up-to syntax level bytes depth at first start next total later
+  pub on : (at : ℕ) (start : List ℕ) → Read-up-to syntax places level bytes depth at first start place count earlier
+      → Read-up-to syntax places level bytes depth at first start next total later
 
 -- where the reader of the signs after an operand begins: the operand's labels are those from `first` on
 pub record Sign-room (bytes : List ℕ) (place first count : ℕ) (scratch : List ℕ) : Type 0 where
   pub within : place ≤ length bytes
+  pub short : length bytes ≤ longest-expression
   pub long : most-labels ≤ length scratch
   pub begun : first ≤ count
   pub few : count ≤ slot-count
 
 -- where an operand was read up to `place`, with labels from `first` on, there comes this refusal
-pub record Breaks (syntax : Syntax) (bytes : List ℕ) (first place count : ℕ) (earlier : List ℕ)
+pub record Breaks (syntax : Syntax) (places : Bool) (bytes : List ℕ) (first place count : ℕ) (earlier : List ℕ)
     (number fault : ℕ) : Type 0 where
   pub fails : (depth at : ℕ) (start : List ℕ)
-      → Read-up-to syntax starred bytes depth at first start place count earlier
+      → Read-up-to syntax places starred bytes depth at first start place count earlier
       → Fails syntax starred bytes depth at number fault
 
 -- one sign at a place: none stands there, and nothing changes; or it makes an operand of what was read
-pub data One-sign (syntax : Syntax) (bytes : List ℕ) (first place count : ℕ) (earlier : List ℕ) (next total : ℕ)
+pub data One-sign (syntax : Syntax) (places : Bool) (bytes : List ℕ) (first place count : ℕ) (earlier : List ℕ)
+    (next total : ℕ)
     (later : List ℕ) : Type 0 where
   no-sign : next ≡ place → total ≡ count → later ≡ earlier → Stops syntax starred bytes place
-      → One-sign syntax bytes first place count earlier next total later
+      → One-sign syntax places bytes first place count earlier next total later
   one-sign : place < next → next ≤ length bytes → count ≤ total → total ≤ slot-count
-      → ((depth : ℕ) → Carries syntax starred bytes depth first place count earlier next total later)
-      → One-sign syntax bytes first place count earlier next total later
+      → ((depth : ℕ) → Carries syntax places starred bytes depth first place count earlier next total later)
+      → One-sign syntax places bytes first place count earlier next total later
 
 -- what the reader of one sign answers
-abbrev pub One-sign-answer : Syntax → List ℕ → (first place count : ℕ) → (earlier later : List ℕ) → Part → Type 0
-One-sign-answer syntax bytes first place count earlier later (Read next total) =
-    One-sign syntax bytes first place count earlier next total later
-One-sign-answer syntax bytes first place count earlier later (Refused number fault) =
-    Breaks syntax bytes first place count earlier number fault
+abbrev pub One-sign-answer : Syntax → (places : Bool) → List ℕ → (first place count : ℕ) → (earlier later : List ℕ)
+    → Part → Type 0
+One-sign-answer syntax places bytes first place count earlier later (Read next total) =
+    One-sign syntax places bytes first place count earlier next total later
+One-sign-answer syntax places bytes first place count earlier later (Refused number fault) =
+    Breaks syntax places bytes first place count earlier number fault
 
 -- what was read up to `place` is read on over all the signs there
-pub record Signs-read (syntax : Syntax) (bytes : List ℕ) (first place count : ℕ) (earlier : List ℕ) (next total : ℕ)
+pub record Signs-read (syntax : Syntax) (places : Bool) (bytes : List ℕ) (first place count : ℕ) (earlier : List ℕ)
+    (next total : ℕ)
     (later : List ℕ) : Type 0 where
-  pub carries : (depth : ℕ) → Carries syntax starred bytes depth first place count earlier next total later
+  pub carries : (depth : ℕ) → Carries syntax places starred bytes depth first place count earlier next total later
   pub stops : Stops syntax starred bytes next
 
 -- what the reader of all the signs after an operand answers
-abbrev pub Signs-answer : Syntax → List ℕ → (first place count : ℕ) → (earlier later : List ℕ) → Part → Type 0
-Signs-answer syntax bytes first place count earlier later (Read next total) =
-    Signs-read syntax bytes first place count earlier next total later
-Signs-answer syntax bytes first place count earlier later (Refused number fault) =
-    Breaks syntax bytes first place count earlier number fault
+abbrev pub Signs-answer : Syntax → (places : Bool) → List ℕ → (first place count : ℕ) → (earlier later : List ℕ) → Part
+    → Type 0
+Signs-answer syntax places bytes first place count earlier later (Read next total) =
+    Signs-read syntax places bytes first place count earlier next total later
+Signs-answer syntax places bytes first place count earlier later (Refused number fault) =
+    Breaks syntax places bytes first place count earlier number fault
 
--- what writing the label of a leaf answers
-abbrev pub Leaf-answer : (label next count : ℕ) → (earlier later : List ℕ) → Part → Type 0
-Leaf-answer label next count earlier later (Read place total) =
-    (place ≡ next) × Appended earlier count (label ∷ []) total later
-Leaf-answer label next count earlier later (Refused number place) = ⊥
+-- what noting the leaf at a place answers
+abbrev pub Leaf-answer : (places : Bool) → (label at next count : ℕ) → (earlier later : List ℕ) → Part → Type 0
+Leaf-answer places label at next count earlier later (Read place total) =
+    (place ≡ next) × Appended earlier count (note places label at ∷ []) total later
+Leaf-answer places label at next count earlier later (Refused number place) = ⊥

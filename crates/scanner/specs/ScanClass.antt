@@ -12,7 +12,7 @@ use Rattle.classes.specs.ClassRun.{Ran, found, failed, ran-on, run}
 module _ (syntax : Syntax) (begin : ℕ) (before : Before) (groups : List Group) where
   -- how the scan goes on after a class whose `[` stands at `begin`
   abbrev pub after-class : Ran → Outcome (Signed-tree Atom)
-  after-class (found class rest next) = scan syntax rest next (after (leaf (one-of class))) before groups
+  after-class (found class rest next) = scan syntax rest next (after (leaf begin (one-of class))) before groups
   after-class failed = refused class-faulty begin
 
   after-step : (step : Step) (rest : List ℕ) (next : ℕ)

@@ -12,7 +12,7 @@ use Rattle.scanner.specs.Scanner.{Atom, Outcome, refused, in-count, afte
 module _ (syntax : Syntax) (begin : ℕ) (t : Signed-tree Atom) (before : Before) (groups : List Group) where
   -- how the scan goes on after the count of t whose `{` stands at `begin`
   abbrev pub after-count : Count-ran → Outcome (Signed-tree Atom)
-  after-count (found fewest most rest next) = scan syntax rest next (after (counted fewest most t)) before groups
+  after-count (found fewest most rest next) = scan syntax rest next (after (counted begin fewest most t)) before groups
   after-count failed = refused count-faulty begin
 
   after-step : (step : Count-step) (rest : List ℕ) (next : ℕ)

@@ -78,10 +78,16 @@ pub data Phase : Type 0 where
   in-count : (place : ℕ) → Signed-tree Atom → Counting → Phase
   after : Signed-tree Atom → Phase
 
--- what was read of an expression before the operand at hand: the union up to the last `|`, and the catenation after it
+-- a tree that waits for the one to its right, and the place that the node over both will have
+pub record Waiting : Type 0 where
+  pub place : ℕ
+  pub left : Signed-tree Atom
+
+-- what was read of an expression before the operand at hand: the union up to the last `|`, which is the place of the
+-- next union, and the catenation after it, with the place where the operand at hand begins
 pub record Before : Type 0 where
-  pub unions : Option (Signed-tree Atom)
-  pub factors : Option (Signed-tree Atom)
+  pub unions : Option Waiting
+  pub factors : Option Waiting
 
 -- an open group: the place of its `(`, and what was read before it
 pub record Group : Type 0 where
@@ -93,26 +99,31 @@ abbrev pub nothing : Before
 nothing = record { unions = none; factors = none }
 
 -- the catenation, grouped to the left, with one more operand
-abbrev pub catenated : Option (Signed-tree Atom) → Signed-tree Atom → Signed-tree Atom
+abbrev pub catenated : Option Waiting → Signed-tree Atom → Signed-tree Atom
 catenated none t = t
-catenated (some s) t = catenation s t
+catenated (some s) t = catenation (s .place) (s .left) t
 
 -- the union, grouped to the left, with one more
-abbrev pub united : Option (Signed-tree Atom) → Signed-tree Atom → Signed-tree Atom
+abbrev pub united : Option Waiting → Signed-tree Atom → Signed-tree Atom
 united none t = t
-united (some s) t = union s t
+united (some s) t = union (s .place) (s .left) t
 
 -- the tree of what was read, with the last operand
 abbrev pub finished : Before → Signed-tree Atom → Signed-tree Atom
 finished before t = united (before .unions) (catenated (before .factors) t)
 
--- after a `|`: the union so far, and no catenation yet
-abbrev pub next-union : Before → Signed-tree Atom → Before
-next-union before t = record { unions = some (finished before t); factors = none }
+-- after a `|` at a place: the union so far, and no catenation yet
+abbrev pub next-union : Before → Signed-tree Atom → (place : ℕ) → Before
+next-union before t place =
+    record { unions = some (record { place = place; left = finished before t }); factors = none }
 
--- before another operand: the catenation so far
-abbrev pub next-factor : Before → Signed-tree Atom → Before
-next-factor before t = record { unions = before .unions; factors = some (catenated (before .factors) t) }
+-- before another operand, which begins at a place: the catenation so far
+abbrev pub next-factor : Before → Signed-tree Atom → (place : ℕ) → Before
+next-factor before t place =
+    record {
+      unions = before .unions;
+      factors = some (record { place = place; left = catenated (before .factors) t });
+    }
 
 -- how the scan goes on: with this phase, what was read before, and the open groups, the innermost first
 abbrev pub Onward : Type 0
@@ -129,14 +140,14 @@ operand closing b place on before groups = refused operand-missing place
 operand bar b place on before groups = refused operand-missing place
 operand asterisk b place on before groups = refused operand-missing place
 operand backslash b place on before groups = on (escaping place) before groups
-operand dot b place on before groups = on (after (leaf (one-of the-dot))) before groups
+operand dot b place on before groups = on (after (leaf place (one-of the-dot))) before groups
 operand bracket b place on before groups = on (in-class place unread opened) before groups
 operand end-bracket b place on before groups = refused class-faulty place
 operand plus b place on before groups = refused operand-missing place
 operand question b place on before groups = refused operand-missing place
 operand brace b place on before groups = refused operand-missing place
 operand end-brace b place on before groups = refused count-faulty place
-operand plain b place on before groups = on (after (leaf (literal b))) before groups
+operand plain b place on before groups = on (after (leaf place (literal b))) before groups
 
 -- a `)` after an operand: 5 with no group open
 abbrev pub closed : Signed-tree Atom → ℕ → Onward → Before → List Group → Outcome (Signed-tree Atom)
@@ -146,37 +157,38 @@ closed t place on before (group ∷ groups) = on (after (finished before t)) (gr
 -- the byte b after an operand: a sign that makes an operand of it, a `{` that begins its count, a `|`, a `)`, or the
 -- next operand
 abbrev pub follow : Sign → ℕ → Signed-tree Atom → ℕ → Onward → Before → List Group → Outcome (Signed-tree Atom)
-follow asterisk b t place on before groups = on (after (star t)) before groups
-follow plus b t place on before groups = on (after (one-or-more t)) before groups
-follow question b t place on before groups = on (after (optional t)) before groups
+follow asterisk b t place on before groups = on (after (star place t)) before groups
+follow plus b t place on before groups = on (after (one-or-more place t)) before groups
+follow question b t place on before groups = on (after (optional place t)) before groups
 follow brace b t place on before groups = on (in-count place t fewest-due) before groups
-follow bar b t place on before groups = on due (next-union before t) groups
+follow bar b t place on before groups = on due (next-union before t place) groups
 follow closing b t place on before groups = closed t place on before groups
-follow opening b t place on before groups = operand opening b place on (next-factor before t) groups
-follow backslash b t place on before groups = operand backslash b place on (next-factor before t) groups
-follow dot b t place on before groups = operand dot b place on (next-factor before t) groups
-follow bracket b t place on before groups = operand bracket b place on (next-factor before t) groups
-follow end-bracket b t place on before groups = operand end-bracket b place on (next-factor before t) groups
-follow end-brace b t place on before groups = operand end-brace b place on (next-factor before t) groups
-follow plain b t place on before groups = operand plain b place on (next-factor before t) groups
+follow opening b t place on before groups = operand opening b place on (next-factor before t place) groups
+follow backslash b t place on before groups = operand backslash b place on (next-factor before t place) groups
+follow dot b t place on before groups = operand dot b place on (next-factor before t place) groups
+follow bracket b t place on before groups = operand bracket b place on (next-factor before t place) groups
+follow end-bracket b t place on before groups = operand end-bracket b place on (next-factor before t place) groups
+follow end-brace b t place on before groups = operand end-brace b place on (next-factor before t place) groups
+follow plain b t place on before groups = operand plain b place on (next-factor before t place) groups
 
 -- a byte inside a class whose `[` stands at `begin`: every fault of a class is 14 there
 abbrev pub classed : Step → (begin : ℕ) → Onward → Before → List Group → Outcome (Signed-tree Atom)
 classed (goes-on class inside) begin on before groups = on (in-class begin class inside) before groups
-classed (whole class) begin on before groups = on (after (leaf (one-of class))) before groups
+classed (whole class) begin on before groups = on (after (leaf begin (one-of class))) before groups
 classed faulty begin on before groups = refused class-faulty begin
 
 -- a byte inside the count of t whose `{` stands at `begin`: every fault of a count is 16 there
-abbrev pub recounted : Count-step → (begin : ℕ) → Signed-tree Atom → Onward → Before → List Group → Outcome (Signed-tree Atom)
+abbrev pub recounted : Count-step → (begin : ℕ) → Signed-tree Atom → Onward → Before → List Group
+    → Outcome (Signed-tree Atom)
 recounted (counts-on counting) begin t on before groups = on (in-count begin t counting) before groups
-recounted (count-whole fewest most) begin t on before groups = on (after (counted fewest most t)) before groups
+recounted (count-whole fewest most) begin t on before groups = on (after (counted begin fewest most t)) before groups
 recounted count-wrong begin t on before groups = refused count-faulty begin
 
 -- one byte at a place
 abbrev pub byte-at : Syntax → ℕ → ℕ → Phase → Onward → Before → List Group → Outcome (Signed-tree Atom)
 byte-at syntax b place due on before groups = operand (sign-of syntax b) b place on before groups
 byte-at syntax b place (escaping begin) on before groups =
-    cond (special (sign-of syntax b)) (on (after (leaf (literal b))) before groups)
+    cond (special (sign-of syntax b)) (on (after (leaf begin (literal b))) before groups)
     (refused backslash-before-no-sign begin)
 byte-at syntax b place (in-class begin class inside) on before groups =
     classed (class-step b class inside) begin on before groups

@@ -28,8 +28,8 @@ use Rattle.scanner.specs.Bytes.{
 use Rattle.scanner.specs.Signs.{Means, sign-means}
 use Rattle.scanner.specs.Grammar.{Level, single, starred, joined, united}
 
--- whether a reading of this level stops before a byte: an operand takes every sign after it, a catenation goes on to `|` or `)`,
--- a union to `)`
+-- whether a reading of this level stops before a byte: an operand takes every sign after it, a catenation goes on to
+-- `|` or `)`, a union to `)`
 abbrev pub stopping : Level → Sign → Bool
 stopping single s = true
 stopping starred asterisk = false

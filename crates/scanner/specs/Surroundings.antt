@@ -68,6 +68,7 @@ use Rattle.scanner.specs.Scanner.{
   due,
   escaping,
   after,
+  Waiting,
   Before,
   Group,
   nothing,
@@ -110,10 +111,10 @@ pub record Fails (syntax : Syntax) (level : Level) (bytes : List ℕ) (depth at 
       → from syntax bytes at due (seen level before) groups ≡ refused number place
 
 -- where an operand stops it makes no difference whether it is still a factor of its own or the catenation's last
-factor-follow : (u : Option (Signed-tree Atom)) (s t : Signed-tree Atom) (sign : Sign) (b place : ℕ) (on : Onward)
+factor-follow : (u : Option Waiting) (s : Waiting) (t : Signed-tree Atom) (sign : Sign) (b place : ℕ) (on : Onward)
     (groups : List Group) → stopping starred sign ≡ true
     → follow sign b t place on (record { unions = u; factors = some s }) groups
-    ≡ follow sign b (catenation s t) place on (record { unions = u; factors = none }) groups
+    ≡ follow sign b (catenation (s .place) (s .left) t) place on (record { unions = u; factors = none }) groups
 factor-follow u s t asterisk b place on groups stop = cc
 factor-follow u s t plus b place on groups stop = cc
 factor-follow u s t question b place on groups stop = cc
@@ -130,9 +131,9 @@ factor-follow u s t closing b place on [] stop = refl
 factor-follow u s t closing b place on (group ∷ groups) stop = refl
 
 -- where a catenation stops it makes no difference whether it is still a branch of its own or the union's last
-branch-follow : (s t : Signed-tree Atom) (sign : Sign) (b place : ℕ) (on : Onward) (groups : List Group)
+branch-follow : (s : Waiting) (t : Signed-tree Atom) (sign : Sign) (b place : ℕ) (on : Onward) (groups : List Group)
     → stopping joined sign ≡ true → follow sign b t place on (record { unions = some s; factors = none }) groups
-    ≡ follow sign b (union s t) place on nothing groups
+    ≡ follow sign b (union (s .place) (s .left) t) place on nothing groups
 branch-follow s t asterisk b place on groups stop = cc
 branch-follow s t plus b place on groups stop = cc
 branch-follow s t question b place on groups stop = cc
@@ -149,15 +150,17 @@ branch-follow s t closing b place on [] stop = refl
 branch-follow s t closing b place on (group ∷ groups) stop = refl
 
 -- at the end only the finished tree counts
-end-same : (t : Signed-tree Atom) (place : ℕ) (before : Before) (s : Signed-tree Atom) (other : Before) (groups : List Group)
+end-same : (t : Signed-tree Atom) (place : ℕ) (before : Before) (s : Signed-tree Atom) (other : Before)
+    (groups : List Group)
     → finished before t ≡ finished other s → end-at place (after t) before groups ≡ end-at place (after s) other groups
 end-same t place before s other [] e = ap tree e
 end-same t place before s other (group ∷ groups) e = refl
 
 -- before the next operand the last one is taken into the catenation
-begin-follow : (sign : Sign) (b : ℕ) (t : Signed-tree Atom) (place : ℕ) (on : Onward) (before : Before) (groups : List Group)
+begin-follow : (sign : Sign) (b : ℕ) (t : Signed-tree Atom) (place : ℕ) (on : Onward) (before : Before)
+    (groups : List Group)
     → beginning sign ≡ true → follow sign b t place on before groups
-    ≡ operand sign b place on (next-factor before t) groups
+    ≡ operand sign b place on (next-factor before t place) groups
 begin-follow opening b t place on before groups e = refl
 begin-follow backslash b t place on before groups e = refl
 begin-follow dot b t place on before groups e = refl
@@ -244,20 +247,20 @@ module _ (syntax : Syntax) (bytes : List ℕ) where
 
   -- a plain byte stands for itself
   pub leads-plain : (depth at : ℕ) → at < length bytes → sign-of syntax (byte at) ≡ plain
-      → Leads syntax starred bytes depth at (leaf (literal (byte at))) (at + 1)
+      → Leads syntax starred bytes depth at (leaf at (literal (byte at))) (at + 1)
   leads-plain depth at h e = record { onward = λ before groups d. at-due at before groups h e }
 
   -- a special byte after a `\` stands for itself
   pub leads-escaped : (depth at : ℕ) → at + 1 < length bytes → byte at ≡ 92
       → special (sign-of syntax (byte (at + 1))) ≡ true
-      → Leads syntax starred bytes depth at (leaf (literal (byte (at + 1)))) (at + 1 + 1)
+      → Leads syntax starred bytes depth at (leaf at (literal (byte (at + 1)))) (at + 1 + 1)
   leads-escaped depth at h e s =
       record {
         onward = λ before groups d.
             at-due at before groups (omega arith) (ap (sign-of syntax) e)
             ∙ from-byte (at + 1) (escaping at) before groups h
             ∙ ap (λ (b : Bool).
-            cond b (from syntax bytes (at + 1 + 1) (after (leaf (literal (byte (at + 1))))) before groups)
+            cond b (from syntax bytes (at + 1 + 1) (after (leaf at (literal (byte (at + 1))))) before groups)
             (refused backslash-before-no-sign at)) s;
       }
 
@@ -271,7 +274,7 @@ module _ (syntax : Syntax) (bytes : List ℕ) where
             at-due at before groups (omega arith) (ap (sign-of syntax) e)
             ∙ from-byte (at + 1) (escaping at) before groups h
             ∙ ap (λ (b : Bool).
-            cond b (from syntax bytes (at + 1 + 1) (after (leaf (literal (byte (at + 1))))) before groups)
+            cond b (from syntax bytes (at + 1 + 1) (after (leaf at (literal (byte (at + 1))))) before groups)
             (refused backslash-before-no-sign at)) s;
       }
 
@@ -301,7 +304,7 @@ module _ (syntax : Syntax) (bytes : List ℕ) where
 
   -- a star of what was read
   pub leads-star : {depth at : ℕ} {t : Signed-tree Atom} (place : ℕ) → Leads syntax starred bytes depth at t place
-      → place < length bytes → byte place ≡ 42 → Leads syntax starred bytes depth at (star t) (place + 1)
+      → place < length bytes → byte place ≡ 42 → Leads syntax starred bytes depth at (star place t) (place + 1)
   leads-star place l h e =
       record {
         onward = λ before groups d. l .onward before groups d
@@ -346,7 +349,8 @@ module _ (syntax : Syntax) (bytes : List ℕ) where
       }
 
   -- the end comes with a group open
-  pub fails-open : {depth : ℕ} {t : Signed-tree Atom} (at next : ℕ) → Leads syntax united bytes (depth + 1) (at + 1) t next
+  pub fails-open : {depth : ℕ} {t : Signed-tree Atom} (at next : ℕ) → Leads syntax united bytes (depth + 1)
+      (at + 1) t next
       → next ≡ length bytes → depth < most-groups → at < length bytes → byte at ≡ 40
       → Fails syntax starred bytes depth at group-left-open at
   fails-open at next l end few h e =
@@ -358,7 +362,8 @@ module _ (syntax : Syntax) (bytes : List ℕ) where
       }
 
   -- a group that is closed
-  pub leads-group : {depth : ℕ} {t : Signed-tree Atom} (at next : ℕ) → Leads syntax united bytes (depth + 1) (at + 1) t next
+  pub leads-group : {depth : ℕ} {t : Signed-tree Atom} (at next : ℕ) → Leads syntax united bytes (depth + 1)
+      (at + 1) t next
       → next < length bytes → byte next ≡ 41 → depth < most-groups → at < length bytes → byte at ≡ 40
       → Leads syntax starred bytes depth at t (next + 1)
   leads-group at next l inside closes few h e =
@@ -402,26 +407,27 @@ module _ (syntax : Syntax) (bytes : List ℕ) where
   -- the next operand is due where a catenation does not stop
   begins : (place : ℕ) (t : Signed-tree Atom) (before : Before) (groups : List Group) → place < length bytes
       → beginning (sign-of syntax (byte place)) ≡ true → from syntax bytes place (after t) before groups
-      ≡ from syntax bytes place due (next-factor before t) groups
+      ≡ from syntax bytes place due (next-factor before t place) groups
   begins place t before groups h e = from-byte place (after t) before groups h
       ∙ begin-follow (sign-of syntax (byte place)) (byte place) t place (from syntax bytes (place + 1)) before groups e
-      ∙ sym (from-byte place due (next-factor before t) groups h)
+      ∙ sym (from-byte place due (next-factor before t place) groups h)
 
   -- a catenation with one more operand
   module _ {depth at : ℕ} {s : Signed-tree Atom} (place : ℕ) (l : Leads syntax joined bytes depth at s place)
       (h : place < length bytes) (more : beginning (sign-of syntax (byte place)) ≡ true) where
     pub leads-factor : {next : ℕ} {t : Signed-tree Atom} → Leads syntax starred bytes depth place t next
         → Stops syntax starred bytes next
-        → Leads syntax joined bytes depth at (catenation s t) next
+        → Leads syntax joined bytes depth at (catenation place s t) next
     leads-factor {next} {t} r stop =
         record {
           onward = λ before groups d.
               l .onward before groups d
               ∙ begins place s (seen joined before) groups h more
-              ∙ r .onward (next-factor (seen joined before) s) groups d
-              ∙ stopped t (catenation s t) (next-factor (seen joined before) s) (seen joined before) groups next stop
-              refl (λ sign e. factor-follow (before .unions) s t sign (byte next) next (from syntax bytes (next + 1))
-              groups e);
+              ∙ r .onward (next-factor (seen joined before) s place) groups d
+              ∙ stopped t (catenation place s t) (next-factor (seen joined before) s place) (seen joined before)
+              groups next stop refl
+              (λ sign e. factor-follow (before .unions) (record { place = place; left = s }) t sign (byte next) next
+              (from syntax bytes (next + 1)) groups e);
         }
 
     pub fails-factor : {number fault : ℕ} → Fails syntax starred bytes depth place number fault
@@ -430,31 +436,32 @@ module _ (syntax : Syntax) (bytes : List ℕ) where
         record {
           onward = λ before groups d. l .onward before groups d
               ∙ begins place s (seen joined before) groups h more
-              ∙ f .onward (next-factor (seen joined before) s) groups d;
+              ∙ f .onward (next-factor (seen joined before) s place) groups d;
         }
 
   -- a union with one more branch
   module _ {depth at : ℕ} {s : Signed-tree Atom} (place : ℕ) (l : Leads syntax united bytes depth at s place)
       (h : place < length bytes) (e : byte place ≡ 124) where
     branches : (groups : List Group) → length groups ≡ depth → from syntax bytes at due nothing groups
-        ≡ from syntax bytes (place + 1) due (next-union nothing s) groups
+        ≡ from syntax bytes (place + 1) due (next-union nothing s place) groups
     branches groups d = l .onward nothing groups d ∙ at-after place s nothing groups h (ap (sign-of syntax) e)
 
     pub leads-branch : {next : ℕ} {t : Signed-tree Atom} → Leads syntax joined bytes depth (place + 1) t next
-        → Stops syntax joined bytes next → Leads syntax united bytes depth at (union s t) next
+        → Stops syntax joined bytes next → Leads syntax united bytes depth at (union place s t) next
     leads-branch {next} {t} r stop =
         record {
           onward = λ before groups d.
               branches groups d
-              ∙ r .onward (next-union nothing s) groups d
-              ∙ stopped t (union s t) (next-union nothing s) nothing groups next stop refl
-              (λ sign e. branch-follow s t sign (byte next) next (from syntax bytes (next + 1)) groups e);
+              ∙ r .onward (next-union nothing s place) groups d
+              ∙ stopped t (union place s t) (next-union nothing s place) nothing groups next stop refl
+              (λ sign e. branch-follow (record { place = place; left = s }) t sign (byte next) next
+              (from syntax bytes (next + 1)) groups e);
         }
 
     pub fails-branch : {number fault : ℕ} → Fails syntax joined bytes depth (place + 1) number fault
         → Fails syntax united bytes depth at number fault
     fails-branch f =
-        record { onward = λ before groups d. branches groups d ∙ f .onward (next-union nothing s) groups d }
+        record { onward = λ before groups d. branches groups d ∙ f .onward (next-union nothing s place) groups d }
 
   -- the whole expression was read: nothing is before it, and no group is open
   module _ {t : Signed-tree Atom} (next : ℕ) (l : Leads syntax united bytes 0 0 t next) where
@@ -468,7 +475,7 @@ module _ (syntax : Syntax) (bytes : List ℕ) where
 -- what the second syntax has
 module _ (bytes : List ℕ) (depth at : ℕ) (h : at < length bytes) where
   -- the dot
-  pub leads-dot : getD bytes at 0 ≡ 46 → Leads second starred bytes depth at (leaf (one-of the-dot)) (at + 1)
+  pub leads-dot : getD bytes at 0 ≡ 46 → Leads second starred bytes depth at (leaf at (one-of the-dot)) (at + 1)
   leads-dot e = record { onward = λ before groups d. at-due second bytes at before groups h (ap (sign-of second) e) }
 
   -- a `]` outside a class
@@ -492,7 +499,7 @@ module _ (bytes : List ℕ) (depth at : ℕ) (h : at < length bytes) where
   -- a class
   pub leads-class : {class : Class} {next : ℕ} → getD bytes at 0 ≡ 91
       → run-at bytes at ≡ found class (drop next bytes) next
-      → Leads second starred bytes depth at (leaf (one-of class)) next
+      → Leads second starred bytes depth at (leaf at (one-of class)) next
   unfolding from
   leads-class e f =
       record { onward = λ before groups d. enters e before groups ∙ ap (after-class second at before groups) f }
@@ -507,7 +514,7 @@ module _ (bytes : List ℕ) (depth at : ℕ) (h : at < length bytes) where
 module _ {bytes : List ℕ} {depth at : ℕ} {t : Signed-tree Atom} (place : ℕ)
     (l : Leads second starred bytes depth at t place) (h : place < length bytes) where
   -- one or more of what was read
-  pub leads-more : getD bytes place 0 ≡ 43 → Leads second starred bytes depth at (one-or-more t) (place + 1)
+  pub leads-more : getD bytes place 0 ≡ 43 → Leads second starred bytes depth at (one-or-more place t) (place + 1)
   leads-more e =
       record {
         onward = λ before groups d. l .onward before groups d
@@ -515,7 +522,7 @@ module _ {bytes : List ℕ} {depth at : ℕ} {t : Signed-tree Atom} (place : ℕ
       }
 
   -- none or one of it
-  pub leads-optional : getD bytes place 0 ≡ 63 → Leads second starred bytes depth at (optional t) (place + 1)
+  pub leads-optional : getD bytes place 0 ≡ 63 → Leads second starred bytes depth at (optional place t) (place + 1)
   leads-optional e =
       record {
         onward = λ before groups d. l .onward before groups d
@@ -534,7 +541,7 @@ module _ {bytes : List ℕ} {depth at : ℕ} {t : Signed-tree Atom} (place : ℕ
   -- a count of it
   pub leads-counted : {fewest most next : ℕ} → getD bytes place 0 ≡ 123
       → count-at bytes place ≡ count-found fewest most (drop next bytes) next
-      → Leads second starred bytes depth at (counted fewest most t) next
+      → Leads second starred bytes depth at (counted place fewest most t) next
   unfolding from
   leads-counted e f =
       record {

@@ -1,13 +1,13 @@
 // A catenation: operands one after the other, up to a `|`, a `)` or the end.
 use crate::operand::operand;
 use crate::part::Part;
-use repeats::copies::put_label;
+use repeats::copies::put_note;
 use tree::layout::CATENATION_LABEL;
 ghost use Rattle.scanner.specs.Bytes.{syntax-of};
 ghost use Rattle.scanner.specs.Grammar.{joined};
 ghost use Rattle.scanner.specs.Reading.{Scratch-room, Part-answer};
 
-// Reads a catenation from a place on.
+// Reads a catenation from a place on: the place of its node is where its right operand begins.
 pub fn catenation(
     expr: &[u8],
     at: usize,
@@ -15,12 +15,14 @@ pub fn catenation(
     labels: &mut [u16],
     count: usize,
     second: bool,
+    places: bool,
 ) -> Part
     requires { ⌜ Scratch-room (now expr) at depth count (now labels) ⌝ }
-    ensures { λ r. ⌜ Part-answer (syntax-of second) joined (now (expr .entry)) at depth count (now (labels .entry)) (now
+    ensures { λ r. ⌜ Part-answer (syntax-of second) places joined (now (expr .entry)) at depth count
+        (now (labels .entry)) (now
         (labels .exit)) r ⌝ }
 {
-    let first = operand(expr, at, depth, labels, count, second);
+    let first = operand(expr, at, depth, labels, count, second, places);
     let Part::Read { next, count } = first else {
         return first;
     };
@@ -34,11 +36,11 @@ pub fn catenation(
         if byte == b')' {
             break;
         }
-        let part = operand(expr, place, depth, labels, n, second);
+        let part = operand(expr, place, depth, labels, n, second, places);
         let Part::Read { next, count } = part else {
             return part;
         };
-        n = put_label(labels, count, CATENATION_LABEL);
+        n = put_note(labels, count, CATENATION_LABEL, place as u16, places);
         place = next;
     }
     Part::Read {

@@ -1,14 +1,15 @@
 // One character: a byte that stands for itself, or a special byte after a `\`.
 use crate::part::Part;
-use repeats::copies::put_label;
+use repeats::copies::put_note;
 use tree::layout::CHARACTER;
 use tree::layout::label_of;
 use tree::refusal_numbers::BACKSLASH_BEFORE_NO_SIGN;
 use tree::refusal_numbers::OPERAND_MISSING;
 ghost use mathlib.Core.Path.{_≡_};
 ghost use mathlib.Core.Bool.{true, false};
-ghost use Prim.Native.Nat.{_<_};
+ghost use Prim.Native.Nat.{_<_, _≤_};
 ghost use lib.ListN.{length, getD};
+ghost use Rattle.tree.specs.Limits.{most-labels};
 ghost use Rattle.repeats.specs.Labelled.{Label-room};
 ghost use Rattle.scanner.specs.Bytes.{syntax-of, sign-of, sign-of-second, special};
 ghost use Rattle.scanner.specs.Surroundings.{class-begins};
@@ -64,25 +65,40 @@ fn is_special(byte: u8, second: bool) -> bool
     false
 }
 
-// Writes the label of a leaf.
-pub fn leaf(label: u16, next: usize, labels: &mut [u16], count: usize) -> Part
-    requires { ⌜ Label-room (now labels) count ⌝ }
-    ensures { λ r. ⌜ Leaf-answer label next count (now (labels .entry)) (now (labels .exit)) r ⌝ }
+// Writes the label of a leaf, or its place.
+pub fn leaf(
+    label: u16,
+    place: usize,
+    next: usize,
+    labels: &mut [u16],
+    count: usize,
+    places: bool,
+) -> Part
+    requires room { ⌜ Label-room (now labels) count ⌝ }
+    requires low { ⌜ place ≤ most-labels ⌝ }
+    ensures { λ r. ⌜ Leaf-answer places label place next count (now (labels .entry)) (now (labels .exit)) r ⌝ }
 {
     Part::Read {
         next,
-        count: put_label(labels, count, label),
+        count: put_note(labels, count, label, place as u16, places),
     }
 }
 
 // Reads the character at a place: 3 where a `|`, `)`, `*`, `+`, `?` or `{` stands there, 7 at a `\` that is last or not
 // before a special byte.
-pub fn character(expr: &[u8], at: usize, labels: &mut [u16], count: usize, second: bool) -> Part
+pub fn character(
+    expr: &[u8],
+    at: usize,
+    labels: &mut [u16],
+    count: usize,
+    second: bool,
+    places: bool,
+) -> Part
     requires within { ⌜ at < length (now expr) ⌝ }
     requires character { ⌜ (getD (now expr) at 0 ≡ 40 → ⊥) ⌝ }
     requires common { ⌜ class-begins (sign-of (syntax-of second) (getD (now expr) at 0)) ≡ false ⌝ }
     requires room { ⌜ Scratch-room (now expr) at 0 count (now labels) ⌝ }
-    ensures { λ r. ⌜ Character-answer (syntax-of second) (now (expr .entry)) at count (now (labels .entry)) (now
+    ensures { λ r. ⌜ Character-answer (syntax-of second) places (now (expr .entry)) at count (now (labels .entry)) (now
         (labels .exit)) r ⌝ }
 {
     let byte = expr[at];
@@ -96,7 +112,14 @@ pub fn character(expr: &[u8], at: usize, labels: &mut [u16], count: usize, secon
         }
         let escaped = expr[place];
         if is_special(escaped, second) {
-            return leaf(label_of(CHARACTER, escaped), place + 1, labels, count);
+            return leaf(
+                label_of(CHARACTER, escaped),
+                at,
+                place + 1,
+                labels,
+                count,
+                places,
+            );
         }
         return Part::Refused {
             number: BACKSLASH_BEFORE_NO_SIGN,
@@ -109,5 +132,5 @@ pub fn character(expr: &[u8], at: usize, labels: &mut [u16], count: usize, secon
             place: at,
         };
     }
-    leaf(label_of(CHARACTER, byte), at + 1, labels, count)
+    leaf(label_of(CHARACTER, byte), at, at + 1, labels, count, places)
 }

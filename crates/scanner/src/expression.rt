@@ -11,11 +11,11 @@ ghost use Rattle.tree.specs.Limits.{most-labels};
 ghost use Rattle.scanner.specs.Bytes.{syntax-of};
 ghost use Rattle.scanner.specs.Expression.{Expression-answer};
 
-// Writes the labels of the tree that an expression stands for, while there is room: refuses by 1, 2, or the first fault
-// from left to right.
-pub fn expression(expr: &[u8], labels: &mut [u16], second: bool) -> Part
+// Writes the labels of the tree that an expression stands for, or where `places` says so the places of its nodes, while
+// there is room: refuses by 1, 2, or the first fault from left to right.
+pub fn expression(expr: &[u8], labels: &mut [u16], second: bool, places: bool) -> Part
     requires { ⌜ most-labels ≤ length (now labels) ⌝ }
-    ensures { λ r. ⌜ Expression-answer (syntax-of second) (now (expr .entry)) (now (labels .exit)) r ⌝ }
+    ensures { λ r. ⌜ Expression-answer (syntax-of second) places (now (expr .entry)) (now (labels .exit)) r ⌝ }
 {
     if expr.len() == 0 {
         return Part::Refused {
@@ -29,7 +29,7 @@ pub fn expression(expr: &[u8], labels: &mut [u16], second: bool) -> Part
             place: LONGEST_EXPRESSION,
         };
     }
-    let whole = union(expr, 0, 0, labels, 0, second);
+    let whole = union(expr, 0, 0, labels, 0, second, places);
     let Part::Read { next, count } = whole else {
         return whole;
     };

@@ -19,9 +19,10 @@ pub fn operand(
     labels: &mut [u16],
     count: usize,
     second: bool,
+    places: bool,
 ) -> Part
     requires { ⌜ Scratch-room (now expr) at depth count (now labels) ⌝ }
-    ensures { λ r. ⌜ Part-answer (syntax-of second) starred (now (expr .entry)) at depth count
+    ensures { λ r. ⌜ Part-answer (syntax-of second) places starred (now (expr .entry)) at depth count
         (now (labels .entry)) (now
         (labels .exit)) r ⌝ }
 {
@@ -40,7 +41,7 @@ pub fn operand(
             };
         }
         let open = at;
-        let inner = union(expr, open + 1, depth + 1, labels, begin, second);
+        let inner = union(expr, open + 1, depth + 1, labels, begin, second, places);
         let Part::Read { next, count } = inner else {
             return inner;
         };
@@ -50,11 +51,11 @@ pub fn operand(
                 place: open,
             };
         }
-        return signs(expr, next + 1, labels, begin, count, second);
+        return signs(expr, next + 1, labels, begin, count, second, places);
     }
-    let part = single(expr, at, labels, begin, second);
+    let part = single(expr, at, labels, begin, second, places);
     let Part::Read { next, count } = part else {
         return part;
     };
-    signs(expr, next, labels, begin, count, second)
+    signs(expr, next, labels, begin, count, second, places)
 }

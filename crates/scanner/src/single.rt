@@ -15,11 +15,11 @@ ghost use Rattle.scanner.specs.Bytes.{syntax-of};
 ghost use Rattle.scanner.specs.Reading.{Scratch-room, Character-answer};
 
 // Reads the class at a `[`: 14 there where it is not of the form.
-fn class(expr: &[u8], begin: usize, labels: &mut [u16], count: usize) -> Part
+fn class(expr: &[u8], begin: usize, labels: &mut [u16], count: usize, places: bool) -> Part
     requires within { ⌜ begin < length (now expr) ⌝ }
     requires bracket { ⌜ getD (now expr) begin 0 ≡ 91 ⌝ }
     requires room { ⌜ Scratch-room (now expr) begin 0 count (now labels) ⌝ }
-    ensures { λ r. ⌜ Character-answer (syntax-of true) (now (expr .entry)) begin count (now (labels .entry)) (now
+    ensures { λ r. ⌜ Character-answer (syntax-of true) places (now (expr .entry)) begin count (now (labels .entry)) (now
         (labels .exit)) r ⌝ }
 {
     let part = class_end(expr, begin);
@@ -29,23 +29,23 @@ fn class(expr: &[u8], begin: usize, labels: &mut [u16], count: usize) -> Part
             place: begin,
         };
     };
-    leaf(class_label(begin), next, labels, count)
+    leaf(class_label(begin), begin, next, labels, count, places)
 }
 
 // Reads the operand at a place in the second syntax: 14 at a `]`, 16 at a `}`.
-fn second_single(expr: &[u8], at: usize, labels: &mut [u16], count: usize) -> Part
+fn second_single(expr: &[u8], at: usize, labels: &mut [u16], count: usize, places: bool) -> Part
     requires within { ⌜ at < length (now expr) ⌝ }
     requires character { ⌜ (getD (now expr) at 0 ≡ 40 → ⊥) ⌝ }
     requires room { ⌜ Scratch-room (now expr) at 0 count (now labels) ⌝ }
-    ensures { λ r. ⌜ Character-answer (syntax-of true) (now (expr .entry)) at count (now (labels .entry)) (now
+    ensures { λ r. ⌜ Character-answer (syntax-of true) places (now (expr .entry)) at count (now (labels .entry)) (now
         (labels .exit)) r ⌝ }
 {
     let byte = expr[at];
     if byte == b'.' {
-        return leaf(class_label(at), at + 1, labels, count);
+        return leaf(class_label(at), at, at + 1, labels, count, places);
     }
     if byte == b'[' {
-        return class(expr, at, labels, count);
+        return class(expr, at, labels, count, places);
     }
     if byte == b']' {
         return Part::Refused {
@@ -59,19 +59,26 @@ fn second_single(expr: &[u8], at: usize, labels: &mut [u16], count: usize) -> Pa
             place: at,
         };
     }
-    character(expr, at, labels, count, true)
+    character(expr, at, labels, count, true, places)
 }
 
 // Reads the operand at a place that is no `(`.
-pub fn single(expr: &[u8], at: usize, labels: &mut [u16], count: usize, second: bool) -> Part
+pub fn single(
+    expr: &[u8],
+    at: usize,
+    labels: &mut [u16],
+    count: usize,
+    second: bool,
+    places: bool,
+) -> Part
     requires within { ⌜ at < length (now expr) ⌝ }
     requires character { ⌜ (getD (now expr) at 0 ≡ 40 → ⊥) ⌝ }
     requires room { ⌜ Scratch-room (now expr) at 0 count (now labels) ⌝ }
-    ensures { λ r. ⌜ Character-answer (syntax-of second) (now (expr .entry)) at count (now (labels .entry)) (now
+    ensures { λ r. ⌜ Character-answer (syntax-of second) places (now (expr .entry)) at count (now (labels .entry)) (now
         (labels .exit)) r ⌝ }
 {
     if second {
-        return second_single(expr, at, labels, count);
+        return second_single(expr, at, labels, count, places);
     }
-    character(expr, at, labels, count, false)
+    character(expr, at, labels, count, false, places)
 }

@@ -1,13 +1,13 @@
 // A union: catenations with `|` between them, up to a `)` or the end.
 use crate::catenation::catenation;
 use crate::part::Part;
-use repeats::copies::put_label;
+use repeats::copies::put_note;
 use tree::layout::UNION_LABEL;
 ghost use Rattle.scanner.specs.Bytes.{syntax-of};
 ghost use Rattle.scanner.specs.Grammar.{united};
 ghost use Rattle.scanner.specs.Reading.{Scratch-room, Part-answer};
 
-// Reads a union from a place on.
+// Reads a union from a place on: the place of its node is its `|`.
 pub fn union(
     expr: &[u8],
     at: usize,
@@ -15,12 +15,14 @@ pub fn union(
     labels: &mut [u16],
     count: usize,
     second: bool,
+    places: bool,
 ) -> Part
     requires { ⌜ Scratch-room (now expr) at depth count (now labels) ⌝ }
-    ensures { λ r. ⌜ Part-answer (syntax-of second) united (now (expr .entry)) at depth count (now (labels .entry)) (now
+    ensures { λ r. ⌜ Part-answer (syntax-of second) places united (now (expr .entry)) at depth count
+        (now (labels .entry)) (now
         (labels .exit)) r ⌝ }
 {
-    let first = catenation(expr, at, depth, labels, count, second);
+    let first = catenation(expr, at, depth, labels, count, second, places);
     let Part::Read { next, count } = first else {
         return first;
     };
@@ -30,11 +32,11 @@ pub fn union(
         if expr[place] != b'|' {
             break;
         }
-        let part = catenation(expr, place + 1, depth, labels, n, second);
+        let part = catenation(expr, place + 1, depth, labels, n, second, places);
         let Part::Read { next, count } = part else {
             return part;
         };
-        n = put_label(labels, count, UNION_LABEL);
+        n = put_note(labels, count, UNION_LABEL, place as u16, places);
         place = next;
     }
     Part::Read {

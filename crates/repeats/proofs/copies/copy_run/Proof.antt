@@ -70,7 +70,8 @@ returns-2 : tie.Need-returns-2 Inv-loop μ-loop
 returns-2 c =
     let l = c .before in
     let s = l .before .before in
-    copied-all (s .pre) (omega (arith, l .before .if1 .left)) (omega (arith, c .loop-test .left, l .loop .inv .within)) (l .loop .inv)
+    copied-all (s .pre) (omega (arith, l .before .if1 .left)) (omega (arith, c .loop-test .left, l .loop .inv .within))
+    (l .loop .inv)
 
 pub copy-run-spec : {M : Type 1} → statement M
 copy-run-spec =

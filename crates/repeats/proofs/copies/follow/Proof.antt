@@ -17,17 +17,17 @@ use Rattle.repeats.proofs.copies.follow.Statement.{statement}
 use Rattle.repeats.proofs.copies.follow.Tie as tie
 
 abbrev Inv-loop : tie.InvT-loop
-Inv-loop labels₀ begin size count n with-question total₀ i₀ labels total i =
-    Copies labels₀ begin size count (λ run. copied i (run ++ copy-end with-question)) total labels
+Inv-loop labels₀ begin size count n with-question place places total₀ i₀ labels total i =
+    Copies labels₀ begin size count (λ run. copied i (run ++ copy-end places place with-question)) total labels
     × Counted-on count total × (length labels ≡ length labels₀) × (i ≤ n)
 
 abbrev μ-loop : tie.MeasureT-loop
-μ-loop labels₀ begin size count n with-question total₀ i₀ labels total i = n - i
+μ-loop labels₀ begin size count n with-question place places total₀ i₀ labels total i = n - i
 
 loop-holds : tie.Need-loop-holds Inv-loop μ-loop
 loop-holds c =
     let s = c .before in (
-      follows-none (s .args .with-question) (s .pre .room .few),
+      follows-none (s .args .places) (s .args .place) (s .args .with-question) (s .pre .room .few),
       record { onward = omega arith; few = s .pre .room .few },
       refl,
       omega arith,
@@ -62,7 +62,8 @@ loop-again c =
     let s = l .before .before in
     let a = copies-counted (copy .copy-run .ensures) (l .loop .inv .1 .few) in
     let b = appended-counted (end .end-copy .ensures) (a .few) in (
-      follows-more (l .loop .i) (s .args .with-question) (s .pre) (l .loop .inv .0) (copy .copy-run .ensures)
+      follows-more (l .loop .i) (s .args .places) (s .args .place) (s .args .with-question) (s .pre) (l .loop .inv .0)
+          (copy .copy-run .ensures)
           (end .end-copy .ensures),
       record { onward = omega (arith, l .loop .inv .1 .onward, a .onward, b .onward); few = b .few },
       omega arith,

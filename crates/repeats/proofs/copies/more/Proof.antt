@@ -1,4 +1,4 @@
--- `repeats::copies::more` meets its contract: a copy, the star's label and the catenation's.
+-- `repeats::copies::more` meets its contract: a copy, what is noted of the star and of the catenation.
 use native.Mathlib.Omega.{arith}
 use Rattle.repeats.specs.LabelledLaws.{copies-counted, more-relabels}
 use borrow.Author.Needs.{needs}
@@ -25,7 +25,8 @@ returns c =
     let end = c .before .before in
     let copy = end .before .before .before .before in
     let s = copy .before .before .before in
-    more-relabels (s .pre .0) (s .pre .1) (copy .copy-run .ensures) (end .put-two .ensures)
+    more-relabels (s .args .places) (s .args .place) (s .pre .0) (s .pre .1) (copy .copy-run .ensures)
+    (end .put-two .ensures)
 
 pub more-spec : {M : Type 1} → statement M
 more-spec =

@@ -1,4 +1,4 @@
--- `repeats::copies::perhaps` meets its contract: the two labels are those that a `?` adds.
+-- `repeats::copies::perhaps` meets its contract: the two notes are those that a `?` adds.
 use Rattle.repeats.specs.LabelledLaws.{question-relabels}
 use borrow.Author.Needs.{needs}
 use Rattle.repeats.proofs.copies.perhaps.Statement.{statement}
@@ -14,7 +14,7 @@ returns : tie.Need-returns
 returns c =
     let two = c .before .before in
     let s = two .before .before .before in
-    (two .put-two .ensures, question-relabels (s .pre) (two .put-two .ensures))
+    (two .put-two .ensures, question-relabels (s .args .place) (s .pre) (two .put-two .ensures))
 
 pub perhaps-spec : {M : Type 1} → statement M
 perhaps-spec = tie.close (tie.spec put-two-requires same-length returns)

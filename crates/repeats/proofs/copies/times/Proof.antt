@@ -26,7 +26,8 @@ returns c =
     let question = others .before .before .before .before in
     let test = question .before .before in
     let s = test .before .before in
-    none-relabels (s .pre .0) (s .pre .1) (s .args .fewest) (s .args .most) (omega (arith, test .if1 .taken))
+    none-relabels (s .args .places) (s .args .place) (s .pre .0) (s .pre .1) (s .args .fewest) (s .args .most)
+    (omega (arith, test .if1 .taken))
     (question .perhaps .ensures .0) (others .follow .ensures)
 
 sub-follow-2 : tie.Need-sub-follow-2
@@ -35,8 +36,8 @@ sub-follow-2 c = search needs
 follow-requires-2 : tie.Need-follow-requires-2
 follow-requires-2 c κs = search needs
 
-sub-follow-3 : tie.Need-sub-follow-3
-sub-follow-3 c = search needs
+sub-others : tie.Need-sub-others
+sub-others c = search needs
 
 follow-requires-3 : tie.Need-follow-requires-3
 follow-requires-3 c κs =
@@ -57,7 +58,8 @@ returns-2 c =
     let needed = others .before .before .before .before in
     let test = needed .before .before in
     let s = test .before .before in
-    some-relabels (s .pre .0) (s .pre .1) (s .args .fewest) (s .args .most) (omega (arith, test .if1 .left))
+    some-relabels (s .args .places) (s .args .place) (s .pre .0) (s .pre .1) (s .args .fewest) (s .args .most)
+    (omega (arith, test .if1 .left))
     (needed .follow2 .ensures) (others .follow3 .ensures)
 
 pub times-spec : {M : Type 1} → statement M
@@ -72,7 +74,7 @@ times-spec =
     returns
     sub-follow-2
     follow-requires-2
-    sub-follow-3
+    sub-others
     follow-requires-3
     same-length-2
     returns-2)

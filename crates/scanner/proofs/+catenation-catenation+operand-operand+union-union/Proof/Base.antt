@@ -17,7 +17,7 @@ use Rattle.scanner.proofs.union.union.Kinds as union-kinds
 use Rattle.scanner.proofs.+catenation-catenation+operand-operand+union-union.Lts-union-union as union-lts
 use Rattle.scanner.proofs.single.single.Reads as single-reads
 use Rattle.scanner.proofs.signs.signs.Reads as signs-reads
-use Rattle.repeats.proofs.copies.put_label.Reads as put-label-reads
+use Rattle.repeats.proofs.copies.put_note.Reads as put-note-reads
 
 abbrev pub μ-operand : Measures 2 operand-kinds.ps ℕ
 μ-operand κs a = 3 * (length (a .0 .now) - a .1 .0) + 0
@@ -62,8 +62,8 @@ operand-claims t = (
 
 -- what `catenation` knows of those that it calls
 abbrev pub catenation-claims : ℕ → catenation-lts.Claims
-catenation-claims t = (operand-below t, operand.Post, put-label-reads.Asked, put-label-reads.Learnt)
+catenation-claims t = (operand-below t, operand.Post, put-note-reads.Asked, put-note-reads.Learnt)
 
 -- what `union` knows of those that it calls
 abbrev pub union-claims : ℕ → union-lts.Claims
-union-claims t = (catenation-below t, catenation.Post, put-label-reads.Asked, put-label-reads.Learnt)
+union-claims t = (catenation-below t, catenation.Post, put-note-reads.Asked, put-note-reads.Learnt)

@@ -16,12 +16,12 @@ use Rattle.scanner.proofs.+catenation-catenation+operand-operand+union-
 use Rattle.scanner.proofs.+catenation-catenation+operand-operand+union-union.Proof.Base.{union-at, union-claims}
 
 abbrev pub Inv-loop : lts.InvT-loop
-Inv-loop expr at depth labels₀ count second next count' place₀ n₀ labels place n =
-    Carries (syntax-of second) united expr depth count place₀ n₀ labels₀ place n labels
+Inv-loop expr at depth labels₀ count second places next count' place₀ n₀ labels place n =
+    Carries (syntax-of second) places united expr depth count place₀ n₀ labels₀ place n labels
     × Stops (syntax-of second) joined expr place × (length labels ≡ length labels₀)
 
 abbrev pub μ-loop : lts.MeasureT-loop
-μ-loop expr at depth labels₀ count second next count' place₀ n₀ labels place n = length expr - place
+μ-loop expr at depth labels₀ count second places next count' place₀ n₀ labels place n = length expr - place
 
 -- the places that the needs go back to: the entry, after the first part, at the loop's head, at a `|`, after
 -- the next part
@@ -52,7 +52,8 @@ head-of t c = bar-of t c .before .before .before
 -- the first part was read
 first-read : (t : ℕ) (c : After-first t)
     → let s = start-of t c in
-    Whole (syntax-of (s .args .second)) joined (s .args .expr .now) (s .args .depth) (s .args .at) (s .args .count)
+    Whole (syntax-of (s .args .second)) (s .args .places) joined (s .args .expr .now) (s .args .depth) (s .args .at)
+    (s .args .count)
     (s .args .labels .now) (c .before .first .given .0 .0) (c .before .first .given .0 .1 .0)
     (c .before .before .before .before .before .catenation .last .1 .1 .1 .0)
 first-read t c = rw (c .before .first .given .1) at (c .before .before .before .before .before .catenation .ensures)
@@ -60,7 +61,8 @@ first-read t c = rw (c .before .first .given .1) at (c .before .before .before .
 -- what was read up to the loop's place
 here : (t : ℕ) (c : At-head t)
     → let s = start-of t (c .before) in
-    Read-up-to (syntax-of (s .args .second)) united (s .args .expr .now) (s .args .depth) (s .args .at) (s .args .count)
+    Read-up-to (syntax-of (s .args .second)) (s .args .places) united (s .args .expr .now) (s .args .depth)
+    (s .args .at) (s .args .count)
     (s .args .labels .now) (c .loop .place) (c .loop .n) (c .loop .labels)
 here t c = c .loop .inv .0 .on _ _ (went-united (first-read t (c .before) .went))
 
@@ -68,7 +70,8 @@ here t c = c .loop .inv .0 .on _ _ (went-united (first-read t (c .before) .went)
 part-read : (t : ℕ) (c : After-next t)
     → let s = start-of t (head-of t c .before) in
     let l = head-of t c .loop in
-    Whole (syntax-of (s .args .second)) joined (s .args .expr .now) (s .args .depth) (l .place + 1) (l .n) (l .labels)
+    Whole (syntax-of (s .args .second)) (s .args .places) joined (s .args .expr .now) (s .args .depth) (l .place + 1)
+    (l .n) (l .labels)
     (c .before .part .given .0 .0) (c .before .part .given .0 .1 .0)
     (c .before .before .before .before .before .catenation2 .last .1 .1 .1 .0)
 part-read t c = rw (c .before .part .given .1) at (c .before .before .before .before .before .catenation2 .ensures)
@@ -123,12 +126,15 @@ returns-2 t c =
     rw e (fails-branch _ _ (l .loop .place) (here t l .leads) (o .before .before .loop-test .taken) (o .if1 .left)
     (rw e at (c .before .before .before .before .catenation2 .ensures)))
 
-pub put-label-requires : (t : ℕ) → lts.Need-put-label-requires (union-claims t) (union-at t) union.Post Inv-loop μ-loop
-put-label-requires t c κs = let w = here t (head-of t (c .before)) in let r = part-read t (c .before) in omega arith
+pub cast-put-note : (t : ℕ) → lts.Need-cast-put-note (union-claims t) (union-at t) union.Post Inv-loop μ-loop
+cast-put-note t c = let w = here t (head-of t (c .before)) in omega arith
+
+pub put-note-requires : (t : ℕ) → lts.Need-put-note-requires (union-claims t) (union-at t) union.Post Inv-loop μ-loop
+put-note-requires t c κs = let w = here t (head-of t (c .before)) in let r = part-read t (c .before) in omega arith
 
 -- the label of the node was written after the next part
 abbrev After-label : ℕ → Type 0
-After-label t = lts.After-put-label (union-claims t) (union-at t) union.Post Inv-loop μ-loop
+After-label t = lts.After-put-note (union-claims t) (union-at t) union.Post Inv-loop μ-loop
 
 abbrev part-of : (t : ℕ) → After-label t → After-next t
 part-of t c = c .before .before
@@ -149,10 +155,10 @@ loop-again t c =
     let r = part-read t k in (
       record {
         on = λ at start w. went-branch (l .loop .inv .0 .on at start w) (o .before .before .loop-test .taken)
-            (o .if1 .left) r (p .put-label .ensures);
+            (o .if1 .left) r (p .put-note .ensures);
       },
       r .stops,
-      p .put-label .kept .0 ∙ k .before .before .before .before .before .catenation2 .kept .1 .1 .1 .0
+      p .put-note .kept .0 ∙ k .before .before .before .before .before .catenation2 .kept .1 .1 .1 .0
           ∙ l .loop .inv .2,
     )
 

@@ -1,5 +1,6 @@
 -- `scanner::signs::counted` meets its contract: the count that is found makes an operand of what was read, and where
 -- none is found the refusal is at its `{`.
+use native.Mathlib.Omega.{arith}
 use borrow.Author.Needs.{needs}
 use Rattle.repeats.specs.CountRun.{count-at}
 use Rattle.repeats.specs.CountReading.{Count-here}
@@ -33,6 +34,10 @@ returns c =
     let lost = rw (c .enum-told .given .1) at (c .before .before .count .ensures) in
     bad-count (s .pre .0) (s .pre .1 .0) (lost .fails)
 
+cast-times : tie.Need-cast-times
+cast-times c =
+    let s = entry (c .before .before .before .before) in omega (arith, s .pre .0, s .pre .1 .1 .short)
+
 times-requires : tie.Need-times-requires
 times-requires c κs =
     let s = entry (c .before .before .before .before) in
@@ -51,4 +56,5 @@ returns-2 c =
 
 pub counted-spec : {M : Type 1} → statement M
 counted-spec =
-    tie.close (tie.spec count-requires enum-known-part enum-told returns times-requires same-length returns-2)
+    tie.close (tie.spec count-requires enum-known-part enum-told returns cast-times times-requires same-length
+    returns-2)

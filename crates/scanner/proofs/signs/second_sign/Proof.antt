@@ -1,5 +1,6 @@
--- `scanner::signs::second_sign` meets its contract: a `+`, a `?` or a count makes an operand of what was read, and every
--- other byte ends it.
+-- `scanner::signs::second_sign` meets its contract: a `+`, a `?` or a count makes an operand of what was read, and
+-- every other byte ends it.
+use native.Mathlib.Omega.{arith}
 use borrow.Author.Needs.{needs}
 use Rattle.scanner.specs.OneSign.{no-second-sign, plus-sign, question-sign}
 use Rattle.scanner.proofs.signs.second_sign.Statement.{statement}
@@ -12,8 +13,11 @@ entry c = c .before .before .before
 shared-slice-read-byte : tie.Need-shared-slice-read-byte
 shared-slice-read-byte c = search needs
 
-add-plus : tie.Need-add-t10
+add-plus : tie.Need-add-t11
 add-plus c = search needs
+
+cast-more : tie.Need-cast-more
+cast-more c = let s = entry (c .before .before) in omega (arith, s .pre .0, s .pre .1 .1 .short)
 
 more-requires : tie.Need-more-requires
 more-requires c κs =
@@ -29,8 +33,11 @@ returns c =
     let plus = m .before .before in
     plus-sign (entry (plus .before) .pre .0) (plus .if1 .taken) (m .more .ensures)
 
-add-question : tie.Need-add-t14
+add-question : tie.Need-add-t16
 add-question c = search needs
+
+cast-perhaps : tie.Need-cast-perhaps
+cast-perhaps c = let s = entry (c .before .before .before) in omega (arith, s .pre .0, s .pre .1 .1 .short)
 
 perhaps-requires : tie.Need-perhaps-requires
 perhaps-requires c κs =
@@ -64,5 +71,5 @@ returns-4 c =
 
 pub second-sign-spec : {M : Type 1} → statement M
 second-sign-spec =
-    tie.close (tie.spec shared-slice-read-byte add-plus more-requires same-length returns add-question perhaps-requires
-    same-length-2 returns-2 counted-requires same-length-3 returns-3 returns-4)
+    tie.close (tie.spec shared-slice-read-byte add-plus cast-more more-requires same-length returns add-question
+    cast-perhaps perhaps-requires same-length-2 returns-2 counted-requires same-length-3 returns-3 returns-4)

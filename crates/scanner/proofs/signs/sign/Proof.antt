@@ -1,4 +1,5 @@
 -- `scanner::signs::sign` meets its contract: a `*` in both syntaxes, and the second syntax has its own signs.
+use native.Mathlib.Omega.{arith}
 use borrow.Author.Needs.{needs}
 use Rattle.scanner.specs.OneSign.{no-first-sign, star-sign}
 use Rattle.scanner.proofs.signs.sign.Statement.{statement}
@@ -11,11 +12,14 @@ entry c = c .before .before .before
 shared-slice-read-if1 : tie.Need-shared-slice-read-if1
 shared-slice-read-if1 c = search needs
 
-add-star : tie.Need-add-t10
+add-star : tie.Need-add-t11
 add-star c = search needs
 
-put-label-requires : tie.Need-put-label-requires
-put-label-requires c κs =
+cast-put-note : tie.Need-cast-put-note
+cast-put-note c = let s = entry (c .before .before) in omega (arith, s .pre .0, s .pre .1 .short)
+
+put-note-requires : tie.Need-put-note-requires
+put-note-requires c κs =
     let s = entry (c .before .before) in record { long = s .pre .1 .long; few = s .pre .1 .few }
 
 same-length : tie.Need-same-length
@@ -26,7 +30,7 @@ returns c =
     let p = c .before .before in
     let star = p .before .before in
     let s = entry (star .before) in
-    star-sign (s .pre .0) (star .if1 .taken) (s .pre .1 .few) (p .put-label .ensures)
+    star-sign (s .pre .0) (star .if1 .taken) (s .pre .1 .few) (p .put-note .ensures)
 
 second-sign-requires : tie.Need-second-sign-requires
 second-sign-requires c κs =
@@ -46,5 +50,6 @@ returns-3 c =
 
 pub sign-spec : {M : Type 1} → statement M
 sign-spec =
-    tie.close (tie.spec shared-slice-read-if1 add-star put-label-requires same-length returns second-sign-requires
+    tie.close (tie.spec shared-slice-read-if1 add-star cast-put-note put-note-requires same-length returns
+    second-sign-requires
     same-length-2 returns-2 returns-3)

@@ -15,12 +15,12 @@ use Rattle.scanner.proofs.signs.signs.Statement.{statement}
 use Rattle.scanner.proofs.signs.signs.Tie as tie
 
 abbrev Inv-loop : tie.InvT-loop
-Inv-loop expr at labels₀ begin total second place₀ n₀ labels place n =
+Inv-loop expr at labels₀ begin total second places place₀ n₀ labels place n =
     (place ≤ length expr) × (begin ≤ n) × (n ≤ slot-count) × (length labels ≡ length labels₀)
-    × ((depth : ℕ) → Carries (syntax-of second) starred expr depth begin place₀ n₀ labels₀ place n labels)
+    × ((depth : ℕ) → Carries (syntax-of second) places starred expr depth begin place₀ n₀ labels₀ place n labels)
 
 abbrev μ-loop : tie.MeasureT-loop
-μ-loop expr at labels₀ begin total second place₀ n₀ labels place n = length expr - place
+μ-loop expr at labels₀ begin total second places place₀ n₀ labels place n = length expr - place
 
 -- the places that the needs go back to: the entry, the loop's head, and after the sign was read
 abbrev Start : Type 0
@@ -49,7 +49,8 @@ one-read : (c : Sign-read)
     → let a = sign-of c in
     let l = head-of a .loop in
     let s = start-of (head-of a) in
-    One-sign (syntax-of (s .args .second)) (s .args .expr .now) (s .args .begin) (l .place) (l .n) (l .labels)
+    One-sign (syntax-of (s .args .second)) (s .args .places) (s .args .expr .now) (s .args .begin) (l .place) (l .n)
+    (l .labels)
     (c .before .part .given .0 .0) (c .before .part .given .0 .1 .0)
     (c .before .before .before .before .before .sign .last .1 .1 .0)
 one-read c = rw (c .before .part .given .1) at (c .before .before .before .before .before .sign .ensures)
@@ -67,6 +68,7 @@ sign-requires c κs =
       c .before .loop-test .taken,
       record {
         within = l .inv .0;
+        short = s .pre .short;
         long = omega (arith, s .pre .long, l .inv .3);
         begun = l .inv .1;
         few = l .inv .2;

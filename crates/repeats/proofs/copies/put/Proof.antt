@@ -1,10 +1,10 @@
--- `repeats::copies::put_label` meets its contract: there is room for one more, or the count is one past the most.
+-- `repeats::copies::put` meets its contract: there is room for one more, or the count is one past the most.
 use mathlib.Core.Path.{refl}
 use native.Mathlib.Omega.{arith}
 use Rattle.repeats.specs.LabelledLaws.{put-written, put-left}
 use borrow.Author.Needs.{needs}
-use Rattle.repeats.proofs.copies.put_label.Statement.{statement}
-use Rattle.repeats.proofs.copies.put_label.Tie as tie
+use Rattle.repeats.proofs.copies.put.Statement.{statement}
+use Rattle.repeats.proofs.copies.put.Tie as tie
 
 returns : tie.Need-returns
 returns c =
@@ -26,8 +26,8 @@ same-length c = search needs
 returns-2 : tie.Need-returns-2
 returns-2 c =
     let s = c .before in
-    put-written (s .args .labels .now) (s .args .count) (s .args .label) (s .pre .long) (omega (arith, c .if1 .left))
+    put-written (s .args .labels .now) (s .args .count) (s .args .number) (s .pre .long) (omega (arith, c .if1 .left))
 
-pub put-label-spec : {M : Type 1} → statement M
-put-label-spec =
+pub put-spec : {M : Type 1} → statement M
+put-spec =
     tie.close (tie.spec returns mul-labels slice-write-labels add-result same-length returns-2)
