@@ -10,10 +10,12 @@ use Rattle.tree.specs.RefusalNumbers.{too-many-pieces, buffer-too-short}
 use Rattle.tree.specs.Layout.{record-size}
 use Rattle.tree.specs.Leaf.{Leaf}
 use Rattle.tree.specs.Records.{encode, piece-count}
+use Rattle.tree.specs.Places.{with-places}
 use Rattle.scanner.specs.Bytes.{first}
 use Rattle.scanner.specs.Scanner.{Outcome, tree, refused}
 use Rattle.reader.specs.Expanded.{expanded}
 use Rattle.reader.specs.Drawn.{drawn}
+use Rattle.reader.specs.PlacesIn.{places-in}
 use Rattle.reader.specs.declared.answer.ReadAnswer.{ReadAnswer}
 use Rattle.reader.specs.declared.answer.ReadAnswer.the-variants.{Read, Refused}
 
@@ -45,13 +47,14 @@ answer-for (tree t) room =
     cond (ltb most-pieces (piece-count t)) (refusing too-many-pieces 0)
     (cond (ltb room (record-size * nodes t)) (refusing buffer-too-short 0) (reading t))
 
--- what the buffer holds afterwards: the records, and past them what it held; the same as before where the expression is
--- refused
-abbrev pub buffer-for : Outcome (Tree Leaf) → List ℕ → List ℕ
-buffer-for (refused number place) buffer = buffer
-buffer-for (tree t) buffer =
+-- what the buffer holds afterwards: the records with these places, and past them what it held; the same as before where
+-- the expression is refused
+abbrev pub buffer-for : (places : List ℕ) → Outcome (Tree Leaf) → List ℕ → List ℕ
+buffer-for places (refused number place) buffer = buffer
+buffer-for places (tree t) buffer =
     cond (ltb most-pieces (piece-count t)) buffer
-    (cond (ltb (length buffer) (record-size * nodes t)) buffer (encode t ++ drop (record-size * nodes t) buffer))
+    (cond (ltb (length buffer) (record-size * nodes t)) buffer
+    (with-places places (encode t) ++ drop (record-size * nodes t) buffer))
 
 -- what `read` answers for these bytes and a buffer of this length
 abbrev pub answered : List ℕ → (room : ℕ) → Numbers
@@ -59,4 +62,4 @@ answered bytes room = answer-for (drawn (expanded first bytes)) room
 
 -- what `read` leaves in the buffer
 abbrev pub records-after : List ℕ → List ℕ → List ℕ
-records-after bytes buffer = buffer-for (drawn (expanded first bytes)) buffer
+records-after bytes buffer = buffer-for (places-in first bytes) (drawn (expanded first bytes)) buffer

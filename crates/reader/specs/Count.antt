@@ -25,7 +25,7 @@ use Rattle.reader.specs.Drawn.{classes-in, recorded}
 use Rattle.scanner.specs.Placed.{written-at, Placed}
 use Rattle.reader.specs.Alike.{nodes-placed, nodes-recorded, pieces-placed}
 use Rattle.reader.specs.Relabelled.{class-labels, classes-counted, class-labels-le}
-use Rattle.scanner.specs.Expression.{Expression-read, Expression-refused}
+use Rattle.scanner.specs.Expression.{Labels-read, Expression-refused}
 use Rattle.reader.specs.SecondAnswer.{
   Counted-numbers,
   refusing-counts,
@@ -85,6 +85,11 @@ pub record Reading-counted (syntax : Syntax) (bytes later : List ℕ) (records p
   pub bounded : records ≤ most-labels
   pub numbers : counted-numbers (Counted records pieces classes) ≡ checked-for (expanded syntax bytes)
 
+-- the same of the first syntax, whatever the count of classes
+pub record First-counted (bytes later : List ℕ) (records pieces : ℕ) : Type 0 where
+  pub classes : ℕ
+  pub counts : Reading-counted first bytes later records pieces classes
+
 -- the expression is refused
 pub record Reading-refused (syntax : Syntax) (bytes : List ℕ) (number place : ℕ) : Type 0 where
   pub numbers : refusing-counts number place ≡ checked-for (expanded syntax bytes)
@@ -108,7 +113,7 @@ pub refused-before : {syntax : Syntax} {bytes : List ℕ} {number place : ℕ}
 refused-before {syntax} {bytes} {number} {place} r =
     record { numbers = ap checked-for (sym (form-first syntax bytes number place (r .scans))) }
 
-module _ {syntax : Syntax} {bytes later : List ℕ} {total : ℕ} (w : Expression-read syntax bytes later total) where
+module _ {syntax : Syntax} {bytes later : List ℕ} {total : ℕ} (w : Labels-read syntax bytes later total) where
   -- the tree with places has as many nodes as the one that the signs stand for
   nodes-read : nodes (w .read) ≡ nodes (expansion (w .signs))
   nodes-read =
@@ -131,14 +136,14 @@ module _ {syntax : Syntax} {bytes later : List ℕ} {total : ℕ} (w : Expressio
       }
 
 -- in the first syntax there are never more
-pub first-bounded : {bytes later : List ℕ} {total : ℕ} → Expression-read first bytes later total → total ≤ most-labels
+pub first-bounded : {bytes later : List ℕ} {total : ℕ} → Labels-read first bytes later total → total ≤ most-labels
 first-bounded {bytes} w =
     let (few, spelled) = scanned-exactly first bytes (w .signs) .0 (w .scans) in
     omega (arith, w .counted, nodes-read w, first-size spelled, few)
 
 -- what was read is counted
 pub read-counted : {syntax : Syntax} {bytes later : List ℕ} {total : ℕ} (r : CountedAnswer)
-    → Expression-read syntax bytes later total → total ≤ most-labels → (ls : List ℕ) → ls ≡ take total later
+    → Labels-read syntax bytes later total → total ≤ most-labels → (ls : List ℕ) → ls ≡ take total later
     → length ls ≡ total → Labels-counted ls r → Count-answer syntax bytes later r
 read-counted {syntax} {bytes} {later} {total} (Counted records pieces classes) w few ls e long a =
     let p = w .read in

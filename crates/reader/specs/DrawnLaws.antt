@@ -129,23 +129,23 @@ neither : first ≡ second → ⊥
 neither e = let z : _≡_ {A = ℕ} 0 1 = cc in omega arith
 
 -- the first syntax writes no class
-spells-no-class : {depth : ℕ} {level : Level} {bytes rest : List ℕ} {s : Signed-tree Atom}
-    → Spells first depth level bytes rest s → Every-signed-leaf No-class s
-spells-no-class (itself p) = tt
-spells-no-class (escaped p) = tt
-spells-no-class (any-but-line-end {b = b} p) =
+spells-no-class : {size depth : ℕ} {level : Level} {bytes rest : List ℕ} {s : Signed-tree Atom}
+    → Spells first size depth level bytes rest s → Every-signed-leaf No-class s
+spells-no-class (itself p at) = tt
+spells-no-class (escaped p at) = tt
+spells-no-class (any-but-line-end {b = b} p at) =
     let m = rw p at (sign-means first b) in absurd (neither (m .0))
-spells-no-class (bracketed {b = b} p r) = let m = rw p at (sign-means first b) in absurd (neither (m .0))
+spells-no-class (bracketed {b = b} p at r) = let m = rw p at (sign-means first b) in absurd (neither (m .0))
 spells-no-class (group h r) = spells-no-class r
 spells-no-class (no-sign r) = spells-no-class r
-spells-no-class (one-star r) = spells-no-class r
-spells-no-class (one-or-more p r) = spells-no-class r
-spells-no-class (none-or-one p r) = spells-no-class r
-spells-no-class (so-many p r q) = spells-no-class r
+spells-no-class (one-star at r) = spells-no-class r
+spells-no-class (one-or-more p at r) = spells-no-class r
+spells-no-class (none-or-one p at r) = spells-no-class r
+spells-no-class (so-many p at r q) = spells-no-class r
 spells-no-class (one-factor r) = spells-no-class r
-spells-no-class (next-factor r q) = (spells-no-class r, spells-no-class q)
+spells-no-class (next-factor at r q) = (spells-no-class r, spells-no-class q)
 spells-no-class (one-branch r) = spells-no-class r
-spells-no-class (next-branch r q) = (spells-no-class r, spells-no-class q)
+spells-no-class (next-branch at r q) = (spells-no-class r, spells-no-class q)
 
 -- so its trees have none
 pub first-has-no-class : {bytes : List ℕ} {t : Tree Atom} → Written-tree first bytes t → classes-of t ≡ []

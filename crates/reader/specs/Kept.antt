@@ -14,13 +14,16 @@ use Rattle.tree.specs.Limits.{most-pieces}
 use Rattle.tree.specs.RefusalNumbers.{too-many-pieces, buffer-too-short}
 use Rattle.tree.specs.Layout.{record-size}
 use Rattle.tree.specs.Leaf.{Leaf}
-use Rattle.tree.specs.Records.{encode, piece-count, Good}
-use Rattle.tree.specs.Lengths.{nodes-positive, length-encode}
+use Rattle.tree.specs.Records.{encode, piece-count, Ranked, Good}
+use Rattle.tree.specs.Places.{with-places}
+use Rattle.tree.specs.Lengths.{nodes-positive}
 use Rattle.scanner.specs.Bytes.{first}
 use Rattle.scanner.specs.Scanner.{Atom, Outcome, tree, refused}
 use Rattle.reader.specs.Expanded.{expanded}
 use Rattle.reader.specs.Drawn.{drawn, recorded}
 use Rattle.reader.specs.DrawnLaws.{drawn-tree, drawn-refusal, ranked-recorded}
+use Rattle.reader.specs.PlacesIn.{places-in}
+use Rattle.reader.specs.PlacesInLaws.{drawn-places, placed-length, placed-good}
 use Rattle.reader.specs.Answer.{
   Numbers,
   refusing,
@@ -68,13 +71,14 @@ answer-unique bytes room r s e f =
     numbers-injective r s (e ∙ sym f) (rw e (sure-answer bytes room (drawn (expanded first bytes)) refl))
 
 -- what it means that the records were written: the expression has this tree, the counts are the tree's, and the records
--- are a good list
+-- are those of the tree with its places, a good list
 pub record Kept (bytes before after : List ℕ) (records pieces : ℕ) : Type 0 where
   pub read : Tree Leaf
   pub scans : drawn (expanded first bytes) ≡ tree read
   pub counted : records ≡ nodes read
   pub parted : pieces ≡ piece-count read
   pub fits : record-size * records ≤ length before
+  pub list : take (record-size * records) after ≡ with-places (places-in first bytes) (encode read)
   pub good : Good (take (record-size * records) after) read
   pub rest : drop (record-size * records) after ≡ drop (record-size * records) before
 
@@ -82,7 +86,8 @@ kept-pick : (bytes before after : List ℕ) (records pieces : ℕ) (t : Tree Lea
     → (many short : Bool) → ltb most-pieces (piece-count t) ≡ many → ltb (length before) (record-size * nodes t) ≡ short
     → numbers (Read records pieces)
     ≡ cond many (refusing too-many-pieces 0) (cond short (refusing buffer-too-short 0) (reading t))
-    → after ≡ cond many before (cond short before (encode t ++ drop (record-size * nodes t) before))
+    → after ≡ cond many before (cond short before (with-places (places-in first bytes) (encode t)
+    ++ drop (record-size * nodes t) before))
     → Kept bytes before after records pieces
 kept-pick bytes before after records pieces t scans true short m h e f =
     absurd (omega (arith, ap (λ (n : Numbers). n .refusal) e))
@@ -90,27 +95,29 @@ kept-pick bytes before after records pieces t scans false true m h e f =
     absurd (omega (arith, ap (λ (n : Numbers). n .refusal) e))
 kept-pick bytes before after records pieces t scans false false m h e f =
     let counted : records ≡ nodes t = ap (λ (n : Numbers). n .records) e in
-    let long : length (encode t) ≡ record-size * nodes t = length-encode t in
+    let of = drawn-places first bytes t scans in
+    let list : List ℕ = with-places (places-in first bytes) (encode t) in
+    let size : ℕ = record-size * nodes t in
+    let long : length list ≡ size = placed-length (places-in first bytes) t of in
+    let taken : take (record-size * records) after ≡ list =
+    rw (f, counted) (take-at list (drop size before) size long) in
+    let ranked : Ranked t =
+    let (written, outcome, same) = drawn-tree (expanded first bytes) t scans in rw same (ranked-recorded written) in
     record {
       read = t;
       scans = scans;
       counted = counted;
       parted = ap (λ (n : Numbers). n .pieces) e;
       fits = omega (arith, ltb-false (length before) (record-size * nodes t) h);
-      good = record {
-        of-tree = rw (f, counted) (take-at (encode t) (drop (record-size * nodes t) before)
-            (record-size * nodes t) long);
-        few = ltb-false most-pieces (piece-count t) m;
-        ranked =
-            let (written, outcome, same) = drawn-tree (expanded first bytes) t scans in
-            rw same (ranked-recorded written);
-      };
-      rest = rw (f, counted) (drop-at (encode t) (drop (record-size * nodes t) before) (record-size * nodes t) long);
+      list = taken;
+      good = rw taken (placed-good (places-in first bytes) t of (ltb-false most-pieces (piece-count t) m) ranked);
+      rest = rw (f, counted) (drop-at list (drop size before) size long);
     }
 
 kept-outcome : (bytes before after : List ℕ) (records pieces : ℕ) (outcome : Outcome (Tree Leaf))
     → drawn (expanded first bytes) ≡ outcome
-    → numbers (Read records pieces) ≡ answer-for outcome (length before) → after ≡ buffer-for outcome before
+    → numbers (Read records pieces) ≡ answer-for outcome (length before) → after ≡ buffer-for (places-in first bytes)
+    outcome before
     → Kept bytes before after records pieces
 kept-outcome bytes before after records pieces (refused number place) scans e f =
     absurd (omega (arith, ap (λ (n : Numbers). n .refusal) e, drawn-refusal first bytes number place scans .least))
@@ -126,21 +133,25 @@ kept bytes before after records pieces e f =
     kept-outcome bytes before after records pieces (drawn (expanded first bytes)) refl e f
 
 -- where it answers a refusal, no byte of the buffer differs
-same-pick : (before : List ℕ) (number place : ℕ) (t : Tree Leaf) (many short : Bool) → numbers (Refused number place)
+same-pick : (places before : List ℕ) (number place : ℕ) (t : Tree Leaf) (many short : Bool)
+    → numbers (Refused number place)
     ≡ cond many (refusing too-many-pieces 0) (cond short (refusing buffer-too-short 0) (reading t))
-    → cond many before (cond short before (encode t ++ drop (record-size * nodes t) before)) ≡ before
-same-pick before number place t true short e = refl
-same-pick before number place t false true e = refl
-same-pick before number place t false false e =
+    → cond many before (cond short before (with-places places (encode t) ++ drop (record-size * nodes t) before))
+    ≡ before
+same-pick places before number place t true short e = refl
+same-pick places before number place t false true e = refl
+same-pick places before number place t false false e =
     absurd (omega (arith, nodes-positive t, ap (λ (n : Numbers). n .records) e))
 
-same-outcome : (before : List ℕ) (number place : ℕ) (outcome : Outcome (Tree Leaf)) → numbers (Refused number place)
-    ≡ answer-for outcome (length before) → buffer-for outcome before ≡ before
-same-outcome before number place (refused number′ place′) e = refl
-same-outcome before number place (tree t) e =
-    same-pick before number place t (ltb most-pieces (piece-count t)) (ltb (length before) (record-size * nodes t)) e
+same-outcome : (places before : List ℕ) (number place : ℕ) (outcome : Outcome (Tree Leaf))
+    → numbers (Refused number place) ≡ answer-for outcome (length before)
+    → buffer-for places outcome before ≡ before
+same-outcome places before number place (refused number′ place′) e = refl
+same-outcome places before number place (tree t) e =
+    same-pick places before number place t (ltb most-pieces (piece-count t))
+    (ltb (length before) (record-size * nodes t)) e
 
 pub refusal-keeps : (bytes before after : List ℕ) (number place : ℕ) → numbers (Refused number place)
     ≡ answered bytes (length before) → after ≡ records-after bytes before → after ≡ before
 refusal-keeps bytes before after number place e f = f
-    ∙ same-outcome before number place (drawn (expanded first bytes)) e
+    ∙ same-outcome (places-in first bytes) before number place (drawn (expanded first bytes)) e

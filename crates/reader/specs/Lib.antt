@@ -2,9 +2,11 @@
 pub mod Drawn
 pub mod Expanded
 pub mod ExpandedLaws
+pub mod PlacesIn
 pub mod Alike
 pub mod Relabelled
 pub mod DrawnLaws
+pub mod PlacesInLaws
 pub mod SameLanguage
 pub mod Answer
 pub mod SecondAnswer
@@ -12,6 +14,7 @@ pub mod Kept
 pub mod SecondKept
 pub mod ClassStore
 pub mod Count
+pub mod Placing
 pub mod Store
 pub mod Check
 pub mod TooLarge

@@ -9,10 +9,12 @@ use Rattle.tree.specs.RefusalNumbers.{too-many-pieces, buffer-too-short, class-
 use Rattle.tree.specs.Limits.{most-pieces}
 use Rattle.tree.specs.Layout.{record-size, class-record-size}
 use Rattle.tree.specs.Records.{encode, piece-count}
+use Rattle.tree.specs.Places.{with-places}
 use Rattle.scanner.specs.Bytes.{Syntax, second}
 use Rattle.scanner.specs.Scanner.{Atom, Outcome, tree, refused}
 use Rattle.reader.specs.Expanded.{expanded}
 use Rattle.reader.specs.Drawn.{classes-of, classes-in, recorded}
+use Rattle.reader.specs.PlacesIn.{places-in}
 use Rattle.classes.specs.ClassRecord.{encode-classes}
 use Rattle.reader.specs.declared.answer.CountedAnswer.{CountedAnswer}
 use Rattle.reader.specs.declared.answer.CountedAnswer.the-variants.{Counted, Refused}
@@ -82,12 +84,13 @@ second-answer-for (tree t) room class-room =
     pick-stored (too-many t) (too-short t room) (too-few-classes t class-room) (λ number. refusing-counts number 0)
     (counting t)
 
--- what the record buffer holds afterwards: the records, and past them what it held; the same as before on a refusal
-abbrev pub second-records-for : Outcome (Tree Atom) → (records classes : List ℕ) → List ℕ
-second-records-for (refused number place) records classes = records
-second-records-for (tree t) records classes =
+-- what the record buffer holds afterwards: the records with these places, and past them what it held; the same as
+-- before on a refusal
+abbrev pub second-records-for : (places : List ℕ) → Outcome (Tree Atom) → (records classes : List ℕ) → List ℕ
+second-records-for places (refused number place) records classes = records
+second-records-for places (tree t) records classes =
     pick-stored (too-many t) (too-short t (length records)) (too-few-classes t (length classes)) (λ number. records)
-    (encode (recorded t) ++ drop (record-size * nodes (recorded t)) records)
+    (with-places places (encode (recorded t)) ++ drop (record-size * nodes (recorded t)) records)
 
 -- what the class buffer holds afterwards: the class records, and past them what it held; the same as before on a
 -- refusal
@@ -103,7 +106,8 @@ second-answered bytes room class-room = second-answer-for (expanded second bytes
 
 -- what `read_second` leaves in the record buffer
 abbrev pub second-records-after : List ℕ → (records classes : List ℕ) → List ℕ
-second-records-after bytes records classes = second-records-for (expanded second bytes) records classes
+second-records-after bytes records classes =
+    second-records-for (places-in second bytes) (expanded second bytes) records classes
 
 -- what `read_second` leaves in the class buffer
 abbrev pub second-classes-after : List ℕ → (records classes : List ℕ) → List ℕ

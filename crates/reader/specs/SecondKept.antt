@@ -14,7 +14,8 @@ use Rattle.language.specs.Tree.{Tree, nodes}
 use Rattle.tree.specs.Limits.{most-pieces}
 use Rattle.tree.specs.Layout.{record-size, class-record-size}
 use Rattle.tree.specs.Records.{encode, piece-count, Good}
-use Rattle.tree.specs.Lengths.{nodes-positive, length-encode}
+use Rattle.tree.specs.Places.{with-places}
+use Rattle.tree.specs.Lengths.{nodes-positive}
 use Rattle.scanner.specs.Bytes.{second}
 use Rattle.scanner.specs.Scanner.{Atom, Outcome, tree, refused}
 use Rattle.reader.specs.Expanded.{expanded}
@@ -22,6 +23,8 @@ use Rattle.reader.specs.ExpandedLaws.{expanded-refusal}
 use Rattle.reader.specs.Drawn.{classes-of, classes-in, recorded}
 use Rattle.classes.specs.ClassRecord.{encode-classes}
 use Rattle.reader.specs.DrawnLaws.{ranked-recorded}
+use Rattle.reader.specs.PlacesIn.{places-in}
+use Rattle.reader.specs.PlacesInLaws.{recorded-places, placed-length, placed-good}
 use Rattle.reader.specs.SecondAnswer.{
   Counted-numbers,
   refusing-counts,
@@ -95,6 +98,8 @@ pub record Second-kept (bytes records-before classes-before records-after classe
   pub classed : classes ≡ classes-in read
   pub fits : record-size * records ≤ length records-before
   pub class-fits : class-record-size * classes ≤ length classes-before
+  pub list : take (record-size * records) records-after
+      ≡ with-places (places-in second bytes) (encode (recorded read))
   pub good : Good (take (record-size * records) records-after) (recorded read)
   pub rest : drop (record-size * records) records-after ≡ drop (record-size * records) records-before
   pub class-bytes : classes-after
@@ -105,7 +110,8 @@ module _ (bytes records-before classes-before records-after classes-after : List
       → too-short t (length records-before) ≡ short → too-few-classes t (length classes-before) ≡ few
       → counted-numbers (Counted records pieces classes) ≡ answers t many short few
       → records-after ≡ pick-stored many short few (λ number. records-before)
-      (encode (recorded t) ++ drop (record-size * nodes (recorded t)) records-before)
+      (with-places (places-in second bytes) (encode (recorded t))
+      ++ drop (record-size * nodes (recorded t)) records-before)
       → classes-after ≡ pick-stored many short few (λ number. classes-before)
       (encode-classes (classes-of t) ++ drop (class-record-size * classes-in t) classes-before)
       → Second-kept bytes records-before classes-before records-after classes-after records pieces classes
@@ -116,7 +122,11 @@ module _ (bytes records-before classes-before records-after classes-after : List
       let counted : records ≡ nodes (recorded t) = ap (λ (n : Counted-numbers). n .records) e in
       let classed : classes ≡ classes-in t = ap (λ (n : Counted-numbers). n .classes) e in
       let size : ℕ = record-size * nodes (recorded t) in
-      let long : length (encode (recorded t)) ≡ size = length-encode (recorded t) in
+      let of = recorded-places second bytes t scans in
+      let list : List ℕ = with-places (places-in second bytes) (encode (recorded t)) in
+      let long : length list ≡ size = placed-length (places-in second bytes) (recorded t) of in
+      let taken : take (record-size * records) records-after ≡ list =
+      rw (f, counted) (take-at list (drop size records-before) size long) in
       record {
         read = t;
         scans = scans;
@@ -125,19 +135,17 @@ module _ (bytes records-before classes-before records-after classes-after : List
         classed = classed;
         fits = omega (arith, ltb-false (length records-before) size h);
         class-fits = omega (arith, ltb-false (length classes-before) (class-record-size * classes-in t) k);
-        good = record {
-          of-tree = rw (f, counted) (take-at (encode (recorded t)) (drop size records-before) size long);
-          few = ltb-false most-pieces (piece-count (recorded t)) m;
-          ranked = ranked-recorded t;
-        };
-        rest = rw (f, counted) (drop-at (encode (recorded t)) (drop size records-before) size long);
+        list = taken;
+        good = rw taken (placed-good (places-in second bytes) (recorded t) of
+            (ltb-false most-pieces (piece-count (recorded t)) m) (ranked-recorded t));
+        rest = rw (f, counted) (drop-at list (drop size records-before) size long);
         class-bytes = rw classed g;
       }
 
   kept-outcome : (outcome : Outcome (Tree Atom)) → expanded second bytes ≡ outcome
       → counted-numbers (Counted records pieces classes)
       ≡ second-answer-for outcome (length records-before) (length classes-before)
-      → records-after ≡ second-records-for outcome records-before classes-before
+      → records-after ≡ second-records-for (places-in second bytes) outcome records-before classes-before
       → classes-after ≡ second-classes-for outcome records-before classes-before
       → Second-kept bytes records-before classes-before records-after classes-after records pieces classes
   kept-outcome (refused number place) scans e f g =
@@ -169,11 +177,11 @@ module _ (records classes : List ℕ) (number place : ℕ) where
   same-pick t before after false false false e =
       absurd (omega (arith, nodes-positive (recorded t), ap (λ (n : Counted-numbers). n .records) e))
 
-  same-records : (outcome : Outcome (Tree Atom)) → counted-numbers (Refused number place)
+  same-records : (places : List ℕ) (outcome : Outcome (Tree Atom)) → counted-numbers (Refused number place)
       ≡ second-answer-for outcome (length records) (length classes)
-      → second-records-for outcome records classes ≡ records
-  same-records (refused number′ place′) e = refl
-  same-records (tree t) e = same-pick t records _ (too-many t) (too-short t (length records))
+      → second-records-for places outcome records classes ≡ records
+  same-records places (refused number′ place′) e = refl
+  same-records places (tree t) e = same-pick t records _ (too-many t) (too-short t (length records))
       (too-few-classes t (length classes)) e
 
   same-classes : (outcome : Outcome (Tree Atom)) → counted-numbers (Refused number place)
@@ -190,4 +198,4 @@ module _ (records classes : List ℕ) (number place : ℕ) where
       → classes-after ≡ second-classes-after bytes records classes
       → (records-after ≡ records) × (classes-after ≡ classes)
   second-refusal-keeps bytes records-after classes-after e f g =
-      (f ∙ same-records (expanded second bytes) e, g ∙ same-classes (expanded second bytes) e)
+      (f ∙ same-records (places-in second bytes) (expanded second bytes) e, g ∙ same-classes (expanded second bytes) e)

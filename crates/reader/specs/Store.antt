@@ -14,6 +14,7 @@ use Rattle.tree.specs.Limits.{most-pieces}
 use Rattle.tree.specs.Layout.{record-size, class-record-size}
 use Rattle.tree.specs.Leaf.{Leaf, character}
 use Rattle.tree.specs.Records.{labels, encode, piece-count}
+use Rattle.tree.specs.Places.{with-places}
 use Rattle.lists.specs.Recording.{Recorded}
 use Rattle.scanner.specs.Bytes.{first, second}
 use Rattle.classes.specs.Class.{Class}
@@ -23,6 +24,8 @@ use Rattle.reader.specs.ExpandedLaws.{expanded-exactly}
 use Rattle.reader.specs.Drawn.{classes-of, classes-in, recorded, recorded-from, drawn}
 use Rattle.classes.specs.ClassRecord.{encode-classes}
 use Rattle.reader.specs.DrawnLaws.{first-has-no-class}
+use Rattle.reader.specs.PlacesIn.{places-in}
+use Rattle.reader.specs.PlacesInLaws.{recorded-places, placed-recorded}
 use Rattle.scanner.specs.Placed.{written-at}
 use Rattle.reader.specs.Relabelled.{
   class-labels,
@@ -112,10 +115,11 @@ module _ {bytes later : List ℕ} {records pieces classes : ℕ}
       lt-ltb (length before) _ (omega (arith, counts .counted, h)) in
       record { answer = rw (c .scans, few, short); buffer = rw (c .scans, few, short) }
 
-  -- else they are written
-  pub read-whole : {after : List ℕ} → record-size * records ≤ length before → Recorded (take records later) before after
+  -- else they are written, and their places
+  pub read-whole : {between after : List ℕ} → record-size * records ≤ length before
+      → Recorded (take records later) before between → after ≡ with-places (places-in first bytes) between
       → Read-answer bytes before after (Read records pieces)
-  read-whole {after} h wrote =
+  read-whole h wrote put =
       let counts = counts-are c in
       let few = counts .few in
       let t = recorded first-tree in
@@ -124,21 +128,10 @@ module _ {bytes later : List ℕ} {records pieces classes : ℕ}
       let same : take records later ≡ labels t = c .written ∙ ap labels (sym (first-same c)) in
       record {
         answer = rw (c .scans, few, long, counts .counted, counts .parted);
-        buffer = rw (c .scans, few, long) (wrote .bytes t same);
+        buffer = rw (c .scans, few, long)
+            (placed-recorded (places-in first bytes) t (recorded-places first bytes first-tree (c .scans)) _
+            (wrote .bytes t same) put);
       }
-
--- what storing the records of labels answers: 9 where they do not fit, else they are written
-pub data Stored (ls : List ℕ) (pieces : ℕ) (before : List ℕ) : (after : List ℕ) → ReadAnswer → Type 0 where
-  short : length before < record-size * length ls → Stored ls pieces before before (Refused buffer-too-short 0)
-  whole : {after : List ℕ} → record-size * length ls ≤ length before → Recorded ls before after
-      → Stored ls pieces before after (Read (length ls) pieces)
-
--- the records of an expression of the first syntax
-pub stored-read : {bytes later before after : List ℕ} {count pieces classes : ℕ} {r : ReadAnswer}
-    → Reading-counted first bytes later count pieces classes → length (take count later) ≡ count
-    → Stored (take count later) pieces before after r → Read-answer bytes before after r
-stored-read {before = before} c long (short h) = read-short c before (omega (arith, long, h))
-stored-read {before = before} c long (whole h w) = rw long (read-whole c before (omega (arith, long, h)) w)
 
 -- a refusal before storing is of the expression's bytes, or 8
 pub data Refused-before : Outcome (Tree Atom) → (number place : ℕ) → Type 0 where
@@ -169,17 +162,18 @@ refused-answer : {outcome : Outcome (Tree Atom)} {number place : ℕ} → Refuse
 refused-answer by-bytes room = refl
 refused-answer (by-pieces m) room = rw m
 
-refused-buffer : {outcome : Outcome (Tree Atom)} {number place : ℕ} → Refused-before outcome number place
+refused-buffer : (places : List ℕ) {outcome : Outcome (Tree Atom)} {number place : ℕ}
+    → Refused-before outcome number place
     → (before : List ℕ)
-    → before ≡ buffer-for (drawn outcome) before
-refused-buffer by-bytes before = refl
-refused-buffer (by-pieces m) before = rw m
+    → before ≡ buffer-for places (drawn outcome) before
+refused-buffer places by-bytes before = refl
+refused-buffer places (by-pieces m) before = rw m
 
 pub refused-read : {bytes before : List ℕ} {number place : ℕ} → Reading-refused first bytes number place
     → Read-answer bytes before before (Refused number place)
 refused-read {bytes} {before} {number} {place} r =
     let why = refused-before-storing (expanded first bytes) number place (r .numbers) in
-    record { answer = refused-answer why (length before); buffer = refused-buffer why before }
+    record { answer = refused-answer why (length before); buffer = refused-buffer (places-in first bytes) why before }
 
 -- what `read_second` promises, of its answer and of both buffers
 pub record Second-answer (bytes records classes records′ classes′ : List ℕ) (r : CountedAnswer) : Type 0 where
@@ -240,13 +234,14 @@ module _ {bytes later : List ℕ} {count pieces class-count : ℕ}
           class-buffer = rw (c .scans, few, room, short);
         }
 
-    -- else all are written
-    pub second-whole : {records′ classes′ : List ℕ} → class-record-size * class-count ≤ length classes
-        → Recorded (relabelled (take count later) 0) records records′
+    -- else all are written, and the places
+    pub second-whole : {between records′ classes′ : List ℕ} → class-record-size * class-count ≤ length classes
+        → Recorded (relabelled (take count later) 0) records between
+        → records′ ≡ with-places (places-in second bytes) between
         → classes′ ≡ encode-classes (labelled-classes bytes (take count later))
         ++ drop (class-record-size * class-count) classes
         → Second-answer bytes records classes records′ classes′ (Counted count pieces class-count)
-    second-whole k wrote classed =
+    second-whole k wrote put classed =
         let counts = counts-are c in
         let few = counts .few in
         let room = fits in
@@ -256,8 +251,10 @@ module _ {bytes later : List ℕ} {count pieces class-count : ℕ}
         ap (labelled-classes bytes) (c .written) ∙ sym (classes-labelled bytes (c .read)) in
         record {
           answer = rw (c .scans, few, room, class-room, counts .counted, counts .parted, counts .classed);
-          record-buffer = rw (c .scans, few, room, class-room) (wrote .bytes (recorded (second-tree c))
-              (second-labels c));
+          record-buffer = rw (c .scans, few, room, class-room)
+              (placed-recorded (places-in second bytes) (recorded (second-tree c))
+              (recorded-places second bytes (second-tree c) (c .scans)) _
+              (wrote .bytes (recorded (second-tree c)) (second-labels c)) put);
           class-buffer = rw (c .scans, few, room, class-room) (classed
               ∙ ap (λ (cs : List Class). encode-classes cs ++ drop (class-record-size * class-count) classes) written
               ∙ ap (λ (n : ℕ). encode-classes (classes-of (second-tree c)) ++ drop (class-record-size * n) classes)
@@ -270,10 +267,11 @@ refused-counts : {outcome : Outcome (Tree Atom)} {number place : ℕ} → Refuse
 refused-counts by-bytes room class-room = refl
 refused-counts (by-pieces m) room class-room = rw m
 
-refused-records : {outcome : Outcome (Tree Atom)} {number place : ℕ} → Refused-before outcome number place
-    → (records classes : List ℕ) → records ≡ second-records-for outcome records classes
-refused-records by-bytes records classes = refl
-refused-records (by-pieces m) records classes = rw m
+refused-records : (places : List ℕ) {outcome : Outcome (Tree Atom)} {number place : ℕ}
+    → Refused-before outcome number place
+    → (records classes : List ℕ) → records ≡ second-records-for places outcome records classes
+refused-records places by-bytes records classes = refl
+refused-records places (by-pieces m) records classes = rw m
 
 refused-classes : {outcome : Outcome (Tree Atom)} {number place : ℕ} → Refused-before outcome number place
     → (records classes : List ℕ) → classes ≡ second-classes-for outcome records classes
@@ -286,6 +284,6 @@ refused-second {bytes} {records} {classes} {number} {place} r =
     let why = refused-before-storing (expanded second bytes) number place (r .numbers) in
     record {
       answer = refused-counts why (length records) (length classes);
-      record-buffer = refused-records why records classes;
+      record-buffer = refused-records (places-in second bytes) why records classes;
       class-buffer = refused-classes why records classes;
     }

@@ -72,7 +72,7 @@ pub fn count_first(expr: &[u8], labels: &mut [u16]) -> CountedAnswer
     requires { ⌜ most-labels ≡ length (now labels) ⌝ }
     ensures { λ r. ⌜ Count-answer (syntax-of false) (now (expr .entry)) (now (labels .exit)) r ⌝ }
 {
-    let whole = expression(expr, labels, false);
+    let whole = expression(expr, labels, false, false);
     match whole {
         Part::Refused { number, place } => CountedAnswer::Refused { number, place },
         Part::Read { next: _, count } => count_labels(&labels[..count]),
@@ -84,7 +84,7 @@ pub fn count_second(expr: &[u8], labels: &mut [u16]) -> CountedAnswer
     requires { ⌜ most-labels ≡ length (now labels) ⌝ }
     ensures { λ r. ⌜ Count-answer (syntax-of true) (now (expr .entry)) (now (labels .exit)) r ⌝ }
 {
-    let whole = expression(expr, labels, true);
+    let whole = expression(expr, labels, true, false);
     match whole {
         Part::Refused { number, place } => CountedAnswer::Refused { number, place },
         Part::Read { next: _, count } => {

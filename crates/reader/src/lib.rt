@@ -54,7 +54,7 @@ pub fn read(expr: &[u8], records: &mut [u8]) -> ReadAnswer
             records: count,
             pieces,
             classes: _,
-        } => store(&labels[..count], pieces, records),
+        } => store(expr, &mut labels, count, pieces, records),
     }
 }
 

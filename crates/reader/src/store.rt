@@ -8,10 +8,12 @@ use classes::members::put;
 use classes::members::write_class_record;
 use cutting::measure::piece_count;
 use lists::write::write_records;
+use scanner::expression::expression;
 use tree::layout::CLASS_LABEL;
 use tree::layout::CLASS_RECORD_SIZE;
 use tree::layout::RECORD_SIZE;
 use tree::layout::class_label;
+use tree::layout::write_places;
 use tree::limits::SLOT_COUNT;
 use tree::refusal_numbers::BUFFER_TOO_SHORT;
 use tree::refusal_numbers::CLASS_BUFFER_TOO_SHORT;
@@ -22,6 +24,7 @@ ghost use Prim.Native.Nat.{_+_, _*_, _≤_, _<_};
 ghost use lib.ListN.{length, take, drop};
 ghost use Rattle.tree.specs.Layout.{record-size, class-record-size};
 ghost use Rattle.tree.specs.Limits.{most-labels};
+ghost use Rattle.tree.specs.Places.{with-places};
 ghost use Rattle.cutting.specs.Measured.{Postorder};
 ghost use Rattle.lists.specs.Recording.{Recorded};
 ghost use Rattle.scanner.specs.Bytes.{syntax-of};
@@ -30,8 +33,10 @@ ghost use Rattle.classes.specs.ClassAt.{class-at, Class-here};
 ghost use Rattle.classes.specs.Members.{Members, value-count};
 ghost use Rattle.reader.specs.Relabelled.{class-labels, relabelled, labelled-classes};
 ghost use Rattle.reader.specs.ClassStore.{Labels-placed, Label-to-store, Label-stored, Label-numbered};
-ghost use Rattle.reader.specs.Count.{Reading-counted};
-ghost use Rattle.reader.specs.Store.{Stored, Second-answer};
+ghost use Rattle.reader.specs.Count.{Reading-counted, First-counted};
+ghost use Rattle.reader.specs.Store.{Read-answer, Second-answer};
+ghost use Rattle.reader.specs.PlacesIn.{places-in};
+ghost use Rattle.reader.specs.Placing.{Places-due};
 
 // Writes the records of the tree with these labels.
 fn store_records(labels: &[u16], records: &mut [u8])
@@ -127,21 +132,40 @@ fn number_classes(labels: &mut [u16])
     }
 }
 
-// Stores the records of the tree with these labels, which has so many pieces: 9 where they do not fit.
-pub fn store(labels: &[u16], pieces: usize, records: &mut [u8]) -> ReadAnswer
-    requires tree { ⌜ Postorder (now labels) ⌝ }
-    requires few { ⌜ length (now labels) ≤ most-labels ⌝ }
-    ensures { λ r. ⌜ Stored (now (labels .entry)) pieces (now (records .entry)) (now (records .exit)) r ⌝ }
+// Reads the expression once more, for the places of its nodes, and puts them into the records.
+fn place_records(expr: &[u8], labels: &mut [u16], count: usize, second: bool, records: &mut [u8])
+    requires room { ⌜ most-labels ≡ length (now labels) ⌝ }
+    requires due { ⌜ Places-due (syntax-of second) (now expr) count ⌝ }
+    requires fits { ⌜ record-size * count ≤ length (now records) ⌝ }
+    ensures { λ _. ⌜ now (records .exit) ≡ with-places (places-in (syntax-of second) (now (expr .entry)))
+        (now (records .entry)) ⌝ }
 {
-    if records.len() < RECORD_SIZE * labels.len() {
+    expression(expr, labels, second, true);
+    write_places(&labels[..count], records);
+}
+
+// Stores the records of an expression that is read and counted: 9 where they do not fit.
+pub fn store(
+    expr: &[u8],
+    labels: &mut [u16],
+    record_total: usize,
+    pieces: usize,
+    records: &mut [u8],
+) -> ReadAnswer
+    requires room { ⌜ most-labels ≡ length (now labels) ⌝ }
+    requires counted { ⌜ First-counted (now expr) (now labels) «record_total» pieces ⌝ }
+    ensures { λ r. ⌜ Read-answer (now (expr .entry)) (now (records .entry)) (now (records .exit)) r ⌝ }
+{
+    if records.len() < RECORD_SIZE * record_total {
         return ReadAnswer::Refused {
             number: BUFFER_TOO_SHORT,
             place: 0,
         };
     }
-    store_records(labels, records);
+    store_records(&labels[..record_total], records);
+    place_records(expr, labels, record_total, false, records);
     ReadAnswer::Read {
-        records: labels.len(),
+        records: record_total,
         pieces,
     }
 }
@@ -178,6 +202,7 @@ pub fn store_second(
     store_classes(expr, &labels[..count], classes);
     number_classes(&mut labels[..count]);
     store_records(&labels[..count], records);
+    place_records(expr, labels, count, true, records);
     CountedAnswer::Counted {
         records: count,
         pieces: piece_total,

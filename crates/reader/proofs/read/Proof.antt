@@ -1,12 +1,9 @@
 -- `reader::read` meets its contract: what is read and counted is stored, or the refusal is handed on.
-use Prim.Native.Nat.{_≤_}
 use mathlib.Core.Path.{_≡_, sym}
 use native.Mathlib.Omega.{arith}
-use lib.ListN.{length}
-use lib.Seq.{length-take-le}
 use Rattle.scanner.specs.Bytes.{first}
 use Rattle.reader.specs.Count.{Reading-counted}
-use Rattle.reader.specs.Store.{stored-read, refused-read}
+use Rattle.reader.specs.Store.{refused-read}
 use borrow.Author.Needs.{needs}
 use Rattle.reader.proofs.read.Statement.{statement}
 use Rattle.reader.proofs.read.Tie as tie
@@ -31,22 +28,14 @@ enum-known-counted c = search needs
 enum-known-counted-2 : tie.Need-enum-known-counted-2
 enum-known-counted-2 c = search needs
 
-array-share-prefix-labels : tie.Need-array-share-prefix-labels
-array-share-prefix-labels c =
-    let r = counted c in
-    let long : length (c .before .before .before .before .count-first .last .1 .0)
-    ≡ 2047 = c .before .before .before .before .count-first .kept .1 .0 in
-    let few : c .before .counted2 .given .0 .0 ≤ length (c .before .before .before .before .count-first .last .1 .0) =
-    omega (arith, r .bounded, long) in
-    few
-
 slice-aggregate-store : tie.Need-slice-aggregate-store
-slice-aggregate-store c = sym (length-take-le _ _ (array-share-prefix-labels (c .before)))
+slice-aggregate-store c = search needs
 
 store-requires : tie.Need-store-requires
-store-requires c κs =
-    let r = counted (c .before .before) in
-    (record { tree = r .read; same = r .written }, rw (sym (slice-aggregate-store (c .before))) (r .bounded))
+store-requires c κs = (
+  sym (c .before .before .before .before .before .before .count-first .kept .1 .0),
+  record { classes = _; counts = counted (c .before .before) },
+)
 
 returns : tie.Need-returns
 returns c =
@@ -58,13 +47,9 @@ same-length : tie.Need-same-length
 same-length c = search needs
 
 returns-2 : tie.Need-returns-2
-returns-2 c =
-    let k = c .before .before .before .before .before in
-    let r = stored-read (counted k) (length-take-le _ _ (array-share-prefix-labels k))
-    (c .before .before .store .ensures) in
-    (r .answer, r .buffer)
+returns-2 c = search needs
 
 pub read-spec : {M : Type 1} → statement M
 read-spec =
     tie.close (tie.spec slice-aggregate-count-first count-first-requires enum-known-counted enum-known-counted-2
-    array-share-prefix-labels slice-aggregate-store store-requires returns same-length returns-2)
+    slice-aggregate-store store-requires returns same-length returns-2)

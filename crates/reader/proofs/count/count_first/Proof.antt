@@ -6,7 +6,7 @@ use native.Mathlib.Omega.{arith}
 use lib.ListN.{length}
 use lib.Seq.{length-take-le}
 use Rattle.scanner.specs.Bytes.{first}
-use Rattle.scanner.specs.Expression.{Expression-read}
+use Rattle.scanner.specs.Expression.{Labels-read, labels-read}
 use Rattle.reader.specs.Count.{refused-before, first-bounded, read-counted}
 use borrow.Author.Needs.{needs}
 use Rattle.reader.proofs.count.count_first.Statement.{statement}
@@ -16,9 +16,10 @@ use Rattle.reader.proofs.count.count_first.Tie as tie
 tree-read : (c : tie.After-known-told2)
     → let called = c .before .before .before .before .before in
     let s = c .before .before .before .before .before .before .before .before .before in
-    Expression-read first (s .args .expr .now) (called .expression .last .1 .0)
+    Labels-read first (s .args .expr .now) (called .expression .last .1 .0)
     (c .before .whole2 .given .0 .1 .0)
-tree-read c = rw (c .before .whole2 .given .1) at (c .before .before .before .before .before .expression .ensures)
+tree-read c = labels-read (rw (c .before .whole2 .given .1) at
+    (c .before .before .before .before .before .expression .ensures))
 
 -- there are no more labels than the scratch has
 within : (c : tie.After-known-told2)

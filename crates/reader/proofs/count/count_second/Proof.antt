@@ -6,7 +6,7 @@ use native.Mathlib.Omega.{arith}
 use lib.ListN.{length}
 use lib.Seq.{length-take-le}
 use Rattle.scanner.specs.Bytes.{second}
-use Rattle.scanner.specs.Expression.{Expression-read}
+use Rattle.scanner.specs.Expression.{Labels-read, labels-read}
 use Rattle.reader.specs.Count.{refused-before, too-large-read, read-counted}
 use borrow.Author.Needs.{needs}
 use Rattle.reader.proofs.count.count_second.Statement.{statement}
@@ -16,9 +16,10 @@ use Rattle.reader.proofs.count.count_second.Tie as tie
 tree-read : (c : tie.After-known-told2)
     → let called = c .before .before .before .before .before in
     let s = c .before .before .before .before .before .before .before .before .before in
-    Expression-read second (s .args .expr .now) (called .expression .last .1 .0)
+    Labels-read second (s .args .expr .now) (called .expression .last .1 .0)
     (c .before .whole2 .given .0 .1 .0)
-tree-read c = rw (c .before .whole2 .given .1) at (c .before .before .before .before .before .expression .ensures)
+tree-read c = labels-read (rw (c .before .whole2 .given .1) at
+    (c .before .before .before .before .before .expression .ensures))
 
 expression-requires : tie.Need-expression-requires
 expression-requires c κs = let s = c .before .before .before in omega (arith, s .pre)

@@ -7,10 +7,11 @@ use lib.ListN.{length}
 use lib.Seq.{length-take-le, take-at}
 use Rattle.reader.specs.ClassStore.{labels-placed}
 use Rattle.reader.specs.Count.{classes-bounded}
+use Rattle.reader.specs.Placing.{due-counted}
 use Rattle.reader.specs.Drawn.{recorded}
 use Rattle.scanner.specs.Placed.{written-at}
 use Rattle.reader.specs.Relabelled.{relabelled}
-use lib.ListN.{take, drop}
+use lib.ListN.{take, drop, length-append, length-drop}
 use mathlib.Core.List.{List, _++_}
 use Rattle.reader.specs.Store.{
   second-short,
@@ -40,6 +41,10 @@ classes-written c = c .before .before .before .before
 
 abbrev labels-numbered : tie.After-store-records-arg → tie.After-number-classes
 labels-numbered c = c .before .before .before
+
+-- where the records were written
+abbrev records-written : tie.After-place-records-arg2 → tie.After-store-records
+records-written c = c .before .before .before .before
 
 -- where the call began, from the numbering on
 abbrev entry-of-numbering : tie.After-number-classes → tie.Start
@@ -129,6 +134,26 @@ store-records-requires c κs =
       ),
     )
 
+place-records-requires : tie.Need-place-records-requires
+place-records-requires c κs =
+    let r = records-written c in
+    let n = labels-numbered (r .before .before) in
+    let room = room-for-records (room-for-both (classes-written n)) in
+    let s = entry room in
+    let fits = length-take-le (s .args .count) (s .args .labels .now)
+    (omega (arith, s .pre .0, s .pre .1 .bounded)) in (
+      omega (
+        arith,
+        s .pre .0,
+        s .pre .1 .bounded,
+        length-append (n .number-classes .last .0) (drop (s .args .count) (s .args .labels .now)),
+        length-drop (s .args .count) (s .args .labels .now),
+        n .number-classes .kept .0,
+        fits,
+      ),
+      (due-counted (s .pre .1), omega (arith, room .if1 .left, r .store-records .kept)),
+    )
+
 same-length : tie.Need-same-length
 same-length c = search needs
 
@@ -140,14 +165,15 @@ same-length-3 c = search needs
 
 returns-3 : tie.Need-returns-3
 returns-3 c =
-    let r = c .before .before in
+    let placed = c .before .before .before .before in
+    let r = records-written (placed .before) in
     let lent = r .before .before in
     let k = classes-written (labels-numbered lent) in
     let room = room-for-both k in
     let s = entry (room-for-records room) in
     let n = numbered (lent .before) in
     second-whole (s .pre .1) (s .args .records .now) (s .args .classes .now) (room-for-records room .if1 .left)
-    (room .if2 .left) (rw n at (r .store-records .ensures))
+    (room .if2 .left) (rw n at (r .store-records .ensures)) (placed .place-records .ensures)
     (rw (second-class-labels (s .pre .1)) at (k .store-classes .ensures))
 
 pub store-second-spec : {M : Type 1} → statement M
@@ -155,4 +181,5 @@ store-second-spec =
     tie.close (tie.spec mul-if1 returns mul-if2 returns-2 slice-reshare-prefix-store-classes
     slice-aggregate-store-classes store-classes-requires slice-relend-prefix-number-classes
     slice-aggregate-number-classes number-classes-requires slice-reshare-prefix-store-records
-    slice-aggregate-store-records store-records-requires same-length same-length-2 same-length-3 returns-3)
+    slice-aggregate-store-records store-records-requires place-records-requires same-length same-length-2 same-length-3
+    returns-3)
