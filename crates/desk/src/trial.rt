@@ -185,12 +185,12 @@ fn bytes_of(records: usize) -> isize {
     if records > 1920 {
         return 0;
     }
-    (8 * records) as isize
+    (12 * records) as isize
 }
 
 // Reads an expression and tries it; lists what dates it picks where that is asked.
 pub fn trial(expr: &[u8], listed: bool) {
-    let mut list = [0u8; 15360];
+    let mut list = [0u8; 23040];
     let answer = reader::read(expr, &mut list);
     let ReadAnswer::Read { records, pieces } = answer else {
         say(b"refused\n");

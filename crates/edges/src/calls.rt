@@ -30,8 +30,8 @@ fn read_into(expr: &[u8], list: &mut [u8], room: usize)
 
 // Reads into so many bytes.
 pub fn read_first(expr: &[u8], room: usize) {
-    let mut list = [0u8; 15360];
-    read_into(expr, &mut list, at_most(room, 15360));
+    let mut list = [0u8; 23040];
+    read_into(expr, &mut list, at_most(room, 23040));
 }
 
 // Reads into the first bytes of two buffers, in the second syntax.
@@ -50,12 +50,12 @@ fn read_second_into(
 
 // Reads into so many bytes and so many for the classes.
 pub fn read_second(expr: &[u8], room: usize, class_room: usize) {
-    let mut list = [0u8; 15360];
+    let mut list = [0u8; 23040];
     let mut classes = [0u8; 30720];
     read_second_into(
         expr,
         &mut list,
-        at_most(room, 15360),
+        at_most(room, 23040),
         &mut classes,
         at_most(class_room, 30720),
     );
@@ -122,7 +122,7 @@ pub fn by_list(call: u8, list: &[u8], classes: &[u8], text: &[u8], numbers: &mut
 
 // The bytes of so many records: no list has more than 1,920.
 fn record_bytes(count: usize) -> usize {
-    if count <= 1920 { 8 * count } else { 0 }
+    if count <= 1920 { 12 * count } else { 0 }
 }
 
 // The bytes of so many class records.
@@ -132,7 +132,7 @@ fn class_bytes(count: usize) -> usize {
 
 // A call by the list of an expression of the first syntax.
 pub fn by_first(call: u8, expr: &[u8], text: &[u8], numbers: &mut [u64]) {
-    let mut list = [0u8; 15360];
+    let mut list = [0u8; 23040];
     let ReadAnswer::Read { records, pieces: _ } = reader::read(expr, &mut list) else {
         return;
     };
@@ -147,7 +147,7 @@ pub fn by_first(call: u8, expr: &[u8], text: &[u8], numbers: &mut [u64]) {
 
 // The same of the second syntax.
 pub fn by_second(call: u8, expr: &[u8], text: &[u8], numbers: &mut [u64]) {
-    let mut list = [0u8; 15360];
+    let mut list = [0u8; 23040];
     let mut classes = [0u8; 30720];
     let answer = reader::read_second(expr, &mut list, &mut classes);
     let CountedAnswer::Counted {

@@ -5,13 +5,17 @@ use mathlib.Core.List.{List, [], _∷_}
 use native.Mathlib.Omega.{arith}
 use lib.ListN.{getD}
 use denote.Enum.Declared.{tagOf}
+use Rattle.tree.specs.RefusalNumbers.{list-not-good, buffer-too-short}
 use Rattle.reader.specs.Answer.{refusing}
 use Rattle.reader.specs.SecondAnswer.{refusing-counts}
 use Rattle.picker.specs.declared.Picked.{Picked}
 use Rattle.picker.specs.declared.Picked.the-variants.{Written, NoRoom}
 use Rattle.picker.proofs.Picked.{the-type as picked-type}
+use Rattle.widen.specs.declared.Widened.{Widened}
+use Rattle.widen.specs.declared.Widened.the-variants.{Written as Wide-written, NotGood, NoRoom as Wide-too-long}
+use Rattle.widen.proofs.Widened.{the-type as widened-type}
 use Rattle.foamlattice.specs.Packed.{packed}
-use Rattle.foamlattice.specs.Promise.{read-packed, second-packed, pick-packed}
+use Rattle.foamlattice.specs.Promise.{read-packed, second-packed, pick-packed, widen-packed}
 
 -- the numbers of a picking: that of an output written is its own
 abbrev pub pick-numbers : Picked → List ℕ
@@ -24,6 +28,19 @@ pick-number-at NoRoom = refl
 pub told-pick : (answer : Picked) (tag : ℕ) → tagOf picked-type answer ≡ tag
     → pick-packed answer ≡ getD (pick-numbers answer) tag 0
 told-pick answer tag e = pick-number-at answer ∙ ap (λ (k : ℕ). getD (pick-numbers answer) k 0) e
+
+-- the numbers of turning an old list into one of today: that of a list written is its own
+abbrev pub widen-numbers : Widened → List ℕ
+widen-numbers answer = widen-packed answer ∷ packed list-not-good 0 0 0 ∷ packed buffer-too-short 0 0 0 ∷ []
+
+widen-number-at : (answer : Widened) → widen-packed answer ≡ getD (widen-numbers answer) (tagOf widened-type answer) 0
+widen-number-at (Wide-written records) = refl
+widen-number-at NotGood = refl
+widen-number-at Wide-too-long = refl
+
+pub told-widen : (answer : Widened) (tag : ℕ) → tagOf widened-type answer ≡ tag
+    → widen-packed answer ≡ getD (widen-numbers answer) tag 0
+told-widen answer tag e = widen-number-at answer ∙ ap (λ (k : ℕ). getD (widen-numbers answer) k 0) e
 
 -- of a reading's place and count of records one is 0, so that x is the other
 pub read-number : (records pieces : ℕ) → packed 0 0 records pieces

@@ -3,4 +3,5 @@ pub mod Packed
 pub mod Promise
 pub mod Bounds
 pub mod Unique
+pub mod WideningLaws
 pub mod Calls

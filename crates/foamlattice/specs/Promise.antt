@@ -13,6 +13,9 @@ use Rattle.finder.specs.Promise.{Match-answers, Search-answers}
 use Rattle.picker.specs.declared.Picked.{Picked}
 use Rattle.picker.specs.declared.Picked.the-variants.{Written, NoRoom}
 use Rattle.picker.specs.Promise.{Picks}
+use Rattle.widen.specs.declared.Widened.{Widened}
+use Rattle.widen.specs.declared.Widened.the-variants.{Written as Wide-written, NotGood, NoRoom as Wide-too-long}
+use Rattle.widen.specs.Promise.{Widens, widen-refusal}
 use Rattle.foamlattice.specs.Packed.{packed}
 
 -- read: x is the count of records, or the place of a refusal, the other of which is 0; y is the count of pieces
@@ -45,6 +48,15 @@ pick-length NoRoom = 0
 abbrev pub pick-packed : Picked → ℕ
 pick-packed answer = packed 0 (pick-flag answer) (pick-length answer) 0
 
+-- widen: x is the count of records
+abbrev pub widen-count : Widened → ℕ
+widen-count (Wide-written records) = records
+widen-count NotGood = 0
+widen-count Wide-too-long = 0
+
+abbrev pub widen-packed : Widened → ℕ
+widen-packed answer = packed (widen-refusal answer) 0 (widen-count answer) 0
+
 -- the number r packs right numbers of a match
 pub record Matching (list classes text : List ℕ) (r : ℕ) : Type 0 where
   pub numbers : Found-numbers
@@ -74,3 +86,9 @@ pub record Picking (input before after : List ℕ) (r : ℕ) : Type 0 where
   pub answer : Picked
   pub right : Picks input before after answer
   pub as-number : r ≡ pick-packed answer
+
+-- the buffer afterwards and the number r are those of a right turning of an old list into one of today
+pub record Widening (old before after : List ℕ) (r : ℕ) : Type 0 where
+  pub answer : Widened
+  pub right : Widens old before after answer
+  pub as-number : r ≡ widen-packed answer

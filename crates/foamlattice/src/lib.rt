@@ -19,6 +19,10 @@ use reader::check;
 use reader::check_second;
 use reader::read;
 use reader::read_second;
+use tree::refusal_numbers::BUFFER_TOO_SHORT;
+use tree::refusal_numbers::LIST_NOT_GOOD;
+use widen::Widened;
+use widen::widen;
 ghost use mathlib.Core.Path.{_≡_};
 ghost use lib.ListN.{length};
 ghost use Rattle.reader.specs.Answer.{answered, records-after};
@@ -41,6 +45,7 @@ ghost use Rattle.foamlattice.specs.Promise.{
   Starting,
   Stepping,
   Picking,
+  Widening,
 };
 
 // Reads an expression of the first syntax into tree records.
@@ -173,6 +178,19 @@ pub extern "C" fn foam_step(records: &[u8], classes: &[u8], words: &mut [u64], b
     let answer = step(records, classes, words, byte);
     let numbers = numbers_of(answer);
     pack_marked(numbers)
+}
+
+// Turns a good list of the old layout, of eight bytes a record, into one of today with the place 0 in every record.
+#[no_mangle]
+pub extern "C" fn foam_widen(old: &[u8], records: &mut [u8]) -> u64
+    ensures { λ r. ⌜ Widening (now (old .entry)) (now (records .entry)) (now (records .exit)) r ⌝ }
+{
+    let answer = widen(old, records);
+    match answer {
+        Widened::Written { records } => pack(0, false, records, 0),
+        Widened::NotGood => pack(LIST_NOT_GOOD, false, 0, 0),
+        Widened::NoRoom => pack(BUFFER_TOO_SHORT, false, 0, 0),
+    }
 }
 
 // Writes the whole output of `pick` for an input: the expression is read once, and its tables are made once for all

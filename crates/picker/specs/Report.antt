@@ -39,7 +39,7 @@ pub record Refusal-read (bytes : List ℕ) (number place : ℕ) : Type 0 where
   pub small-number : number < 10
   pub small-place : place < 10000
 
--- a tree with at most 128 pieces has at most 1,920 nodes, so 15,360 bytes hold its records
+-- a tree with at most 128 pieces has at most 1,920 nodes, so 23,040 bytes hold its records
 records-fit : (t : Tree Leaf) → ltb most-pieces (piece-count t) ≡ false
     → record-size * nodes t ≤ record-size * most-records
 records-fit t few = omega (arith, nodes-per-piece t, ltb-false most-pieces (piece-count t) few)

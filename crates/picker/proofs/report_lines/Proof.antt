@@ -1,9 +1,12 @@
 -- `picker::report_lines` meets its contract: what reading the first line answers is the expression's outcome, and what
 -- is printed for it is reported.
+use Prim.Native.Nat.{_*_}
 use mathlib.Core.Path.{sym, ap, _∙_}
 use native.Mathlib.Omega.{arith}
 use lib.ListN.{take, replicate}
 use lib.Seq.{length-take-le}
+use Rattle.tree.specs.Limits.{most-records}
+use Rattle.tree.specs.Layout.{record-size}
 use Rattle.reader.specs.Answer.{numbers}
 use Rattle.reader.specs.Kept.{Kept, kept}
 use Rattle.picker.specs.Report.{Refusal-read, told, read-outcome, reports-refusal, reports-texts, texts-space}
@@ -28,13 +31,16 @@ read-by c = c .before .before .before
 refusal : (c : tie.After-answer)
     → Refusal-read (take (line (refused-by c) .line-end .result) (start (refused-by c) .args .input .now))
     (c .answer .given .0 .0) (c .answer .given .0 .1 .0)
-refusal c = told _ 15360 _ _ (omega arith) (sym (ap numbers (c .answer .given .1)) ∙ refused-by c .read .ensures .0)
+refusal c = told _ (record-size * most-records) _ _ (omega arith) (sym (ap numbers (c .answer .given .1))
+    ∙ refused-by c .read .ensures .0)
 
 -- the records of the first line stand in the list
 records : (c : tie.After-answer2)
-    → Kept (take (line (read-by c) .line-end .result) (start (read-by c) .args .input .now)) (replicate 15360 0)
+    → Kept (take (line (read-by c) .line-end .result) (start (read-by c) .args .input .now))
+    (replicate (record-size * most-records) 0)
     (read-by c .read .last .1 .0) (c .answer2 .given .0 .0) (c .answer2 .given .0 .1 .0)
-records c = kept _ (replicate 15360 0) _ _ _ (sym (ap numbers (c .answer2 .given .1)) ∙ read-by c .read .ensures .0)
+records c = kept _ (replicate (record-size * most-records) 0) _ _ _ (sym (ap numbers (c .answer2 .given .1))
+    ∙ read-by c .read .ensures .0)
     (read-by c .read .ensures .1)
 
 line-end-requires : tie.Need-line-end-requires
