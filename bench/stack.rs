@@ -1,6 +1,6 @@
 //! The stack that each call of the library needs: the most over expressions that are large or deep, and over short lists.
 
-use crate::foamlattice::{self, MOST_CLASS_BYTES, MOST_OUTPUT, MOST_RECORD_BYTES, MOST_WORDS};
+use crate::foamlattice::{self, MOST_CLASS_BYTES, MOST_OUTPUT, MOST_RECORD_BYTES, MOST_WORDS, RECORD_SIZE};
 use crate::generate::{self, Random};
 use crate::{expected, workloads, written};
 use std::ffi::c_void;
@@ -59,7 +59,7 @@ fn short_lists() -> Vec<(Vec<u8>, Vec<u8>)> {
     let list = |e: &Vec<u8>| written::read(e).ok().map(|read| read.laid_out());
     let read = written.iter().filter_map(list).map(|l| (expected::records(&l.tree), l.class_records()));
     let chain = (expected::records(&generate::chain(SHORT - 1)), vec![]);
-    read.chain([chain]).filter(|(list, _)| list.len() <= 8 * SHORT).collect()
+    read.chain([chain]).filter(|(list, _)| list.len() <= RECORD_SIZE * SHORT).collect()
 }
 
 fn ignore<T>(_: T) {}

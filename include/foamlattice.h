@@ -26,6 +26,7 @@
  *   foam_start    1 where the accepting state is marked     0; of a refusal its place    0
  *   foam_step     1 where the accepting state is marked     1 where nothing is left,     0
  *                                                           else 0
+ *   foam_widen    0                                         records; 0 of a refusal      0
  *   foam_pick     1 written, 0 too short a buffer           bytes written                0
  *
  * A refusal changes no byte and no word that was lent.
@@ -44,9 +45,9 @@
 
 /* Bytes of a tree record and of a class record; the longest record list and the most class records that a call can write;
  * the most words that marks can take, one for each piece. */
-#define FOAM_RECORD_SIZE 8
+#define FOAM_RECORD_SIZE 12
 #define FOAM_CLASS_SIZE 32
-#define FOAM_MOST_RECORD_BYTES 15360
+#define FOAM_MOST_RECORD_BYTES 23040
 #define FOAM_MOST_CLASS_BYTES 30720
 #define FOAM_MOST_WORDS 128
 
@@ -61,7 +62,7 @@ uint64_t foam_check(const uint8_t *expression, size_t expression_length);
 /* Checks an expression of the second syntax: every refusal of foam_read2 but 9 and 15, and the counts. */
 uint64_t foam_check2(const uint8_t *expression, size_t expression_length);
 
-/* Reads an expression of the first syntax into tree records of 8 bytes. Refusals, in this order: 1 no bytes; 2 more than
+/* Reads an expression of the first syntax into tree records of 12 bytes. Refusals, in this order: 1 no bytes; 2 more than
  * 1,024 bytes; the first from left to right of 3 operand due, 4 group left open, 5 `)` with no group open, 6 a 33rd open
  * group, 7 a bad `\`; 8 more than 128 pieces; 9 the record buffer is too short. Bytes past the records are not written. */
 uint64_t foam_read(const uint8_t *expression, size_t expression_length, uint8_t *records, size_t records_length);
@@ -107,6 +108,11 @@ uint64_t foam_step(const uint8_t *records, size_t records_length, const uint8_t 
  * many short ones. Bytes past the output are not written. Nothing is refused by number: with a buffer shorter than
  * FOAM_MOST_OUTPUT, whatever the input, the flag is 0 and no byte is written. */
 uint64_t foam_pick(const uint8_t *input, size_t input_length, uint8_t *output, size_t output_length);
+
+/* Turns a good list of the layout that had no places, of 8 bytes a record, into one of today, of 12 bytes a record, with
+ * the place 0 in every record; its class records stay as they are. Refusals: 10 not a good list of that layout; 9 the
+ * record buffer is shorter than 12 bytes for each record. Bytes past the records are not written. */
+uint64_t foam_widen(const uint8_t *old, size_t old_length, uint8_t *records, size_t records_length);
 
 #ifdef __cplusplus
 }

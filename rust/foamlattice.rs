@@ -50,6 +50,7 @@ unsafe extern "C" {
         byte: u8,
     ) -> u64;
     fn foam_pick(input: *const u8, input_length: usize, output: *mut u8, output_length: usize) -> u64;
+    fn foam_widen(old: *const u8, old_length: usize, records: *mut u8, records_length: usize) -> u64;
 }
 
 /// Why a call was refused: its number, and its place (0 unless the refusal names one). docs/REFERENCE.md has them all.
@@ -77,7 +78,10 @@ pub struct Told {
 }
 
 /// Bytes of a record.
-pub const RECORD_SIZE: usize = 8;
+pub const RECORD_SIZE: usize = 12;
+
+/// Bytes of a record in the layout that had no places.
+pub const OLD_RECORD_SIZE: usize = 8;
 
 /// Bytes of a class record.
 pub const CLASS_SIZE: usize = 32;
@@ -93,6 +97,11 @@ pub const MOST_WORDS: usize = 128;
 
 /// The shortest buffer that `pick` takes: no output is longer than this.
 pub const MOST_OUTPUT: usize = 1_048_575;
+
+/// The number in two bytes of a record.
+fn number(bytes: &[u8]) -> usize {
+    usize::from(u16::from_le_bytes([bytes[0], bytes[1]]))
+}
 
 struct Packed(u64);
 
@@ -149,7 +158,22 @@ impl Expression {
         Ok(Expression { records, classes, pieces: counts.pieces })
     }
 
-    /// The list of its tree records.
+    /// The expression of a good list of the layout that had no places, with its class records: each of its places is 0. Refusals
+    /// as [`widen`] and [`start`].
+    pub fn widened(old: &[u8], classes: &[u8]) -> Result<Expression, Refusal> {
+        let mut records = vec![0; MOST_RECORD_BYTES.min(old.len() / OLD_RECORD_SIZE * RECORD_SIZE)];
+        widen(old, &mut records)?;
+        start(&records, classes, &mut [0; MOST_WORDS])?;
+        let pieces = records.chunks_exact(RECORD_SIZE).map(|record| number(&record[6..8]) + 1).max().unwrap_or(0);
+        Ok(Expression { records, classes: classes.to_vec(), pieces })
+    }
+
+    /// The place of each of its nodes, in the order of the records: which byte of the expression made it.
+    pub fn places(&self) -> impl Iterator<Item = usize> + '_ {
+        self.records.chunks_exact(RECORD_SIZE).map(|record| number(&record[8..10]))
+    }
+
+    /// The list of its tree records; bytes 8 and 9 of each have the place in the expression that made its node.
     pub fn records(&self) -> &[u8] {
         &self.records
     }
@@ -256,6 +280,15 @@ pub fn step(records: &[u8], classes: &[u8], words: &mut [u64], byte: u8) -> Resu
         foam_step(records.as_ptr(), records.len(), classes.as_ptr(), classes.len(), words.as_mut_ptr(), words.len(), byte)
     });
     packed.checked().map(|p| p.told())
+}
+
+/// Turns a good list of the layout that had no places, of 8 bytes a record, into one of today with the place 0 in every
+/// record, at the front of `records`, and tells how many records it has; on a refusal no byte is changed. It is refused by 10
+/// where the old list is not good, then by 9 where `records` has fewer than 12 bytes for each of its records.
+pub fn widen(old: &[u8], records: &mut [u8]) -> Result<usize, Refusal> {
+    // SAFETY: both slices are valid for their lengths for the call, and `records` is lent to it alone.
+    let packed = Packed(unsafe { foam_widen(old.as_ptr(), old.len(), records.as_mut_ptr(), records.len()) });
+    packed.checked().map(|p| p.x())
 }
 
 /// Which later lines of an input match its first one: the lines that the program `pick` prints, at the front of `output`.

@@ -1,5 +1,5 @@
-/* Reads expressions of both syntaxes, matches some dates, searches a text, steps through another, picks lines, and checks
- * rules as an editor would. */
+/* Reads expressions of both syntaxes, matches some dates, searches a text, steps through another, shows places, takes an old
+ * list, picks lines, and checks rules as an editor would. */
 #include <stdio.h>
 #include <string.h>
 
@@ -76,6 +76,22 @@ int main(void) {
     answer = foam_read(bytes("02-2(8|9)"), 9, list, sizeof list);
     answer = foam_match(list, FOAM_RECORD_SIZE * x(answer), classes, 0, bytes("02-29"), 5);
     printf("02-2(8|9) in the first syntax: 02-29 %s\n", flag(answer) ? "yes" : "no");
+
+    /* Places: bytes 8 and 9 of a record, the low one first, say which byte of the expression made its node. */
+    printf("places of its nodes:");
+    for (size_t at = 0; at < records_length; at += FOAM_RECORD_SIZE)
+        printf(" %u", records[at + 8] + 256u * records[at + 9]);
+    printf("\n");
+
+    /* A list of the layout that had no places, as an archive may hold it: each of its records was the first 8 bytes of
+     * today's. */
+    static uint8_t old[FOAM_MOST_RECORD_BYTES];
+    size_t count = records_length / FOAM_RECORD_SIZE;
+    for (size_t i = 0; i < count; i++)
+        memcpy(old + 8 * i, records + FOAM_RECORD_SIZE * i, 8);
+    answer = foam_widen(old, 8 * count, list, sizeof list);
+    answer = foam_match(list, FOAM_RECORD_SIZE * x(answer), classes, classes_length, bytes("02-29"), 5);
+    printf("an old list of %zu bytes: 02-29 %s\n", 8 * count, flag(answer) ? "yes" : "no");
 
     /* Pick: an expression of the first syntax and its texts, a line each; the answer says how long the output is. */
     static uint8_t output[FOAM_MOST_OUTPUT];

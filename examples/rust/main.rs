@@ -1,12 +1,12 @@
-//! Reads expressions of both syntaxes, matches some dates, searches a text, steps through another, picks lines, and checks
-//! rules as an editor would.
+//! Reads expressions of both syntaxes, matches some dates, searches a text, steps through another, shows places, takes an old
+//! list, picks lines, and checks rules as an editor would.
 
 // An example need not use all of it.
 #[allow(dead_code)]
 #[path = "../../rust/foamlattice.rs"]
 mod foamlattice;
 
-use foamlattice::{Expression, Refusal, CLASS_SIZE, MOST_OUTPUT, MOST_WORDS, RECORD_SIZE};
+use foamlattice::{Expression, Refusal, CLASS_SIZE, MOST_OUTPUT, MOST_WORDS, OLD_RECORD_SIZE, RECORD_SIZE};
 
 fn yes_or_no(yes: bool) -> &'static str {
     if yes {
@@ -52,6 +52,15 @@ fn main() -> Result<(), Refusal> {
     // The first syntax has no classes.
     let first = Expression::first(b"02-2(8|9)")?;
     println!("02-2(8|9) in the first syntax: 02-29 {}", yes_or_no(first.is_match(b"02-29")?));
+
+    // Places: which byte of the expression made each node, in the order of the records.
+    let places: Vec<String> = february.places().map(|place| place.to_string()).collect();
+    println!("places of its nodes: {}", places.join(" "));
+
+    // A list of the layout that had no places, as an archive may hold it: each of its records was the first 8 bytes of today's.
+    let old: Vec<u8> = february.records().chunks(RECORD_SIZE).flat_map(|record| &record[..OLD_RECORD_SIZE]).copied().collect();
+    let archived = Expression::widened(&old, february.classes())?;
+    println!("an old list of {} bytes: 02-29 {}", old.len(), yes_or_no(archived.is_match(b"02-29")?));
 
     // Pick: an expression of the first syntax and its texts, a line each, in one call.
     let mut output = vec![0; MOST_OUTPUT];

@@ -1,6 +1,6 @@
 //! One call of the library, held against what is expected: its answer, and every byte and word that was lent to it.
 
-use crate::expected::{self, Automaton, Tree, CLASS_SIZE};
+use crate::expected::{self, Automaton, Tree, CLASS_SIZE, RECORD_SIZE};
 use crate::wrapper::foamlattice::MOST_OUTPUT;
 use crate::written::{self, LaidOut, Written, MOST_NODES};
 use std::fmt::Debug;
@@ -51,6 +51,7 @@ unsafe extern "C" {
         words_length: usize,
         byte: u8,
     ) -> u64;
+    fn foam_widen(old: *const u8, old_length: usize, records: *mut u8, records_length: usize) -> u64;
     fn foam_pick(input: *const u8, input_length: usize, output: *mut u8, output_length: usize) -> u64;
 }
 
@@ -213,6 +214,25 @@ pub fn read_second(e: &[u8], rooms: [usize; 2]) -> Option<List> {
     meant.filter(|_| good).map(|meant| List { written: Some(meant), ..List::new(list, classes) })
 }
 
+/// Turns a list of the old layout into one of today, in a buffer of `room` bytes, held against its answer and every byte.
+pub fn widen(old: &[u8], room: usize) {
+    let input = || format!("the old list {old:x?} with a buffer of {room} bytes");
+    let mut buffer = vec![FILL; room];
+    let mut after = buffer.clone();
+    // SAFETY: as above.
+    let answer = Answer::of(unsafe { foam_widen(old.as_ptr(), old.len(), buffer.as_mut_ptr(), buffer.len()) });
+    let expected = match expected::widened(old) {
+        None => Answer::refused(10, 0),
+        Some(list) if room < list.len() => Answer::refused(9, 0),
+        Some(list) => {
+            after[..list.len()].copy_from_slice(&list);
+            Answer::counts(list.len() / RECORD_SIZE, 0, 0)
+        }
+    };
+    hold("widening", input, answer, expected);
+    hold("the record buffer", input, buffer, after);
+}
+
 /// Picks in one call, into a buffer of `room` bytes, where `output` is to be printed.
 pub fn pick(input: &[u8], room: usize, output: &[u8]) {
     let shown = || format!("the input \"{}\" with a buffer of {room} bytes", input.escape_ascii());
@@ -358,7 +378,7 @@ impl List {
     fn show(&self) -> String {
         let record = |r: &[u8]| r.iter().map(|b| format!("{b:02x}")).collect::<String>();
         let [list, classes] =
-            [self.bytes.chunks(8), self.classes.chunks(CLASS_SIZE)].map(|rs| rs.map(record).collect::<Vec<_>>());
+            [self.bytes.chunks(RECORD_SIZE), self.classes.chunks(CLASS_SIZE)].map(|rs| rs.map(record).collect::<Vec<_>>());
         format!("{} with {} bytes of classes {}", list.join(" "), self.classes.len(), classes.join(" "))
     }
 }

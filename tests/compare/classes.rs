@@ -2,7 +2,7 @@
 //! lengths round those that are needed.
 
 use crate::calls::{self, List};
-use crate::expected::{self, CLASS_SIZE};
+use crate::expected::{self, CLASS_SIZE, RECORD_SIZE};
 use crate::generate::{self, Random};
 use crate::wrapper::foamlattice::{MOST_CLASS_BYTES, MOST_RECORD_BYTES};
 use crate::written::{self, MOST_NODES};
@@ -14,8 +14,8 @@ pub const ENOUGH: [usize; 2] = [MOST_RECORD_BYTES, MOST_CLASS_BYTES];
 /// The bytes that an expression's records and classes need; some numbers for one that is refused.
 pub fn need(e: &[u8]) -> [usize; 2] {
     match written::read(e) {
-        Ok(written) if written.nodes() <= MOST_NODES => [8 * written.nodes(), CLASS_SIZE * written.classes()],
-        _ => [8, 32],
+        Ok(written) if written.nodes() <= MOST_NODES => [RECORD_SIZE * written.nodes(), CLASS_SIZE * written.classes()],
+        _ => [RECORD_SIZE, CLASS_SIZE],
     }
 }
 
@@ -170,6 +170,7 @@ pub fn trees(r: &mut Random) -> usize {
         let lean = r.below(3);
         generate::tree(r, nodes, lean, b"abc", &mut tree);
         let count = generate::put_classes(r, &mut tree);
+        generate::put_places(r, &mut tree);
         let classes = generate::class_records(r, count);
         let list = List::new(expected::records(&tree), classes);
         list.compare_text(&r.bytes(30, b"abc"));

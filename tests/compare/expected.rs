@@ -20,6 +20,8 @@ pub struct Node {
     pub kind: Kind,
     pub left: usize,
     pub right: usize,
+    /// The place in the expression of what made it.
+    pub place: usize,
 }
 
 pub type Tree = Vec<Node>;
@@ -30,29 +32,42 @@ pub type Set = [bool; 256];
 pub const NONE: usize = 65_535;
 /// Bytes of a class record.
 pub const CLASS_SIZE: usize = 32;
+/// Bytes of a record, and of one of the old layout.
+pub const RECORD_SIZE: usize = 12;
+pub const OLD_RECORD_SIZE: usize = 8;
+/// The largest place that a record may have.
+pub const MOST_PLACE: usize = 1_023;
 
 fn is_special(b: u8) -> bool {
     b"()|*\\".contains(&b)
 }
 
-/// What is waiting on the operator stack: an open group with its place, or a binary sign whose right operand is being read.
+/// What is waiting on the operator stack: an open group or a bar, each with its place, or a joint; the right operand of the
+/// last two is being read.
 #[derive(Clone, Copy, PartialEq)]
 enum Waiting {
     Group(usize),
-    Bar,
+    Bar(usize),
     Joint,
+}
+
+/// A complete operand: the number of its root, and the place where it begins as it is written, its `(` included.
+#[derive(Clone, Copy)]
+struct Operand {
+    root: usize,
+    begin: usize,
 }
 
 struct Stacks {
     tree: Tree,
-    operands: Vec<usize>,
+    operands: Vec<Operand>,
     waiting: Vec<Waiting>,
 }
 
 impl Stacks {
-    fn push(&mut self, kind: Kind, left: usize, right: usize) {
-        self.tree.push(Node { kind, left, right });
-        self.operands.push(self.tree.len() - 1);
+    fn push(&mut self, kind: Kind, left: usize, right: usize, place: usize, begin: usize) {
+        self.tree.push(Node { kind, left, right, place });
+        self.operands.push(Operand { root: self.tree.len() - 1, begin });
     }
     fn reduce(&mut self, while_waiting: fn(Waiting) -> bool) {
         while let Some(&top) = self.waiting.last() {
@@ -62,8 +77,11 @@ impl Stacks {
             self.waiting.pop();
             let right = self.operands.pop().unwrap();
             let left = self.operands.pop().unwrap();
-            let kind = if top == Waiting::Bar { Kind::Union } else { Kind::Catenation };
-            self.push(kind, left, right);
+            let (kind, place) = match top {
+                Waiting::Bar(bar) => (Kind::Union, bar),
+                _ => (Kind::Catenation, right.begin),
+            };
+            self.push(kind, left.root, right.root, place, left.begin);
         }
     }
     fn depth(&self) -> usize {
@@ -90,17 +108,17 @@ pub fn read(e: &[u8]) -> Result<Tree, (u8, usize)> {
         match b {
             b'*' => {
                 let operand = s.operands.pop().unwrap();
-                s.push(Kind::Star, operand, NONE);
+                s.push(Kind::Star, operand.root, NONE, i, operand.begin);
             }
             b'|' => {
-                s.reduce(|w| w == Waiting::Bar || w == Waiting::Joint);
-                s.waiting.push(Waiting::Bar);
+                s.reduce(|w| !matches!(w, Waiting::Group(_)));
+                s.waiting.push(Waiting::Bar(i));
                 have = false;
             }
             b')' => {
-                s.reduce(|w| w == Waiting::Bar || w == Waiting::Joint);
+                s.reduce(|w| !matches!(w, Waiting::Group(_)));
                 match s.waiting.pop() {
-                    Some(Waiting::Group(_)) => {}
+                    Some(Waiting::Group(opening)) => s.operands.last_mut().unwrap().begin = opening,
                     _ => return Err((5, i)),
                 }
             }
@@ -116,7 +134,7 @@ pub fn read(e: &[u8]) -> Result<Tree, (u8, usize)> {
                     s.waiting.push(Waiting::Group(i));
                     have = false;
                 } else {
-                    let mut c = b;
+                    let (mut c, place) = (b, i);
                     if b == b'\\' {
                         if i + 1 >= e.len() || !is_special(e[i + 1]) {
                             return Err((7, i));
@@ -124,7 +142,7 @@ pub fn read(e: &[u8]) -> Result<Tree, (u8, usize)> {
                         c = e[i + 1];
                         i += 1;
                     }
-                    s.push(Kind::Character(c), NONE, NONE);
+                    s.push(Kind::Character(c), NONE, NONE, place, place);
                     have = true;
                 }
             }
@@ -134,7 +152,7 @@ pub fn read(e: &[u8]) -> Result<Tree, (u8, usize)> {
     if !have {
         return Err((3, e.len()));
     }
-    s.reduce(|w| w == Waiting::Bar || w == Waiting::Joint);
+    s.reduce(|w| !matches!(w, Waiting::Group(_)));
     if let Some(Waiting::Group(place)) = s.waiting.pop() {
         return Err((4, place));
     }
@@ -221,7 +239,7 @@ pub fn records(t: &Tree) -> Vec<u8> {
             Kind::Empty => (6, 0, n.left),
         };
         out.extend([kind, character]);
-        for number in [first, n.right, piece[i]] {
+        for number in [first, n.right, piece[i], n.place, 0] {
             out.extend((number as u16).to_le_bytes());
         }
     }
@@ -230,13 +248,17 @@ pub fn records(t: &Tree) -> Vec<u8> {
 
 /// The tree of a good list.
 pub fn decode(list: &[u8]) -> Option<Tree> {
-    if list.is_empty() || list.len() % 8 != 0 || list.len() > 15 * 128 * 8 {
+    if list.is_empty() || list.len() % RECORD_SIZE != 0 || list.len() > 15 * 128 * RECORD_SIZE {
         return None;
     }
     let mut t: Tree = vec![];
     let mut roots: Vec<usize> = vec![];
     let mut classes = 0;
-    for r in list.chunks(8) {
+    for r in list.chunks(RECORD_SIZE) {
+        let place = r[8] as usize + 256 * r[9] as usize;
+        if place > MOST_PLACE {
+            return None;
+        }
         classes += (r[0] == 5) as usize;
         let (kind, pops) = match r[0] {
             1 => (Kind::Character(r[1]), 0),
@@ -252,10 +274,22 @@ pub fn decode(list: &[u8]) -> Option<Tree> {
         }
         let mut below = roots.split_off(roots.len() - pops);
         below.resize(2, NONE);
-        t.push(Node { kind, left: below[0], right: below[1] });
+        t.push(Node { kind, left: below[0], right: below[1], place });
         roots.push(t.len() - 1);
     }
     (roots.len() == 1 && pieces(&t).1 <= 128 && records(&t) == list).then_some(t)
+}
+
+/// The list with the first bytes of its records alone, those of the old layout.
+pub fn old_layout(list: &[u8]) -> Vec<u8> {
+    list.chunks(RECORD_SIZE).flat_map(|record| record[..OLD_RECORD_SIZE].to_vec()).collect()
+}
+
+/// What a list of the old layout is turned into: the list of its tree, with the place 0 in every record, if it has one.
+pub fn widened(old: &[u8]) -> Option<Vec<u8>> {
+    let whole = old.len() % OLD_RECORD_SIZE == 0;
+    let wide: Vec<u8> = old.chunks(OLD_RECORD_SIZE).flat_map(|record| [record, &[0; 4][..]].concat()).collect();
+    decode(&wide).filter(|_| whole).map(|tree| records(&tree))
 }
 
 /// How many class leaves a tree has.

@@ -1,6 +1,6 @@
 //! Inputs for the comparison, from a fixed seed: valid and damaged, long and short.
 
-use crate::expected::{Kind, Node, Tree, CLASS_SIZE, NONE};
+use crate::expected::{Kind, Node, Tree, CLASS_SIZE, MOST_PLACE, NONE, RECORD_SIZE};
 use crate::written::Written;
 
 pub struct Random(u64);
@@ -208,22 +208,22 @@ pub fn sample(r: &mut Random, written: &Written, most: usize, out: &mut Vec<u8>)
     }
     match written {
         _ if r.one_in(60) => out.push(r.word() as u8),
-        Written::Byte(byte) => out.push(*byte),
-        Written::OneOf(set) => {
+        Written::Byte(byte, _) => out.push(*byte),
+        Written::OneOf(set, _) => {
             let members: Vec<u8> = all_bytes().into_iter().filter(|&byte| set[byte as usize]).collect();
             if !members.is_empty() {
                 out.push(r.pick(&members));
             }
         }
-        Written::InARow(parts) => parts.iter().for_each(|part| sample(r, part, most, out)),
+        Written::InARow(parts) => parts.iter().for_each(|part| sample(r, &part.1, most, out)),
         Written::AnyOf(parts) => {
             let chosen = r.below(parts.len());
-            sample(r, &parts[chosen], most, out);
+            sample(r, &parts[chosen].1, most, out);
         }
-        Written::Star(operand) => (0..r.below(4)).for_each(|_| sample(r, operand, most, out)),
-        Written::OneOrMore(operand) => (0..1 + r.below(3)).for_each(|_| sample(r, operand, most, out)),
-        Written::NoneOrOne(operand) => (0..r.below(2)).for_each(|_| sample(r, operand, most, out)),
-        Written::Between(fewest, times, operand) => {
+        Written::Star(operand, _) => (0..r.below(4)).for_each(|_| sample(r, operand, most, out)),
+        Written::OneOrMore(operand, _) => (0..1 + r.below(3)).for_each(|_| sample(r, operand, most, out)),
+        Written::NoneOrOne(operand, _) => (0..r.below(2)).for_each(|_| sample(r, operand, most, out)),
+        Written::Between(fewest, times, operand, _) => {
             // One time in eight a part too many or too few.
             let [fewest, times] = if r.one_in(8) { [fewest.saturating_sub(1), times + 1] } else { [*fewest, *times] };
             (0..fewest + r.below(times - fewest + 1)).for_each(|_| sample(r, operand, most, out));
@@ -242,7 +242,7 @@ pub fn short_sample(r: &mut Random, written: &Written) -> Vec<u8> {
 /// One random change to a list: to some byte, to a byte by a little, or the last records cut off.
 pub fn damage_list(r: &mut Random, list: &mut Vec<u8>) {
     match r.below(3) {
-        1 => list.truncate(r.below(list.len() / 8 + 1) * 8),
+        1 => list.truncate(r.below(list.len() / RECORD_SIZE + 1) * RECORD_SIZE),
         2 if !list.is_empty() => {
             let at = r.below(list.len());
             list[at] = list[at].wrapping_add(r.below(3) as u8);
@@ -252,7 +252,7 @@ pub fn damage_list(r: &mut Random, list: &mut Vec<u8>) {
 }
 
 fn leaf(kind: Kind) -> Node {
-    Node { kind, left: NONE, right: NONE }
+    Node { kind, left: NONE, right: NONE, place: 0 }
 }
 
 /// Turns some leaves of a tree into class leaves; answers how many.
@@ -265,6 +265,26 @@ pub fn put_classes(r: &mut Random, tree: &mut Tree) -> usize {
         }
     }
     count
+}
+
+/// Gives each node of a tree some place; one tree in eight gets one that no record may have.
+pub fn put_places(r: &mut Random, tree: &mut Tree) {
+    for node in &mut *tree {
+        node.place = [r.below(MOST_PLACE + 1), MOST_PLACE, 0][r.below(3)];
+    }
+    if r.one_in(8) {
+        let at = r.below(tree.len());
+        tree[at].place = MOST_PLACE + 1 + r.below(3);
+    }
+}
+
+/// The same list with other places in its records, all that a record may have.
+pub fn with_places(r: &mut Random, list: &[u8]) -> Vec<u8> {
+    let mut list = list.to_vec();
+    for record in list.chunks_mut(RECORD_SIZE) {
+        record[8..10].copy_from_slice(&(r.below(MOST_PLACE + 1) as u16).to_le_bytes());
+    }
+    list
 }
 
 /// Turns some leaves of a tree into leaves of the empty text.
@@ -292,7 +312,7 @@ pub fn tree(r: &mut Random, nodes: usize, lean: usize, letters: &[u8], out: &mut
     if nodes == 2 || r.one_in(6) {
         tree(r, nodes - 1, lean, letters, out);
         let left = out.len() - 1;
-        return out.push(Node { kind: Kind::Star, left, right: NONE });
+        return out.push(Node { kind: Kind::Star, left, right: NONE, place: 0 });
     }
     let small = 1 + r.below((nodes - 2).min(9));
     let left_nodes = [1 + r.below(nodes - 2), nodes - 1 - small, small][lean];
@@ -301,12 +321,12 @@ pub fn tree(r: &mut Random, nodes: usize, lean: usize, letters: &[u8], out: &mut
     tree(r, nodes - 1 - left_nodes, lean, letters, out);
     let right = out.len() - 1;
     let kind = if r.one_in(3) { Kind::Union } else { Kind::Catenation };
-    out.push(Node { kind, left, right });
+    out.push(Node { kind, left, right, place: 0 });
 }
 
 /// A character below so many stars.
 pub fn chain(stars: usize) -> Tree {
-    let star = |left| Node { kind: Kind::Star, left, right: NONE };
+    let star = |left| Node { kind: Kind::Star, left, right: NONE, place: 0 };
     std::iter::once(leaf(Kind::Character(b'a'))).chain((0..stars).map(star)).collect()
 }
 

@@ -1,6 +1,6 @@
 //! Compares the proved library, through its C interface, with an independent implementation: on all short expressions, all
 //! bytes, all lists with one byte changed, and on inputs from a fixed seed, the small ones first. Prints how many inputs of
-//! each kind agreed; the first difference ends the run with status 1, and so do fewer inputs than 1,900,000.
+//! each kind agreed; the first difference ends the run with status 1, and so do fewer inputs than 2,300,000.
 
 mod calls;
 mod classes;
@@ -8,23 +8,25 @@ mod desk;
 mod expected;
 mod generate;
 mod pick;
+mod places;
 mod program;
 mod signs;
 mod wrapper;
 mod written;
 
 use calls::List;
+use expected::RECORD_SIZE;
 use generate::Random;
 use wrapper::foamlattice::{MOST_RECORD_BYTES, MOST_WORDS};
 
 const SIGNS: &[u8] = b"ab()|*\\";
 
 /// A run that compares fewer inputs fails: something was left out.
-const FEWEST_INPUTS: usize = 1_900_000;
+const FEWEST_INPUTS: usize = 2_300_000;
 
 /// The bytes that an expression's records need; some number for one that is refused.
 fn need(e: &[u8]) -> usize {
-    expected::read(e).map_or(8, |tree| 8 * tree.len())
+    expected::read(e).map_or(RECORD_SIZE, |tree| RECORD_SIZE * tree.len())
 }
 
 /// A size that grows with the rounds, so that the first difference is met on a small input.
@@ -112,7 +114,7 @@ fn all_bytes(_: &mut Random) -> usize {
     for &b in &every {
         let mut e = vec![];
         generate::write_character(b, &mut e);
-        let list = calls::read(&e, 8).expect("one character is good");
+        let list = calls::read(&e, RECORD_SIZE).expect("one character is good");
         let start = list.compare_start(1);
         for &c in &every {
             list.compare_text(&[c]);
@@ -121,7 +123,7 @@ fn all_bytes(_: &mut Random) -> usize {
         let middle = e.repeat(9);
         let list = calls::read(&[&e[..], b"((", &middle, b")*|", &middle, b")"].concat(), MOST_RECORD_BYTES).expect("good");
         assert!(list.pieces() > 2);
-        let all = list.automaton().words(&vec![true; list.bytes.len() / 4]);
+        let all = list.automaton().words(&vec![true; 2 * list.bytes.len() / RECORD_SIZE]);
         for &c in &every {
             list.compare_step(&all, c);
         }
@@ -148,7 +150,7 @@ fn matches(r: &mut Random) -> usize {
 
 /// Words that hold a random set of states and one word more; one time in three with a bit changed.
 fn random_words(r: &mut Random, list: &List) -> Vec<u64> {
-    let marks: Vec<bool> = (0..list.bytes.len() / 4).map(|_| r.one_in(3)).collect();
+    let marks: Vec<bool> = (0..2 * list.bytes.len() / RECORD_SIZE).map(|_| r.one_in(3)).collect();
     let mut words = list.automaton().words(&marks);
     words.push(r.word());
     if r.one_in(3) {
@@ -193,6 +195,7 @@ fn trees(r: &mut Random) -> usize {
         let mut tree = vec![];
         let lean = r.below(3);
         generate::tree(r, nodes, lean, b"abc", &mut tree);
+        generate::put_places(r, &mut tree);
         let list = List::new(expected::records(&tree), vec![]);
         let text = generate::leaves(r, &tree, 60);
         list.compare_text(&text);
@@ -286,7 +289,7 @@ fn long_texts(_: &mut Random) -> usize {
 type Compare = fn(&mut Random) -> usize;
 
 fn main() {
-    let kinds: [(&str, Compare); 44] = [
+    let kinds: [(&str, Compare); 49] = [
         ("edges through the Rust wrapper", |_| wrapper::compare()),
         ("short expressions", short_expressions),
         ("pairs of bytes", all_bytes),
@@ -328,6 +331,11 @@ fn main() {
         ("damaged lists with empty texts", signs::damaged_lists),
         ("trees with empty texts", signs::trees),
         ("signs in the first syntax", signs::first_syntax),
+        ("lists with other places", places::other_places),
+        ("places and last bytes changed", places::changed_places),
+        ("old lists of expressions and trees", places::old_lists),
+        ("old lists with one byte changed", places::changed_old_lists),
+        ("damaged old lists", places::damaged_old_lists),
         ("runs of pick", pick::compare_runs),
         ("runs of pick in parts", pick::compare_runs_in_parts),
         ("calls of pick", pick::compare_calls),

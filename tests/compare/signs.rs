@@ -69,7 +69,7 @@ pub fn numbers_of_counts(_: &mut Random) -> usize {
         for at in [0, first.len(), first.len() + 1, body.len()] {
             let mut changed = body.clone();
             changed.insert(at, other);
-            calls::read_second(&[b"a{", &changed[..], b"}"].concat(), [8, 32]);
+            calls::read_second(&[b"a{", &changed[..], b"}"].concat(), [12, 32]);
         }
         compared += 5;
     }
@@ -250,6 +250,7 @@ pub fn trees(r: &mut Random) -> usize {
         generate::tree(r, nodes, lean, b"abc", &mut tree);
         generate::put_empty_texts(r, &mut tree);
         let count = generate::put_classes(r, &mut tree);
+        generate::put_places(r, &mut tree);
         let list = List::new(expected::records(&tree), generate::class_records(r, count));
         list.compare_text(&r.bytes(30, b"abc"));
         if list.pieces() > 0 {

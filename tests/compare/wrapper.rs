@@ -4,8 +4,8 @@
 pub mod foamlattice;
 
 use foamlattice::{
-    is_match, pick, read, read_second, start, step, Counts, Expression, Refusal, Told, MOST_CLASS_BYTES, MOST_OUTPUT,
-    MOST_RECORD_BYTES, MOST_WORDS,
+    is_match, pick, read, read_second, start, step, widen, Counts, Expression, Refusal, Told, MOST_CLASS_BYTES, MOST_OUTPUT,
+    MOST_RECORD_BYTES, MOST_WORDS, OLD_RECORD_SIZE, RECORD_SIZE,
 };
 
 fn first(e: &[u8]) -> Expression {
@@ -42,8 +42,8 @@ fn compare_first() -> usize {
     assert_eq!(read(&[b'a'; 1_025], &mut buffer), refused(2, 1_024));
     assert_eq!(read(&[b'('; 33], &mut buffer), refused(6, 32));
     assert_eq!(read(&[b'a'; 898], &mut buffer), refused(8, 0));
-    assert_eq!(read(&[b'a'; 897], &mut buffer[..14_343]), refused(9, 0));
-    assert_eq!(read(&[b'a'; 897], &mut buffer[..14_344]), Ok(Counts { records: 1_793, pieces: 128, classes: 0 }));
+    assert_eq!(read(&[b'a'; 897], &mut buffer[..21_515]), refused(9, 0));
+    assert_eq!(read(&[b'a'; 897], &mut buffer[..21_516]), Ok(Counts { records: 1_793, pieces: 128, classes: 0 }));
 
     let mut words = [0; MOST_WORDS];
     let steps = first(b"a*b");
@@ -178,24 +178,48 @@ fn compare_second() -> usize {
     assert_eq!(read_second(&[b'.'; 898], &mut buffers.0, &mut buffers.1), refused(8, 0));
     assert_eq!(read_second(b"((a{16,16}){16,16}){4,4}", &mut buffers.0, &mut buffers.1), refused(8, 0));
     assert_eq!(read_second(b"((a{16,16}){16,16}){4,4}*", &mut buffers.0, &mut buffers.1), refused(17, 0));
-    assert_eq!(read_second(b".", &mut buffers.0[..7], &mut buffers.1[..31]), refused(9, 0));
-    assert_eq!(read_second(b".", &mut buffers.0[..8], &mut buffers.1[..31]), refused(15, 0));
+    assert_eq!(read_second(b".", &mut buffers.0[..11], &mut buffers.1[..31]), refused(9, 0));
+    assert_eq!(read_second(b".", &mut buffers.0[..12], &mut buffers.1[..31]), refused(15, 0));
     let dots = Counts { records: 1_793, pieces: 128, classes: 897 };
-    assert_eq!(read_second(&[b'.'; 897], &mut buffers.0[..14_344], &mut buffers.1[..28_704]), Ok(dots));
+    assert_eq!(read_second(&[b'.'; 897], &mut buffers.0[..21_516], &mut buffers.1[..28_704]), Ok(dots));
 
     let dot = second(b".");
-    assert_eq!(dot.records(), [5, 0, 0, 0, 255, 255, 0, 0]);
+    assert_eq!(dot.records(), [5, 0, 0, 0, 255, 255, 0, 0, 0, 0, 0, 0]);
     assert_eq!((dot.classes()[0], dot.classes()[1], dot.pieces()), (255, 251, 1));
     assert_eq!(is_match(dot.records(), &dot.classes()[1..], b"a"), refused(15, 0));
     assert_eq!(start(dot.records(), b"", &mut []), refused(15, 0));
     assert_eq!(step(dot.records(), b"", &mut [256], b'a'), refused(15, 0));
     assert_eq!(second(b"[b-d][b-d]*").find(b"abcda"), Ok(Some(1..4)));
     let perhaps = second(b"a?");
-    assert_eq!(perhaps.records()[8..16], [6, 0, 255, 255, 255, 255, 0, 0]);
+    assert_eq!(perhaps.records()[12..24], [6, 0, 255, 255, 255, 255, 0, 0, 1, 0, 0, 0]);
     assert_eq!(second(b"[0-9]{2,4}").find(b"in 2028"), Ok(Some(3..7)));
     FAULTS.len() + GOOD.len() + 15
 }
 
+/// Old lists through the wrapper: turned into one of today, refused, and with too little room.
+fn compare_old() -> usize {
+    let old = [1, 97, 255, 255, 255, 255, 0, 0];
+    let mut records = [7; 13];
+    assert_eq!(widen(&old, &mut records), Ok(1));
+    assert_eq!(records, [1, 97, 255, 255, 255, 255, 0, 0, 0, 0, 0, 0, 7]);
+    assert_eq!(widen(&old, &mut records[..11]), refused(9, 0));
+    assert_eq!(widen(&old[..7], &mut records), refused(10, 0));
+
+    let letters = first(&[b'a'; 897]);
+    let records = letters.records().chunks(RECORD_SIZE);
+    let old: Vec<u8> = records.flat_map(|record| &record[..OLD_RECORD_SIZE]).copied().collect();
+    let archived = Expression::widened(&old, b"").expect("a good list");
+    assert_eq!((archived.pieces(), archived.places().max()), (128, Some(0)));
+    assert_eq!(archived.is_match(&[b'a'; 897]), Ok(true));
+    assert_eq!(letters.places().max(), Some(896));
+    let dot = [5, 0, 0, 0, 255, 255, 0, 0];
+    assert_eq!(Expression::widened(&dot, b""), refused(15, 0));
+    assert_eq!(Expression::widened(&[], b""), refused(10, 0));
+    let places: Vec<usize> = second(b"a(b\\|[cd]){1,2}").places().collect();
+    assert_eq!(places, [0, 2, 3, 3, 5, 5, 2, 3, 3, 5, 5, 10, 10, 10, 1]);
+    9
+}
+
 pub fn compare() -> usize {
-    compare_first() + compare_second()
+    compare_first() + compare_second() + compare_old()
 }

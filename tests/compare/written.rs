@@ -9,16 +9,21 @@ use std::ops::Range;
 /// A fault by its number and place.
 pub type Fault = (u8, usize);
 
+/// Where a byte stands: of a leaf its first byte, of a sign the sign.
+type Place = usize;
+
 pub enum Written {
-    Byte(u8),
-    OneOf(Box<Set>),
-    Star(Box<Written>),
-    OneOrMore(Box<Written>),
-    NoneOrOne(Box<Written>),
+    Byte(u8, Place),
+    OneOf(Box<Set>, Place),
+    Star(Box<Written>, Place),
+    OneOrMore(Box<Written>, Place),
+    NoneOrOne(Box<Written>, Place),
     /// At least so many and at most so many in a row.
-    Between(usize, usize, Box<Written>),
-    InARow(Vec<Written>),
-    AnyOf(Vec<Written>),
+    Between(usize, usize, Box<Written>, Place),
+    /// Each with the place of its first byte, a `(` before it included.
+    InARow(Vec<(Place, Written)>),
+    /// Each but the first with the place of the bar before it.
+    AnyOf(Vec<(Place, Written)>),
 }
 
 const SIGNS: &[u8] = b"()|*\\.[]+?{}";
@@ -30,9 +35,9 @@ const MOST_TIMES: usize = 16;
 pub const MOST_NODES: usize = 2_047;
 
 /// Several parts, or the only one as it is.
-fn together(mut parts: Vec<Written>, join: fn(Vec<Written>) -> Written) -> Written {
+fn together(mut parts: Vec<(Place, Written)>, join: fn(Vec<(Place, Written)>) -> Written) -> Written {
     if parts.len() == 1 {
-        parts.remove(0)
+        parts.remove(0).1
     } else {
         join(parts)
     }
@@ -99,18 +104,19 @@ impl Reading<'_> {
     }
 
     fn any_of(&mut self) -> Result<Written, Fault> {
-        let mut parts = vec![self.in_a_row()?];
+        let mut parts = vec![(self.at, self.in_a_row()?)];
         while self.next() == Some(b'|') {
+            let bar = self.at;
             self.at += 1;
-            parts.push(self.in_a_row()?);
+            parts.push((bar, self.in_a_row()?));
         }
         Ok(together(parts, Written::AnyOf))
     }
 
     fn in_a_row(&mut self) -> Result<Written, Fault> {
-        let mut parts = vec![self.operand()?];
+        let mut parts = vec![(self.at, self.operand()?)];
         while !matches!(self.next(), None | Some(b'|' | b')')) {
-            parts.push(self.operand()?);
+            parts.push((self.at, self.operand()?));
         }
         Ok(together(parts, Written::InARow))
     }
@@ -122,13 +128,13 @@ impl Reading<'_> {
             self.at += 1;
             let below = Box::new(operand);
             operand = match sign {
-                b'*' => Written::Star(below),
-                b'+' => Written::OneOrMore(below),
-                b'?' => Written::NoneOrOne(below),
+                b'*' => Written::Star(below, place),
+                b'+' => Written::OneOrMore(below, place),
+                b'?' => Written::NoneOrOne(below, place),
                 _ => {
                     let (fewest, most, after) = count(self.e, place).ok_or((16, place))?;
                     self.at = after;
-                    Written::Between(fewest, most, below)
+                    Written::Between(fewest, most, below, place)
                 }
             };
         }
@@ -144,14 +150,14 @@ impl Reading<'_> {
             Some(b']') => return Err((14, place)),
             Some(b'[') => {
                 let (set, after) = class(self.e, place).ok_or((14, place))?;
-                (Written::OneOf(Box::new(set)), after)
+                (Written::OneOf(Box::new(set), place), after)
             }
-            Some(b'.') => (Written::OneOf(Box::new(std::array::from_fn(|byte| byte != 10))), place + 1),
+            Some(b'.') => (Written::OneOf(Box::new(std::array::from_fn(|byte| byte != 10)), place), place + 1),
             Some(b'\\') => {
                 let sign = self.e.get(place + 1).filter(|byte| SIGNS.contains(byte)).ok_or((7, place))?;
-                (Written::Byte(*sign), place + 2)
+                (Written::Byte(*sign, place), place + 2)
             }
-            Some(byte) => (Written::Byte(byte), place + 1),
+            Some(byte) => (Written::Byte(byte, place), place + 1),
         };
         self.at = after;
         Ok(written)
@@ -224,8 +230,8 @@ pub struct LaidOut {
 }
 
 impl LaidOut {
-    fn push(&mut self, kind: Kind, left: usize, right: usize) -> usize {
-        self.tree.push(Node { kind, left, right });
+    fn push(&mut self, kind: Kind, left: usize, right: usize, place: Place) -> usize {
+        self.tree.push(Node { kind, left, right, place });
         self.tree.len() - 1
     }
 
@@ -246,46 +252,52 @@ impl Written {
     /// Adds its nodes, children first; answers the number of its root.
     fn lay_out(&self, out: &mut LaidOut) -> usize {
         match self {
-            Written::Byte(byte) => out.push(Kind::Character(*byte), NONE, NONE),
-            Written::OneOf(set) => {
+            Written::Byte(byte, place) => out.push(Kind::Character(*byte), NONE, NONE, *place),
+            Written::OneOf(set, place) => {
                 out.sets.push(**set);
-                out.push(Kind::Class(out.sets.len() - 1), NONE, NONE)
+                out.push(Kind::Class(out.sets.len() - 1), NONE, NONE, *place)
             }
-            Written::Star(operand) => {
+            Written::Star(operand, sign) => {
                 let below = operand.lay_out(out);
-                out.push(Kind::Star, below, NONE)
+                out.push(Kind::Star, below, NONE, *sign)
             }
-            Written::OneOrMore(operand) => {
+            Written::OneOrMore(operand, sign) => {
                 let first = operand.lay_out(out);
                 let copy = operand.lay_out(out);
-                let more = out.push(Kind::Star, copy, NONE);
-                out.push(Kind::Catenation, first, more)
+                let more = out.push(Kind::Star, copy, NONE, *sign);
+                out.push(Kind::Catenation, first, more, *sign)
             }
-            Written::NoneOrOne(operand) => operand.lay_out_or_not(out),
-            Written::Between(fewest, most, operand) => {
-                let parts = (0..*most).map(|i| (&**operand, i >= *fewest));
+            Written::NoneOrOne(operand, sign) => operand.lay_out_or_not(*sign, out),
+            Written::Between(fewest, most, operand, sign) => {
+                let parts = (0..*most).map(|i| (*sign, &**operand, i >= *fewest));
                 Written::join(parts, Kind::Catenation, out)
             }
-            Written::InARow(parts) => Written::join(parts.iter().map(|part| (part, false)), Kind::Catenation, out),
-            Written::AnyOf(parts) => Written::join(parts.iter().map(|part| (part, false)), Kind::Union, out),
+            Written::InARow(parts) => Written::join(Written::plain(parts), Kind::Catenation, out),
+            Written::AnyOf(parts) => Written::join(Written::plain(parts), Kind::Union, out),
         }
     }
 
-    /// Adds its nodes, the leaf of the empty text, and their union.
-    fn lay_out_or_not(&self, out: &mut LaidOut) -> usize {
+    /// Adds its nodes, the leaf of the empty text, and their union, for a sign at a place.
+    fn lay_out_or_not(&self, sign: Place, out: &mut LaidOut) -> usize {
         let one = self.lay_out(out);
-        let none = out.push(Kind::Empty, NONE, NONE);
-        out.push(Kind::Union, one, none)
+        let none = out.push(Kind::Empty, NONE, NONE, sign);
+        out.push(Kind::Union, one, none, sign)
     }
 
-    /// Several parts, two at a time from the left; each may be one that can be left out.
-    fn join<'a>(parts: impl Iterator<Item = (&'a Written, bool)>, kind: Kind, out: &mut LaidOut) -> usize {
+    /// Parts of which none can be left out.
+    fn plain(parts: &[(Place, Written)]) -> impl Iterator<Item = (Place, &Written, bool)> {
+        parts.iter().map(|(place, part)| (*place, part, false))
+    }
+
+    /// Several parts, two at a time from the left, each with the place of the node that joins it to those before; each may be
+    /// one that can be left out.
+    fn join<'a>(parts: impl Iterator<Item = (Place, &'a Written, bool)>, kind: Kind, out: &mut LaidOut) -> usize {
         let mut root = None;
-        for (part, or_not) in parts {
-            let right = if or_not { part.lay_out_or_not(out) } else { part.lay_out(out) };
+        for (place, part, or_not) in parts {
+            let right = if or_not { part.lay_out_or_not(place, out) } else { part.lay_out(out) };
             root = Some(match root {
                 None => right,
-                Some(left) => out.push(kind.clone(), left, right),
+                Some(left) => out.push(kind.clone(), left, right, place),
             });
         }
         root.expect("there is a part")
@@ -293,13 +305,13 @@ impl Written {
 
     /// How many nodes it stands for, from those of its parts; a number past all limits where there are more than that.
     pub fn nodes(&self) -> usize {
-        let all = |parts: &[Written]| parts.iter().fold(parts.len() - 1, |sum, part| sum.saturating_add(part.nodes()));
+        let all = |parts: &[(Place, Written)]| parts.iter().fold(parts.len() - 1, |sum, part| sum.saturating_add(part.1.nodes()));
         match self {
-            Written::Byte(_) | Written::OneOf(_) => 1,
-            Written::Star(operand) => operand.nodes().saturating_add(1),
-            Written::OneOrMore(operand) => operand.nodes().saturating_mul(2).saturating_add(2),
-            Written::NoneOrOne(operand) => operand.nodes().saturating_add(2),
-            Written::Between(fewest, most, operand) => {
+            Written::Byte(..) | Written::OneOf(..) => 1,
+            Written::Star(operand, _) => operand.nodes().saturating_add(1),
+            Written::OneOrMore(operand, _) => operand.nodes().saturating_mul(2).saturating_add(2),
+            Written::NoneOrOne(operand, _) => operand.nodes().saturating_add(2),
+            Written::Between(fewest, most, operand, _) => {
                 operand.nodes().saturating_mul(*most).saturating_add(2 * (most - fewest) + most - 1)
             }
             Written::InARow(parts) | Written::AnyOf(parts) => all(parts),
@@ -309,13 +321,13 @@ impl Written {
     /// How many class leaves it stands for.
     pub fn classes(&self) -> usize {
         match self {
-            Written::Byte(_) => 0,
-            Written::OneOf(_) => 1,
-            Written::Star(operand) | Written::NoneOrOne(operand) => operand.classes(),
-            Written::OneOrMore(operand) => operand.classes().saturating_mul(2),
-            Written::Between(_, most, operand) => operand.classes().saturating_mul(*most),
+            Written::Byte(..) => 0,
+            Written::OneOf(..) => 1,
+            Written::Star(operand, _) | Written::NoneOrOne(operand, _) => operand.classes(),
+            Written::OneOrMore(operand, _) => operand.classes().saturating_mul(2),
+            Written::Between(_, most, operand, _) => operand.classes().saturating_mul(*most),
             Written::InARow(parts) | Written::AnyOf(parts) => {
-                parts.iter().fold(0, |sum, part| sum.saturating_add(part.classes()))
+                parts.iter().fold(0, |sum, part| sum.saturating_add(part.1.classes()))
             }
         }
     }
@@ -331,19 +343,19 @@ impl Written {
             cuts.reduce(|left, right| Cuts::node(&[left, right])).expect("there is a part")
         };
         match self {
-            Written::Byte(_) | Written::OneOf(_) => leaf,
-            Written::Star(operand) => Cuts::node(&[operand.cuts()]),
-            Written::OneOrMore(operand) => {
+            Written::Byte(..) | Written::OneOf(..) => leaf,
+            Written::Star(operand, _) => Cuts::node(&[operand.cuts()]),
+            Written::OneOrMore(operand, _) => {
                 let one = operand.cuts();
                 Cuts::node(&[one, Cuts::node(&[one])])
             }
-            Written::NoneOrOne(operand) => Cuts::node(&[operand.cuts(), leaf]),
-            Written::Between(fewest, most, operand) => {
+            Written::NoneOrOne(operand, _) => Cuts::node(&[operand.cuts(), leaf]),
+            Written::Between(fewest, most, operand, _) => {
                 let one = operand.cuts();
                 let or_not = Cuts::node(&[one, leaf]);
                 joined(&mut (0..*most).map(|i| if i < *fewest { one } else { or_not }))
             }
-            Written::InARow(parts) | Written::AnyOf(parts) => joined(&mut parts.iter().map(Written::cuts)),
+            Written::InARow(parts) | Written::AnyOf(parts) => joined(&mut parts.iter().map(|part| part.1.cuts())),
         }
     }
 
@@ -361,14 +373,14 @@ impl Written {
             ends
         };
         match self {
-            Written::Byte(one) => after(&|byte| byte == *one),
-            Written::OneOf(set) => after(&|byte| set[byte as usize]),
-            Written::InARow(parts) => parts.iter().fold(starts, |starts, part| part.ends(text, starts)),
-            Written::AnyOf(parts) => parts.iter().fold(0, |ends, part| ends | part.ends(text, starts)),
-            Written::Star(operand) => operand.ends_of_any(text, starts),
-            Written::OneOrMore(operand) => operand.ends_of_any(text, operand.ends(text, starts)),
-            Written::NoneOrOne(operand) => starts | operand.ends(text, starts),
-            Written::Between(fewest, most, operand) => {
+            Written::Byte(one, _) => after(&|byte| byte == *one),
+            Written::OneOf(set, _) => after(&|byte| set[byte as usize]),
+            Written::InARow(parts) => parts.iter().fold(starts, |starts, part| part.1.ends(text, starts)),
+            Written::AnyOf(parts) => parts.iter().fold(0, |ends, part| ends | part.1.ends(text, starts)),
+            Written::Star(operand, _) => operand.ends_of_any(text, starts),
+            Written::OneOrMore(operand, _) => operand.ends_of_any(text, operand.ends(text, starts)),
+            Written::NoneOrOne(operand, _) => starts | operand.ends(text, starts),
+            Written::Between(fewest, most, operand, _) => {
                 let (mut now, mut all) = (starts, 0);
                 for times in 0..=*most {
                     if times >= *fewest {

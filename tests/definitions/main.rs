@@ -16,8 +16,9 @@ const BEGIN: &str = "<!-- made by tests/definitions/run -->\n";
 const END: &str = "<!-- end -->\n";
 
 /// The functions that make up the product, by their source files.
-const ENTRY_POINTS: [(&str, &[&str]); 6] = [
+const ENTRY_POINTS: [(&str, &[&str]); 7] = [
     ("deciding/src/good.rt", &["decide"]),
+    ("widen/src/lib.rt", &["widen"]),
     ("reader/src/lib.rt", &["check", "check_second", "read", "read_second"]),
     ("marks/src/lib.rt", &["start", "step"]),
     ("finder/src/lib.rt", &["is_match", "search"]),
@@ -33,6 +34,7 @@ const ENTRY_POINTS: [(&str, &[&str]); 6] = [
             "foam_search",
             "foam_start",
             "foam_step",
+            "foam_widen",
             "foam_pick",
         ],
     ),

@@ -74,11 +74,15 @@ fn match_with_classes(example: &str, length: usize) -> Result<bool, Refusal> {
     foamlattice::is_match(read.records(), &classes, b"a")
 }
 
+/// The bytes that an example writes in hexadecimal.
+fn hexadecimal(example: &str) -> Vec<u8> {
+    let digits = quoted(example).first().copied().unwrap_or("");
+    digits.split(' ').filter_map(|b| u8::from_str_radix(b, 16).ok()).collect()
+}
+
 /// Whether the bytes that an example writes in hexadecimal are a good list.
 fn good(example: &str) -> bool {
-    let digits = quoted(example).first().copied().unwrap_or("");
-    let bytes: Vec<u8> = digits.split(' ').filter_map(|b| u8::from_str_radix(b, 16).ok()).collect();
-    foamlattice::is_match(&bytes, b"", b"") != Err(Refusal { number: 10, place: 0 })
+    foamlattice::is_match(&hexadecimal(example), b"", b"") != Err(Refusal { number: 10, place: 0 })
 }
 
 /// What an example's expression is read as: in the second syntax where it says so.
@@ -183,6 +187,9 @@ fn try_row(above: &str, head: &[String], row: &[String]) -> Vec<(String, bool)> 
         note(example, read(example).is_ok_and(|c| Some(c.pieces) == number(pieces)));
     } else if let Some(list) = column("List that is not good") {
         examples(list).filter(|e| e.starts_with('`')).for_each(|example| note(example, !good(example)));
+    } else if let (Some(record), Some(bytes)) = (column("Record"), column("Bytes")) {
+        let at = number(record).expect("a record's number") * foamlattice::RECORD_SIZE;
+        note(bytes, list(above).records()[at..at + foamlattice::RECORD_SIZE] == hexadecimal(bytes));
     } else if let (Some(text), Some(accepting)) = (column("After"), column("Accepting")) {
         let words = head.iter().zip(row).filter(|(h, _)| h.starts_with("Word")).filter_map(|(_, w)| number(w));
         let words: Vec<usize> = words.collect();
