@@ -1,9 +1,9 @@
 /* Foamlattice: a proved matcher for regular expressions.
  *
  * Every function takes slices as a pointer and a length, ends and answers on all bytes and words that it can be
- * handed, and keeps nothing between calls. It allocates nothing; what it needs it takes from the stack: 21 KB in
+ * handed, and keeps nothing between calls. It allocates nothing; what it needs it takes from the stack: 24 KB in
  * foam_check and foam_check2, 25 KB in foam_read and foam_read2, 62 KB in foam_match, foam_search, foam_start and
- * foam_step, 73 KB in foam_pick, as measured.
+ * foam_step, 81 KB in foam_pick, as measured; foam_widen was not measured: it holds 23 KB beside what deciding takes.
  *
  * What a caller must see to, since it cannot be checked: no pointer is null, also where its length is 0; each points to
  * as many bytes or words as its length says, words aligned as uint64_t; what is written through overlaps nothing else

@@ -16,10 +16,11 @@ const BEGIN: &str = "<!-- made by tests/definitions/run -->\n";
 const END: &str = "<!-- end -->\n";
 
 /// The functions that make up the product, by their source files.
-const ENTRY_POINTS: [(&str, &[&str]); 7] = [
+const ENTRY_POINTS: [(&str, &[&str]); 8] = [
     ("deciding/src/good.rt", &["decide"]),
     ("widen/src/lib.rt", &["widen"]),
-    ("reader/src/lib.rt", &["check", "check_second", "read", "read_second"]),
+    ("checker/src/lib.rt", &["check", "check_second"]),
+    ("reader/src/lib.rt", &["read", "read_second"]),
     ("marks/src/lib.rt", &["start", "step"]),
     ("finder/src/lib.rt", &["is_match", "search"]),
     ("picker/src/lib.rt", &["pick"]),

@@ -276,11 +276,6 @@ members-at bytes at members (Read next) (bracket-here h e f) no-dot a =
     rw (found-at bytes at (a .class) _ next e (a .finds)) (a .told)
 members-at bytes at members Faulty (bracket-here h e f) no-dot a = lost-none (run-at bytes at) (a .fails) f
 
--- a place with a class that is no dot has a `[`
-pub bracket-at : (bytes : List ℕ) (at : ℕ) → Class-here bytes at → (getD bytes at 0 ≡ 46 → ⊥) → getD bytes at 0 ≡ 91
-bracket-at bytes at (dot-here h e) no-dot = absurd (no-dot e)
-bracket-at bytes at (bracket-here h e f) no-dot = e
-
 pub inside-at : (bytes : List ℕ) (at : ℕ) → Class-here bytes at → at < length bytes
 inside-at bytes at (dot-here h e) = h
 inside-at bytes at (bracket-here h e f) = h

@@ -48,7 +48,7 @@ pub record-bit : (class : Class) (v : ℕ) → v < 256
     → getD (class-record class) (v / 8) 0 / 2 ^ (v % 8) % 2 ≡ one (class-takes class v)
 unfolding class-record
 record-bit class v h =
-    ap (λ (w : ℕ). w / 2 ^ (v % 8) % 2) (member-byte (class-takes class) 32 0 (v / 8) (omega arith))
+    ap (λ (w : ℕ). w / 2 ^ (v % 8) % 2) (member-byte (class-takes class) class-record-size 0 (v / 8) (omega arith))
     ∙ member-bit (class-takes class) 8 (0 + 8 * (v / 8)) (v % 8) (omega arith)
     ∙ ap (λ (m : ℕ). one (class-takes class m)) (omega arith)
 
@@ -59,7 +59,7 @@ member-bytes-length takes (suc n) v = ap suc (member-bytes-length takes n (v + 8
 
 pub record-length : (class : Class) → length (class-record class) ≡ class-record-size
 unfolding class-record
-record-length class = member-bytes-length (class-takes class) 32 0
+record-length class = member-bytes-length (class-takes class) class-record-size 0
 
 pub encode-classes-length : (classes : List Class)
     → length (encode-classes classes) ≡ class-record-size * length classes

@@ -162,4 +162,4 @@ recorded-whole {class} {members} {record-after} m long p =
     ext-getD 0 record-after (class-record class) (long ∙ sym (record-length class))
     (λ j h. p .each j (omega arith) ∙ eight-members m (8 * j) (omega arith)
     ∙ ap (λ (v : ℕ). member-bits (class-takes class) v 8) (omega arith)
-    ∙ sym (member-byte (class-takes class) 32 0 j (omega arith)))
+    ∙ sym (member-byte (class-takes class) class-record-size 0 j (omega arith)))

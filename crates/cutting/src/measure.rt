@@ -1,5 +1,5 @@
-// From the leaves up: the nodes, the open size and the cut edges of every subtree, in the slot of its root's record; and
-// so the number of pieces.
+// From the leaves up: the nodes, the open size and the cut edges of every subtree, in the slot of its root's record;
+// and so the number of pieces.
 use crate::cut::cut_count;
 use crate::cut::open_size;
 use crate::slots::left_slot;

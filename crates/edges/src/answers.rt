@@ -4,13 +4,13 @@ use crate::say::say;
 use crate::say::say_hex;
 use crate::say::say_number;
 use crate::say::say_yes;
+use checker::CountedAnswer;
 use finder::Matched;
 use finder::Searched;
 use finder::numbers::match_numbers;
 use finder::numbers::search_numbers;
 use marks::MarksAnswer;
 use marks::numbers::numbers_of;
-use reader::CountedAnswer;
 use reader::ReadAnswer;
 
 fn say_counts(records: usize, pieces: usize) {

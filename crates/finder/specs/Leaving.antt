@@ -22,9 +22,10 @@ use Rattle.tree.specs.Pieces.{cut-up, stated}
 use Rattle.tables.specs.Words.{Holds, Set-of}
 use Rattle.tables.specs.Tables.{Holding, Answered}
 use Rattle.marks.specs.Answer.{marking}
-use Rattle.marks.specs.Promise.{Hold, Classed, Starts, started, Steps, stepped}
+use Rattle.stepping.specs.Hold.{Hold}
+use Rattle.marks.specs.Promise.{Classed, Starts, started, Steps, stepped}
 use Rattle.closing.specs.BitsOfWords.Zero.{All-zero}
-use Rattle.marks.specs.Inner.{some-started, holding-marks}
+use Rattle.stepping.specs.Inner.{some-started, holding-marks}
 
 -- a word for each piece and no more
 abbrev pub As-many : Tree Leaf → List ℕ → Type 0

@@ -1,15 +1,15 @@
 // Match and search over a list that is known to be good: its tables are made once, on the stack, for either, in one of
 // three sizes.
-use marks::inner::FEW_CODES;
-use marks::inner::FEW_MASKS;
-use marks::inner::FEW_PIECES;
-use marks::inner::SOME_CODES;
-use marks::inner::SOME_MASKS;
-use marks::inner::SOME_PIECES;
-use marks::inner::prepare;
 use matching::part::Span;
 use matching::part::first_part;
 use matching::text::text_matches;
+use stepping::inner::FEW_CODES;
+use stepping::inner::FEW_MASKS;
+use stepping::inner::FEW_PIECES;
+use stepping::inner::SOME_CODES;
+use stepping::inner::SOME_MASKS;
+use stepping::inner::SOME_PIECES;
+use stepping::inner::prepare;
 use tables::MASK_TABLE_SIZE;
 use tables::TABLE_SIZE;
 use tree::limits::MOST_PIECES;
@@ -22,7 +22,7 @@ ghost use Rattle.tree.specs.Leaf.{Leaf, Matches};
 ghost use Rattle.tree.specs.Records.{Good};
 ghost use Rattle.tables.specs.Given.{Decided-good};
 ghost use Rattle.tables.specs.Tables.{Roomy};
-ghost use Rattle.marks.specs.Inner.{few-pieces, some-pieces};
+ghost use Rattle.stepping.specs.Inner.{few-pieces, some-pieces};
 ghost use Rattle.matching.specs.Found.{Answers};
 ghost use Rattle.matching.specs.Parts.{answer-of, is-part};
 

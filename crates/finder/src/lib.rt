@@ -14,7 +14,7 @@ ghost use Rattle.finder.specs.Answer.{as-match, match-numbers, search-nu
 ghost use Rattle.finder.specs.Promise.{Match-answers, Search-answers};
 use deciding::good::Decided;
 use deciding::good::decide_with;
-use marks::inner::FEW_PIECES;
+use stepping::inner::FEW_PIECES;
 use tree::layout::CLASS_RECORD_SIZE;
 use tree::layout::RECORD_SIZE;
 use tree::limits::FEW_SLOTS;

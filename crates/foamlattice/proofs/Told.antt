@@ -7,7 +7,7 @@ use lib.ListN.{getD}
 use denote.Enum.Declared.{tagOf}
 use Rattle.tree.specs.RefusalNumbers.{list-not-good, buffer-too-short}
 use Rattle.reader.specs.Answer.{refusing}
-use Rattle.reader.specs.SecondAnswer.{refusing-counts}
+use Rattle.checker.specs.Checked.{refusing-counts}
 use Rattle.picker.specs.declared.Picked.{Picked}
 use Rattle.picker.specs.declared.Picked.the-variants.{Written, NoRoom}
 use Rattle.picker.proofs.Picked.{the-type as picked-type}

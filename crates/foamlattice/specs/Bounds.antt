@@ -15,23 +15,18 @@ use Rattle.tree.specs.Layout.{record-size}
 use Rattle.tree.specs.Limits.{longest-expression, most-records, most-pieces, longest-text}
 use Rattle.tree.specs.Records.{piece-count}
 use Rattle.tree.specs.Pieces.{nodes-per-piece}
-use Rattle.scanner.specs.Bytes.{Syntax, first, second}
-use Rattle.scanner.specs.Scanner.{Atom, literal, one-of, no-text, Outcome, tree, refused}
-use Rattle.reader.specs.Expanded.{expanded}
-use Rattle.reader.specs.Drawn.{drawn, recorded-from, recorded, classes-in}
-use Rattle.reader.specs.ExpandedLaws.{expanded-refusal}
-use Rattle.reader.specs.DrawnLaws.{first-drawn-refusal}
+use Rattle.operands.specs.Bytes.{Syntax, first, second}
+use Rattle.operands.specs.Scanner.{Atom, literal, one-of, no-text, Outcome, tree, refused}
+use Rattle.checker.specs.Expanded.{expanded}
+use Rattle.checker.specs.Drawn.{drawn, recorded-from, recorded, classes-in}
+use Rattle.checker.specs.ExpandedLaws.{expanded-refusal}
+use Rattle.checker.specs.DrawnLaws.{first-drawn-refusal}
 use Rattle.reader.specs.Answer.{Numbers, refusing, reading, answer-for, answered}
+use Rattle.checker.specs.Checked.{Counted-numbers, refusing-counts, counting, too-many, checked-for, checked}
 use Rattle.reader.specs.SecondAnswer.{
-  Counted-numbers,
-  refusing-counts,
-  counting,
-  too-many,
   too-short,
   too-few-classes as lent-too-few,
   pick-stored,
-  checked-for,
-  checked,
   second-answer-for,
   second-answered,
 }
@@ -68,8 +63,8 @@ use Rattle.finder.specs.Promise.{
 use Rattle.finder.specs.Decide.{matches}
 use Rattle.picker.specs.declared.Picked.{Picked}
 use Rattle.picker.specs.declared.Picked.the-variants.{Written, NoRoom}
-use Rattle.picker.specs.Limits.{most-output}
-use Rattle.picker.specs.Room.{output-length}
+use Rattle.printing.specs.Limits.{most-output}
+use Rattle.printing.specs.Room.{output-length}
 use Rattle.picker.specs.Promise.{Picks}
 use Rattle.foamlattice.specs.Packed.{packed, Ranges, Unpacks}
 use Rattle.foamlattice.specs.Promise.{

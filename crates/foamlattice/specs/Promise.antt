@@ -5,7 +5,7 @@ use mathlib.Core.Path.{_≡_}
 use mathlib.Core.Bool.{cond}
 use mathlib.Core.List.{List}
 use Rattle.reader.specs.Answer.{Numbers}
-use Rattle.reader.specs.SecondAnswer.{Counted-numbers}
+use Rattle.checker.specs.Checked.{Counted-numbers}
 use Rattle.marks.specs.declared.numbers.Numbers.{Numbers as Marks-numbers}
 use Rattle.marks.specs.Promise.{Starts, Steps}
 use Rattle.finder.specs.declared.numbers.Numbers.{Numbers as Found-numbers}

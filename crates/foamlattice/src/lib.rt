@@ -2,6 +2,9 @@
 // of which answers one number.
 mod pack;
 
+use checker::CountedAnswer;
+use checker::check;
+use checker::check_second;
 use finder::is_match;
 use finder::numbers::Numbers;
 use finder::numbers::match_numbers;
@@ -13,10 +16,7 @@ use marks::step;
 use pack::pack;
 use picker::Picked;
 use picker::pick;
-use reader::CountedAnswer;
 use reader::ReadAnswer;
-use reader::check;
-use reader::check_second;
 use reader::read;
 use reader::read_second;
 use tree::refusal_numbers::BUFFER_TOO_SHORT;
@@ -26,14 +26,9 @@ use widen::widen;
 ghost use mathlib.Core.Path.{_≡_};
 ghost use lib.ListN.{length};
 ghost use Rattle.reader.specs.Answer.{answered, records-after};
-ghost use Rattle.reader.specs.SecondAnswer.{
-  counted-numbers,
-  checked,
-  second-answered,
-  second-records-after,
-  second-classes-after,
-};
-ghost use Rattle.scanner.specs.Bytes.{first, second};
+ghost use Rattle.checker.specs.Checked.{counted-numbers, checked};
+ghost use Rattle.reader.specs.SecondAnswer.{second-answered, second-records-after, second-classes-after};
+ghost use Rattle.operands.specs.Bytes.{first, second};
 ghost use Rattle.foamlattice.specs.Bounds.{Second-ranges, Found-ranges, Marks-ranges};
 ghost use Rattle.foamlattice.specs.Promise.{
   read-packed,

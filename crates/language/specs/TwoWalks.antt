@@ -86,8 +86,7 @@ module _ {A : Type 0} (M : Meaning A) where
   second-accepts (below x) X Q (inr m) = ⊎-map inr (λ c. c) (child-accepts x (second-accepts x) _ (X start) Q m)
 
   -- after a second walk the topmost node's transitions lead to nothing new: each goes the walk's way, or is the
-  -- backward
-  -- one, taken last
+  -- backward one, taken last
   wires-settled : (x : Nested A) (X : States) (Q : Type 0)
       → Settled-by (Wire M x) (Walked M x (Entered (Walked M x X) Q))
   wires-settled (leaf a) X Q p q (Wire.leaf-past has) m = inr (has, m)

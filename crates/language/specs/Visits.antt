@@ -63,8 +63,7 @@ module _ {A : Type 0} (M : Meaning A) where
   visit-settled r (below x) e X settled = closed-settled (own-meaning M) r _
 
   -- it marks what a walk marks, where the piece is closed before: then all that the walk adds at the piece's own states
-  -- is there already,
-  -- but for what child pieces lead to, and after each of them the piece is closed again
+  -- is there already, but for what child pieces lead to, and after each of them the piece is closed again
   abbrev Walks : Tree (Own-leaf A) → Nested A → Type 1
   Walks r x = (e : State → State) (X : States) → Part-of-piece r e x → Settled-by (Empty (own-meaning M) r) X
       → Walked M x (λ p. X (e p)) ⊆ (λ q. Visit M x e (Closed (own-meaning M) r) X (e q))

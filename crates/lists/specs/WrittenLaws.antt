@@ -113,11 +113,6 @@ pub encode-written : (t : Tree Leaf) → encode t ≡ written 0 (seats t 0 1)
 unfolding encode
 encode-written t = writes t 0 0 1 .so
 
--- the records of some seats
-pub length-written : (i : ℕ) (xs : List Seat) → length (written i xs) ≡ record-size * length xs
-length-written i [] = refl
-length-written i (x ∷ xs) = omega (arith, length-written (suc i) xs)
-
 -- the records from number j on begin with that of number j
 pub drop-written : (i j : ℕ) (xs : List Seat) → j < length xs → drop (record-size * j) (written i xs)
     ≡ seat-record (i + j) (seat-at xs j) ++ drop (record-size * j + record-size) (written i xs)

@@ -17,10 +17,9 @@ use Rattle.tree.specs.Pieces.{cut-up}
 use Rattle.tables.specs.Words.{Set-of}
 use Rattle.marks.specs.Answer.{Numbers}
 use Rattle.closing.specs.BitsOfWords.Zero.{All-zero}
+use Rattle.stepping.specs.Hold.{Hold, Marks-of}
 use Rattle.marks.specs.Promise.{
-  Hold,
   Made,
-  Marks-of,
   Classed,
   Too-few-classes,
   Too-few,
@@ -35,7 +34,7 @@ use Rattle.marks.specs.Promise.{
   step-not-marks,
   stepped,
 }
-use Rattle.marks.specs.Inner.{Begun, Advanced, some-started, holding-marks, answered-first, answered-next}
+use Rattle.stepping.specs.Inner.{Begun, Advanced, some-started, holding-marks, answered-first, answered-next}
 use Rattle.marks.specs.Chain.{Chain, begun, further, Follows}
 
 module _ {list : List ℕ} {t : Tree Leaf} (good : Good list t) where

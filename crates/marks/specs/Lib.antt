@@ -8,10 +8,5 @@ pub mod Unique
 pub mod ButPlaces
 pub mod ChainFollows
 pub mod States
--- The layer inside, for callers that make a list's tables once: its start and step, and the words after a text.
-pub mod Inner
-pub mod Texts
 -- where nothing is left, nothing comes back
 pub mod NothingLeft
--- refusal 13: the two bits of a shared state
-pub mod SharedStates

@@ -27,7 +27,7 @@ use Rattle.marks.specs.Promise.{
   stepped,
 }
 use Rattle.marks.specs.Chain.{Follows}
-use Rattle.marks.specs.Texts.{all-words, nothing-left}
+use Rattle.stepping.specs.Texts.{all-words, nothing-left}
 
 -- from the words `before`, a step for each byte of w, none of them refused, leaves the words `after`
 pub data Stepping (list classes before : List ℕ) : (w after : List ℕ) → Type 0 where

@@ -5,31 +5,18 @@ use mathlib.Core.Path.{_≡_}
 use mathlib.Core.Bool.{true}
 use mathlib.Core.Logic.{_↔_}
 use mathlib.Core.List.{List}
-use lib.ListN.{length, drop}
+use lib.ListN.{length}
 use Rattle.language.specs.Tree.{Tree}
 use Rattle.language.specs.Automaton.{States, accepting, Started, Stepped}
-use Rattle.language.specs.Nested.{Models}
 use Rattle.tree.specs.RefusalNumbers.{list-not-good, too-few-words, words-not-marks, class-buffer-too-short}
 use Rattle.tree.specs.Leaf.{Leaf, meaning}
 use Rattle.tree.specs.Layout.{class-record-size}
 use Rattle.tree.specs.Records.{Good, piece-count, class-count}
-use Rattle.tables.specs.Words.{Holds, Clean, Agreeing, Set-of}
+use Rattle.tables.specs.Words.{Set-of}
 use Rattle.tree.specs.Pieces.{cut-up}
+use Rattle.stepping.specs.Hold.{Hold, Marks-of}
 use Rattle.marks.specs.Answer.{Numbers, refusing, marking}
 use Rattle.closing.specs.BitsOfWords.Zero.{All-zero}
-
--- the words hold the set X of states of t's automaton: one word for each piece, no bit past a last state; the words
--- past the pieces are as before
-pub record Hold (t : Tree Leaf) (X : States) (before after : List ℕ) : Type 0 where
-  pub marks : Models (cut-up t) (Holds (cut-up t) after) X
-  pub clean : Clean (cut-up t) after
-  pub others : drop (piece-count t) after ≡ drop (piece-count t) before
-  pub same-length : length after ≡ length before
-
--- the words are marks of t: no bit past a last state is set, and the two bits of each shared state agree
-pub record Marks-of (t : Tree Leaf) (words : List ℕ) : Type 0 where
-  pub clean : Clean (cut-up t) words
-  pub agreeing : Agreeing (cut-up t) words
 
 -- the class buffer has a record for each class leaf of t
 abbrev pub Classed : (classes : List ℕ) → Tree Leaf → Type 0

@@ -32,7 +32,7 @@ use Rattle.marks.specs.Promise.{
   stepped,
 }
 use Rattle.sweeping.specs.Visiting.{accepting-holds}
-use Rattle.marks.specs.Inner.{narrow, all-narrow}
+use Rattle.stepping.specs.Inner.{narrow, all-narrow}
 
 -- every piece of a good list's tree has at most 62 states
 pub few-states : {list : List ℕ} {t : Tree Leaf} → Good list t → Every-piece (λ x. width x ≤ most-states) (cut-up t)

@@ -17,13 +17,12 @@ use Rattle.tree.specs.Records.{Good, piece-count, class-count}
 use Rattle.lists.specs.Readback.{good-unique}
 use Rattle.tables.specs.Words.{run, Set-of}
 use Rattle.tree.specs.Pieces.{cut-up}
-use Rattle.marks.specs.Texts.{all-words}
+use Rattle.stepping.specs.Texts.{all-words}
 use Rattle.closing.specs.BitsOfWords.Zero.{All-zero}
 use Rattle.closing.specs.BitsOfWords.Alike.{same-words}
 use Rattle.marks.specs.Answer.{Numbers, refusing, marking, numbers}
+use Rattle.stepping.specs.Hold.{Hold, Marks-of}
 use Rattle.marks.specs.Promise.{
-  Hold,
-  Marks-of,
   Refused,
   Made,
   Not-good,

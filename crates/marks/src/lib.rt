@@ -1,20 +1,18 @@
 // Marks in words: start and step, by moves and sweeps over the pieces of a good list.
-mod agree;
-pub mod inner;
 pub mod numbers;
 
-use crate::agree::agreeing;
-use crate::inner::FEW_CODES;
-use crate::inner::FEW_MASKS;
-use crate::inner::FEW_PIECES;
-use crate::inner::SOME_CODES;
-use crate::inner::SOME_MASKS;
-use crate::inner::SOME_PIECES;
-use crate::inner::advance;
-use crate::inner::begin;
-use crate::inner::prepare;
 use deciding::good::Decided;
 use deciding::good::decide_with;
+use stepping::agree::agreeing;
+use stepping::inner::FEW_CODES;
+use stepping::inner::FEW_MASKS;
+use stepping::inner::FEW_PIECES;
+use stepping::inner::SOME_CODES;
+use stepping::inner::SOME_MASKS;
+use stepping::inner::SOME_PIECES;
+use stepping::inner::advance;
+use stepping::inner::begin;
+use stepping::inner::prepare;
 use tables::MASK_TABLE_SIZE;
 use tables::TABLE_SIZE;
 use tree::layout::CLASS_RECORD_SIZE;
@@ -35,7 +33,7 @@ ghost use Rattle.deciding.specs.Judged.{Room-to-decide};
 ghost use Rattle.tables.specs.Given.{Decided-good};
 ghost use Rattle.tables.specs.Tables.{Roomy};
 ghost use Rattle.marks.specs.Answer.{numbers};
-ghost use Rattle.marks.specs.Inner.{few-pieces, some-pieces};
+ghost use Rattle.stepping.specs.Inner.{few-pieces, some-pieces};
 ghost use Rattle.marks.specs.Promise.{Classed, Starts, Steps};
 
 // What a start or a step answers.

@@ -1,7 +1,7 @@
 // Search over the tables of a list: the earliest start, then the furthest end.
-use marks::inner::advance;
-use marks::inner::begin;
-use marks::inner::copy;
+use stepping::inner::advance;
+use stepping::inner::begin;
+use stepping::inner::copy;
 use tree::limits::MOST_PIECES;
 ghost use Prim.Native.Nat.{ℕ, _≤_};
 ghost use mathlib.Core.Path.{_≡_};

@@ -1,6 +1,6 @@
 // Whole-text match over the tables of a list.
-use marks::inner::advance;
-use marks::inner::begin;
+use stepping::inner::advance;
+use stepping::inner::begin;
 use tree::limits::MOST_PIECES;
 ghost use Prim.Native.Nat.{ℕ};
 ghost use mathlib.Core.Path.{_≡_};

@@ -3,7 +3,7 @@ use Prim.Native.Nat.{ℕ}
 use mathlib.Core.Path.{_≡_}
 use mathlib.Core.List.{List}
 use lib.ListN.{length}
-use Rattle.picker.specs.Print.{picked, too-long-line}
+use Rattle.printing.specs.Print.{picked, too-long-line}
 
 -- for what fills the buffer, all that is printed is that it is too long
 pub record Space (buffer : List ℕ) : Type 0 where

@@ -14,23 +14,24 @@ use Rattle.tree.specs.Layout.{record-size, class-record-size}
 use Rattle.tree.specs.Records.{Good}
 use Rattle.lists.specs.Readback.{good-unique}
 use Rattle.tree.specs.Limits.{longest-text}
-use Rattle.scanner.specs.Bytes.{Syntax, first, second}
-use Rattle.scanner.specs.Scanner.{Atom}
-use Rattle.reader.specs.Expanded.{expansion, expanded}
-use Rattle.reader.specs.ExpandedLaws.{expanded-exactly}
-use Rattle.scanner.specs.Grammar.{Written}
-use Rattle.scanner.specs.Agree.{grammar-unique, written-counted}
-use Rattle.reader.specs.Drawn.{recorded, classes-of, classes-in, Matches-signs}
+use Rattle.operands.specs.Bytes.{Syntax, first, second}
+use Rattle.operands.specs.Scanner.{Atom}
+use Rattle.checker.specs.Expanded.{expansion, expanded}
+use Rattle.checker.specs.ExpandedLaws.{expanded-exactly}
+use Rattle.operands.specs.Grammar.{Written}
+use Rattle.operands.specs.Agree.{grammar-unique, written-counted}
+use Rattle.checker.specs.Drawn.{recorded, classes-of, classes-in, Matches-signs}
 use Rattle.classes.specs.ClassRecord.{encode-classes}
 use Rattle.reader.specs.Answer.{numbers, answered, records-after}
-use Rattle.reader.specs.SecondAnswer.{counted-numbers, second-answered, second-records-after, second-classes-after}
+use Rattle.checker.specs.Checked.{counted-numbers}
+use Rattle.reader.specs.SecondAnswer.{second-answered, second-records-after, second-classes-after}
 use Rattle.classes.specs.ClassRecordLaws.{encode-classes-length}
-use Rattle.reader.specs.DrawnLaws.{class-count-recorded, first-has-no-class, drawn-tree}
-use Rattle.reader.specs.SameLanguage.{Of-bytes, same-as-signs}
+use Rattle.checker.specs.DrawnLaws.{class-count-recorded, first-has-no-class, drawn-tree}
+use Rattle.checker.specs.SameLanguage.{Of-bytes, same-as-signs}
 use Rattle.reader.specs.Kept.{kept}
 use Rattle.reader.specs.SecondKept.{Second-kept, second-kept}
 use Rattle.reader.specs.declared.answer.ReadAnswer.the-variants.{Read}
-use Rattle.reader.specs.declared.answer.CountedAnswer.the-variants.{Counted}
+use Rattle.checker.specs.declared.answer.CountedAnswer.the-variants.{Counted}
 use Rattle.marks.specs.Promise.{Classed}
 use Rattle.matching.specs.Found.{Part-in-language, Found, Nothing-found}
 use Rattle.finder.specs.Answer.{answering, finding}

@@ -15,11 +15,11 @@ use Rattle.tree.specs.Leaf.{Leaf, Matches}
 use Rattle.tree.specs.Limits.{longest-text, most-pieces}
 use Rattle.tree.specs.Records.{Good, piece-count, class-count}
 use Rattle.tree.specs.Pieces.{cut-up}
-use Rattle.scanner.specs.Text.{bytes}
-use Rattle.scanner.specs.Bytes.{first}
-use Rattle.scanner.specs.Scanner.{Outcome, tree, refused, scan, scanned}
-use Rattle.reader.specs.Expanded.{expanded}
-use Rattle.reader.specs.Drawn.{drawn}
+use Rattle.operands.specs.Text.{bytes}
+use Rattle.operands.specs.Bytes.{first}
+use Rattle.operands.specs.Scanner.{Outcome, tree, refused, scan, scanned}
+use Rattle.checker.specs.Expanded.{expanded}
+use Rattle.checker.specs.Drawn.{drawn}
 use Rattle.reader.specs.Answer.{answer-for, answered, records-after}
 use Rattle.reader.specs.Kept.{kept}
 use Rattle.tables.specs.Tables.{Holding, Answered}

@@ -11,12 +11,12 @@ use Rattle.tree.specs.Leaf.{Leaf, Matches}
 use Rattle.matching.specs.Found.{part}
 use Rattle.finder.specs.Decide.{matches}
 use Rattle.finder.specs.DecideExactly.{matches-answer}
-use Rattle.picker.specs.Lines.{lines}
-use Rattle.picker.specs.Ends.{Ends, after}
-use Rattle.picker.specs.EndLaws.{after-inside, line-at, lines-none, lent-part}
-use Rattle.picker.specs.Print.{text-line, total-line, yes-after, text-lines}
-use Rattle.picker.specs.Room.{text-line-length, total-line-length, yes-after-most}
-use Rattle.picker.specs.Printing.{Prints, prints-none, prints-join}
+use Rattle.printing.specs.Lines.{lines}
+use Rattle.printing.specs.Ends.{Ends, after}
+use Rattle.printing.specs.EndLaws.{after-inside, line-at, lines-none, lent-part}
+use Rattle.printing.specs.Print.{text-line, total-line, yes-after, text-lines}
+use Rattle.printing.specs.Room.{text-line-length, total-line-length, yes-after-most}
+use Rattle.printing.specs.Printing.{Prints, prints-none, prints-join}
 
 -- there is space for what is to come from a place of the input on, after so many texts and yes lines: 16 bytes for each
 -- text, 31 for the last line

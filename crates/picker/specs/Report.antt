@@ -15,22 +15,22 @@ use Rattle.tree.specs.Limits.{most-pieces, most-records}
 use Rattle.tree.specs.Records.{piece-count}
 use Rattle.tree.specs.Lengths.{nodes-positive}
 use Rattle.tree.specs.Pieces.{nodes-per-piece}
-use Rattle.scanner.specs.Bytes.{first}
-use Rattle.scanner.specs.Scanner.{Outcome, tree, refused}
-use Rattle.reader.specs.Expanded.{expanded}
-use Rattle.reader.specs.Drawn.{drawn}
-use Rattle.reader.specs.DrawnLaws.{first-drawn-size, first-drawn-refusal}
+use Rattle.operands.specs.Bytes.{first}
+use Rattle.operands.specs.Scanner.{Outcome, tree, refused}
+use Rattle.checker.specs.Expanded.{expanded}
+use Rattle.checker.specs.Drawn.{drawn}
+use Rattle.checker.specs.DrawnLaws.{first-drawn-size, first-drawn-refusal}
 use Rattle.reader.specs.Answer.{Numbers, refusing, reading, answer-for, answered as answers}
 use Rattle.reader.specs.Kept.{Kept}
 use Rattle.matching.specs.Found.{part}
 use Rattle.finder.specs.Decide.{matches}
-use Rattle.picker.specs.Lines.{lines, expression, texts}
-use Rattle.picker.specs.LineLaws.{texts-count}
-use Rattle.picker.specs.Ends.{Ends, after}
-use Rattle.picker.specs.EndLaws.{after-inside, first-line}
-use Rattle.picker.specs.Limits.{longest-input, most-output}
-use Rattle.picker.specs.Print.{few-pieces, answered, refusal-line, text-lines, reported}
-use Rattle.picker.specs.Printing.{Prints}
+use Rattle.printing.specs.Lines.{lines, expression, texts}
+use Rattle.printing.specs.LineLaws.{texts-count}
+use Rattle.printing.specs.Ends.{Ends, after}
+use Rattle.printing.specs.EndLaws.{after-inside, first-line}
+use Rattle.printing.specs.Limits.{longest-input, most-output}
+use Rattle.printing.specs.Print.{few-pieces, answered, refusal-line, text-lines, reported}
+use Rattle.printing.specs.Printing.{Prints}
 use Rattle.picker.specs.Loop.{Print-space}
 
 -- reading refused the expression: that is its outcome, by a small number at a small place

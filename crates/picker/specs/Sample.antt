@@ -3,14 +3,14 @@ use Prim.Native.Nat.{ℕ}
 use mathlib.Core.Path.{_≡_, refl}
 use mathlib.Core.List.{List, [], _∷_}
 use Rattle.tree.specs.Records.{piece-count}
-use Rattle.scanner.specs.Text.{bytes}
-use Rattle.scanner.specs.Scanner.{scan, scanned}
-use Rattle.reader.specs.Expanded.{expanded}
+use Rattle.operands.specs.Text.{bytes}
+use Rattle.operands.specs.Scanner.{scan, scanned}
+use Rattle.checker.specs.Expanded.{expanded}
 use Rattle.finder.specs.Decide.{any-split, any-repeat, leaf-text, matched}
 use Rattle.picker.specs.Edges.{Every}
-use Rattle.picker.specs.Lines.{lines}
-use Rattle.picker.specs.Digits.{digits, digits-within}
-use Rattle.picker.specs.Print.{text-lines, output, picked}
+use Rattle.printing.specs.Lines.{lines}
+use Rattle.printing.specs.Digits.{digits, digits-within}
+use Rattle.printing.specs.Print.{text-lines, output, picked}
 
 -- an input, and what is printed for it
 pub record Sample-run : Type 0 where

@@ -5,10 +5,10 @@ use mathlib.Core.List.{List, [], _++_}
 use native.Mathlib.Omega.{arith}
 use lib.ListN.{length, drop}
 use Rattle.finder.specs.Decide.{matches}
-use Rattle.picker.specs.Limits.{most-output}
-use Rattle.picker.specs.Print.{picked}
-use Rattle.picker.specs.Room.{output-length}
-use Rattle.picker.specs.Printing.{Prints, printed}
+use Rattle.printing.specs.Limits.{most-output}
+use Rattle.printing.specs.Print.{picked}
+use Rattle.printing.specs.Room.{output-length}
+use Rattle.printing.specs.Printing.{Prints, printed}
 use Rattle.picker.specs.Promise.{Wrote, Picks}
 use Rattle.picker.specs.declared.Picked.{Picked}
 use Rattle.picker.specs.declared.Picked.the-variants.{Written}

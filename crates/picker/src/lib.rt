@@ -1,15 +1,12 @@
 // The whole output of `pick`, from the bytes that it reads.
-mod line;
-mod print;
-mod report;
 mod texts;
 
-use line::line_end;
-use line::next_line;
-use print::put;
+use printing::line::line_end;
+use printing::line::next_line;
+use printing::print::put;
+use printing::report::refusal_line;
 use reader::ReadAnswer;
 use reader::read;
-use report::refusal_line;
 use texts::list_texts;
 use tree::layout::RECORD_SIZE;
 use tree::limits::MOST_RECORDS;
@@ -17,10 +14,10 @@ ghost use Prim.Native.Nat.{_≤_};
 ghost use mathlib.Core.List.{[]};
 ghost use lib.ListN.{length};
 ghost use Rattle.finder.specs.Decide.{matches};
-ghost use Rattle.picker.specs.Limits.{longest-input, most-output};
-ghost use Rattle.picker.specs.Lines.{lines, expression, texts};
-ghost use Rattle.picker.specs.Print.{answered, reported, picked};
-ghost use Rattle.picker.specs.Printing.{Prints};
+ghost use Rattle.printing.specs.Limits.{longest-input, most-output};
+ghost use Rattle.printing.specs.Lines.{lines, expression, texts};
+ghost use Rattle.printing.specs.Print.{answered, reported, picked};
+ghost use Rattle.printing.specs.Printing.{Prints};
 ghost use Rattle.picker.specs.Promise.{Picks};
 
 // The most bytes that an input may have.

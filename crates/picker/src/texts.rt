@@ -1,13 +1,13 @@
 // The lines of the texts, by the tables of the expression's list, which are made once. The expression is one of the
 // first syntax, so no class records are lent.
-use crate::line::line_end;
-use crate::line::next_line;
-use crate::report::text_line;
-use crate::report::total_line;
 use deciding::good::Decided;
 use deciding::good::decide_with;
-use marks::inner::prepare;
 use matching::text::text_matches;
+use printing::line::line_end;
+use printing::line::next_line;
+use printing::report::text_line;
+use printing::report::total_line;
+use stepping::inner::prepare;
 use tables::MASK_TABLE_SIZE;
 use tables::TABLE_SIZE;
 use tree::limits::MOST_PIECES;
@@ -21,9 +21,9 @@ ghost use Rattle.tree.specs.Records.{Good};
 ghost use Rattle.tables.specs.Given.{Good-list, Decided-good};
 ghost use Rattle.tables.specs.Tables.{Prepared, Ready};
 ghost use Rattle.finder.specs.Decide.{matches};
-ghost use Rattle.picker.specs.Lines.{lines};
-ghost use Rattle.picker.specs.Print.{text-lines};
-ghost use Rattle.picker.specs.Printing.{Prints};
+ghost use Rattle.printing.specs.Lines.{lines};
+ghost use Rattle.printing.specs.Print.{text-lines};
+ghost use Rattle.printing.specs.Printing.{Prints};
 ghost use Rattle.picker.specs.Loop.{Print-space};
 
 // Prints a line for each text from a place of the input on, and the last line.

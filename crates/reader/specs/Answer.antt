@@ -11,10 +11,10 @@ use Rattle.tree.specs.Layout.{record-size}
 use Rattle.tree.specs.Leaf.{Leaf}
 use Rattle.tree.specs.Records.{encode, piece-count}
 use Rattle.tree.specs.Places.{with-places}
-use Rattle.scanner.specs.Bytes.{first}
-use Rattle.scanner.specs.Scanner.{Outcome, tree, refused}
-use Rattle.reader.specs.Expanded.{expanded}
-use Rattle.reader.specs.Drawn.{drawn}
+use Rattle.operands.specs.Bytes.{first}
+use Rattle.operands.specs.Scanner.{Outcome, tree, refused}
+use Rattle.checker.specs.Expanded.{expanded}
+use Rattle.checker.specs.Drawn.{drawn}
 use Rattle.reader.specs.PlacesIn.{places-in}
 use Rattle.reader.specs.declared.answer.ReadAnswer.{ReadAnswer}
 use Rattle.reader.specs.declared.answer.ReadAnswer.the-variants.{Read, Refused}

@@ -14,42 +14,38 @@ use Rattle.tree.specs.RefusalNumbers.{too-many-pieces, buffer-too-short, class-
 use Rattle.tree.specs.Limits.{most-pieces, most-labels, longest-expression}
 use Rattle.tree.specs.Cut.{Cut, Fits, pieces}
 use Rattle.tree.specs.Least.{too-many-exactly}
-use Rattle.scanner.specs.Grammar.{Written}
-use Rattle.scanner.specs.Sound.{no-tree}
+use Rattle.operands.specs.Grammar.{Written}
+use Rattle.operands.specs.Sound.{no-tree}
 use Rattle.language.specs.SignedTree.{Signed-tree}
 use Rattle.tree.specs.Layout.{record-size, class-record-size}
 use Rattle.tree.specs.Records.{piece-count}
 use Rattle.tree.specs.Lengths.{nodes-positive}
-use Rattle.scanner.specs.Bytes.{Syntax, first, second}
-use Rattle.scanner.specs.Scanner.{Atom, Outcome, tree, refused}
-use Rattle.scanner.specs.Agree.{Refusal}
-use Rattle.reader.specs.Expanded.{expansion, expanded}
-use Rattle.reader.specs.ExpandedLaws.{
+use Rattle.operands.specs.Bytes.{Syntax, first, second}
+use Rattle.operands.specs.Scanner.{Atom, Outcome, tree, refused}
+use Rattle.operands.specs.Agree.{Refusal}
+use Rattle.checker.specs.Expanded.{expansion, expanded}
+use Rattle.checker.specs.ExpandedLaws.{
   Written-tree,
   Tree-refusal,
   expanded-exactly,
   expanded-refusal,
   seventeen-exactly,
 }
-use Rattle.reader.specs.Drawn.{classes-of, classes-in, recorded, drawn}
-use Rattle.reader.specs.DrawnLaws.{first-has-no-class}
+use Rattle.checker.specs.Drawn.{classes-of, classes-in, recorded, drawn}
+use Rattle.checker.specs.DrawnLaws.{first-has-no-class}
 use Rattle.reader.specs.Answer.{Numbers, refusing, reading, answer-for, answered}
-use Rattle.reader.specs.SecondAnswer.{
+use Rattle.checker.specs.Checked.{
   Counted-numbers,
   refusing-counts,
   counting,
   counted-numbers,
   too-many,
-  too-short,
-  too-few-classes,
   checked-for,
   checked,
-  pick-stored,
-  second-answer-for,
-  second-answered,
 }
+use Rattle.reader.specs.SecondAnswer.{too-short, too-few-classes, pick-stored, second-answer-for, second-answered}
 use Rattle.reader.specs.SecondKept.{counts-injective}
-use Rattle.reader.specs.declared.answer.CountedAnswer.{CountedAnswer}
+use Rattle.checker.specs.declared.answer.CountedAnswer.{CountedAnswer}
 
 -- the numbers of the first reader's answer: a check's, but for the classes, of which it has none
 abbrev pub without-classes : Counted-numbers → Numbers

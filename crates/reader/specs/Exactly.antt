@@ -1,6 +1,5 @@
 -- When an expression is read: exactly when it is written by the grammar, has at most 1,024 bytes, can be cut into few
--- enough small
--- pieces, and the buffer has room for its records.
+-- enough small pieces, and the buffer has room for its records.
 use Prim.Native.Nat.{ℕ, _*_, _≤_}
 use native.Mathlib.Decide.{decLt}
 use native.Mathlib.Omega.{arith}
@@ -19,11 +18,11 @@ use Rattle.tree.specs.Leaf.{Leaf}
 use Rattle.tree.specs.Cut.{Cut, Fits, pieces}
 use Rattle.tree.specs.Records.{piece-count}
 use Rattle.tree.specs.Least.{few-exactly}
-use Rattle.scanner.specs.Bytes.{first}
-use Rattle.scanner.specs.Scanner.{Outcome, tree, refused}
-use Rattle.reader.specs.Expanded.{expanded}
-use Rattle.reader.specs.Drawn.{drawn}
-use Rattle.reader.specs.DrawnLaws.{Written-as, drawn-exactly, drawn-refusal, drawn-size}
+use Rattle.operands.specs.Bytes.{first}
+use Rattle.operands.specs.Scanner.{Outcome, tree, refused}
+use Rattle.checker.specs.Expanded.{expanded}
+use Rattle.checker.specs.Drawn.{drawn}
+use Rattle.checker.specs.DrawnLaws.{Written-as, drawn-exactly, drawn-refusal, drawn-size}
 use Rattle.reader.specs.Answer.{refusing, reading, answer-for, answered}
 
 -- some cut of t with pieces of at most 15 nodes has at most 128 of them

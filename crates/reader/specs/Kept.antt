@@ -17,11 +17,11 @@ use Rattle.tree.specs.Leaf.{Leaf}
 use Rattle.tree.specs.Records.{encode, piece-count, Ranked, Good}
 use Rattle.tree.specs.Places.{with-places}
 use Rattle.tree.specs.Lengths.{nodes-positive}
-use Rattle.scanner.specs.Bytes.{first}
-use Rattle.scanner.specs.Scanner.{Atom, Outcome, tree, refused}
-use Rattle.reader.specs.Expanded.{expanded}
-use Rattle.reader.specs.Drawn.{drawn, recorded}
-use Rattle.reader.specs.DrawnLaws.{drawn-tree, drawn-refusal, ranked-recorded}
+use Rattle.operands.specs.Bytes.{first}
+use Rattle.operands.specs.Scanner.{Atom, Outcome, tree, refused}
+use Rattle.checker.specs.Expanded.{expanded}
+use Rattle.checker.specs.Drawn.{drawn, recorded}
+use Rattle.checker.specs.DrawnLaws.{drawn-tree, drawn-refusal, ranked-recorded}
 use Rattle.reader.specs.PlacesIn.{places-in}
 use Rattle.reader.specs.PlacesInLaws.{drawn-places, placed-length, placed-good}
 use Rattle.reader.specs.Answer.{

@@ -4,8 +4,8 @@ use mathlib.Core.List.{List, []}
 use Rattle.language.specs.SignedTree.{Signed-tree}
 use Rattle.language.specs.PlacedTree.{places}
 use Rattle.language.specs.PlacedStandsFor.{placed-stands-for}
-use Rattle.scanner.specs.Bytes.{Syntax}
-use Rattle.scanner.specs.Scanner.{Atom, no-text, Outcome, tree, refused, scanned}
+use Rattle.operands.specs.Bytes.{Syntax}
+use Rattle.operands.specs.Scanner.{Atom, no-text, Outcome, tree, refused, scanned}
 
 -- in the order of the records; none where the expression is refused
 abbrev pub places-for : Outcome (Signed-tree Atom) → List ℕ

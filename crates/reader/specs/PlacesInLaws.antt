@@ -23,14 +23,14 @@ use Rattle.tree.specs.PlacesLaws.{
   place-with-places,
   bare-encode,
 }
-use Rattle.scanner.specs.Bytes.{Syntax}
-use Rattle.scanner.specs.Scanner.{Atom, no-text, Outcome, tree, scanned}
-use Rattle.scanner.specs.PlacesInside.{low-places}
-use Rattle.reader.specs.Expanded.{expansion, expanded}
-use Rattle.reader.specs.ExpandedLaws.{expanded-tree}
-use Rattle.reader.specs.Drawn.{recorded, drawn}
-use Rattle.reader.specs.Alike.{nodes-recorded}
-use Rattle.reader.specs.DrawnLaws.{drawn-tree}
+use Rattle.operands.specs.Bytes.{Syntax}
+use Rattle.operands.specs.Scanner.{Atom, no-text, Outcome, tree, scanned}
+use Rattle.operands.specs.PlacesInside.{low-places}
+use Rattle.checker.specs.Expanded.{expansion, expanded}
+use Rattle.checker.specs.ExpandedLaws.{expanded-tree}
+use Rattle.checker.specs.Drawn.{recorded, drawn}
+use Rattle.checker.specs.Alike.{nodes-recorded}
+use Rattle.checker.specs.DrawnLaws.{drawn-tree}
 use Rattle.reader.specs.PlacesIn.{places-for, places-in}
 
 -- as many places as nodes, each at most 1,023

@@ -10,18 +10,18 @@ use Rattle.language.specs.SignedTree.{Signed-tree}
 use Rattle.language.specs.PlacedTree.{places}
 use Rattle.language.specs.PlacedStandsFor.{placed-stands-for}
 use Rattle.tree.specs.Limits.{most-labels}
-use Rattle.scanner.specs.Bytes.{Syntax}
-use Rattle.scanner.specs.Scanner.{Atom, no-text, Outcome, tree, refused, scanned}
-use Rattle.scanner.specs.Sound.{no-tree}
-use Rattle.scanner.specs.Placed.{written-at}
+use Rattle.operands.specs.Bytes.{Syntax}
+use Rattle.operands.specs.Scanner.{Atom, no-text, Outcome, tree, refused, scanned}
+use Rattle.operands.specs.Sound.{no-tree}
+use Rattle.operands.specs.Placed.{written-at}
 use Rattle.scanner.specs.Expression.{Expression-answer, Places-read, places-read}
-use Rattle.scanner.specs.declared.part.Part.{Part}
-use Rattle.scanner.specs.declared.part.Part.the-variants.{Read, Refused}
-use Rattle.reader.specs.Expanded.{expansion, expanded}
-use Rattle.reader.specs.ExpandedLaws.{expanded-tree, expanded-size}
-use Rattle.reader.specs.Alike.{nodes-recorded}
+use Rattle.operands.specs.declared.part.Part.{Part}
+use Rattle.operands.specs.declared.part.Part.the-variants.{Read, Refused}
+use Rattle.checker.specs.Expanded.{expansion, expanded}
+use Rattle.checker.specs.ExpandedLaws.{expanded-tree, expanded-size}
+use Rattle.checker.specs.Alike.{nodes-recorded}
 use Rattle.reader.specs.PlacesIn.{places-for, places-in}
-use Rattle.reader.specs.Count.{Reading-counted, counts-are}
+use Rattle.checker.specs.Count.{Reading-counted, counts-are}
 
 -- the expression has a tree of so many nodes
 pub record Places-due (syntax : Syntax) (bytes : List ℕ) (count : ℕ) : Type 0 where

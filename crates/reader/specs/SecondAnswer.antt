@@ -6,51 +6,16 @@ use lib.ListN.{length, drop}
 use lib.Dec.{ltb}
 use Rattle.language.specs.Tree.{Tree, nodes}
 use Rattle.tree.specs.RefusalNumbers.{too-many-pieces, buffer-too-short, class-buffer-too-short}
-use Rattle.tree.specs.Limits.{most-pieces}
 use Rattle.tree.specs.Layout.{record-size, class-record-size}
-use Rattle.tree.specs.Records.{encode, piece-count}
+use Rattle.tree.specs.Records.{encode}
 use Rattle.tree.specs.Places.{with-places}
-use Rattle.scanner.specs.Bytes.{Syntax, second}
-use Rattle.scanner.specs.Scanner.{Atom, Outcome, tree, refused}
-use Rattle.reader.specs.Expanded.{expanded}
-use Rattle.reader.specs.Drawn.{classes-of, classes-in, recorded}
+use Rattle.operands.specs.Bytes.{second}
+use Rattle.operands.specs.Scanner.{Atom, Outcome, tree, refused}
+use Rattle.checker.specs.Expanded.{expanded}
+use Rattle.checker.specs.Drawn.{classes-of, classes-in, recorded}
 use Rattle.reader.specs.PlacesIn.{places-in}
 use Rattle.classes.specs.ClassRecord.{encode-classes}
-use Rattle.reader.specs.declared.answer.CountedAnswer.{CountedAnswer}
-use Rattle.reader.specs.declared.answer.CountedAnswer.the-variants.{Counted, Refused}
-
--- the numbers given back: the refusal's number, 0 for none, and its place; the counts of records, pieces and classes
-pub record Counted-numbers : Type 0 where
-  pub refusal : ℕ
-  pub place : ℕ
-  pub records : ℕ
-  pub pieces : ℕ
-  pub classes : ℕ
-
--- a refusal answers its number and place, and counts of 0
-abbrev pub refusing-counts : (number place : ℕ) → Counted-numbers
-refusing-counts number place = record { refusal = number; place = place; records = 0; pieces = 0; classes = 0 }
-
--- t is counted
-abbrev pub counting : Tree Atom → Counted-numbers
-counting t =
-    record {
-      refusal = 0;
-      place = 0;
-      records = nodes (recorded t);
-      pieces = piece-count (recorded t);
-      classes = classes-in t;
-    }
-
--- the numbers that each case of an answer gives back
-abbrev pub counted-numbers : CountedAnswer → Counted-numbers
-counted-numbers (Counted records pieces classes) =
-    record { refusal = 0; place = 0; records = records; pieces = pieces; classes = classes }
-counted-numbers (Refused number place) = refusing-counts number place
-
--- the cut of the tree has more than 128 pieces
-abbrev pub too-many : Tree Atom → Bool
-too-many t = ltb most-pieces (piece-count (recorded t))
+use Rattle.checker.specs.Checked.{Counted-numbers, refusing-counts, counting, too-many}
 
 -- the record buffer is shorter than the records, the class buffer than the class records
 abbrev pub too-short : Tree Atom → (room : ℕ) → Bool
@@ -58,15 +23,6 @@ too-short t room = ltb room (record-size * nodes (recorded t))
 
 abbrev pub too-few-classes : Tree Atom → (class-room : ℕ) → Bool
 too-few-classes t class-room = ltb class-room (class-record-size * classes-in t)
-
--- what is counted for an expression's outcome: 8 where the cut has more than 128 pieces, else the counts
-abbrev pub checked-for : Outcome (Tree Atom) → Counted-numbers
-checked-for (refused number place) = refusing-counts number place
-checked-for (tree t) = cond (too-many t) (refusing-counts too-many-pieces 0) (counting t)
-
--- what a check answers for these bytes, with no buffer lent
-abbrev pub checked : Syntax → List ℕ → Counted-numbers
-checked syntax bytes = checked-for (expanded syntax bytes)
 
 -- of these two the first where nothing of 8, 9 and 15 stands against writing, in this order; else by the number
 abbrev pub pick-stored : {A : Type 0} → (many short few : Bool) → (refuses : ℕ → A) → A → A

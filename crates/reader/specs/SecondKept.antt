@@ -16,21 +16,17 @@ use Rattle.tree.specs.Layout.{record-size, class-record-size}
 use Rattle.tree.specs.Records.{encode, piece-count, Good}
 use Rattle.tree.specs.Places.{with-places}
 use Rattle.tree.specs.Lengths.{nodes-positive}
-use Rattle.scanner.specs.Bytes.{second}
-use Rattle.scanner.specs.Scanner.{Atom, Outcome, tree, refused}
-use Rattle.reader.specs.Expanded.{expanded}
-use Rattle.reader.specs.ExpandedLaws.{expanded-refusal}
-use Rattle.reader.specs.Drawn.{classes-of, classes-in, recorded}
+use Rattle.operands.specs.Bytes.{second}
+use Rattle.operands.specs.Scanner.{Atom, Outcome, tree, refused}
+use Rattle.checker.specs.Expanded.{expanded}
+use Rattle.checker.specs.ExpandedLaws.{expanded-refusal}
+use Rattle.checker.specs.Drawn.{classes-of, classes-in, recorded}
 use Rattle.classes.specs.ClassRecord.{encode-classes}
-use Rattle.reader.specs.DrawnLaws.{ranked-recorded}
+use Rattle.checker.specs.DrawnLaws.{ranked-recorded}
 use Rattle.reader.specs.PlacesIn.{places-in}
 use Rattle.reader.specs.PlacesInLaws.{recorded-places, placed-length, placed-good}
+use Rattle.checker.specs.Checked.{Counted-numbers, refusing-counts, counting, counted-numbers, too-many}
 use Rattle.reader.specs.SecondAnswer.{
-  Counted-numbers,
-  refusing-counts,
-  counting,
-  counted-numbers,
-  too-many,
   too-short,
   too-few-classes,
   pick-stored,
@@ -41,8 +37,8 @@ use Rattle.reader.specs.SecondAnswer.{
   second-records-after,
   second-classes-after,
 }
-use Rattle.reader.specs.declared.answer.CountedAnswer.{CountedAnswer}
-use Rattle.reader.specs.declared.answer.CountedAnswer.the-variants.{Counted, Refused}
+use Rattle.checker.specs.declared.answer.CountedAnswer.{CountedAnswer}
+use Rattle.checker.specs.declared.answer.CountedAnswer.the-variants.{Counted, Refused}
 
 -- an answer is known from its numbers, where these are neither a refusal nor a record
 pub counts-injective : (r s : CountedAnswer) → counted-numbers r ≡ counted-numbers s

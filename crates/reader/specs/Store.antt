@@ -16,18 +16,18 @@ use Rattle.tree.specs.Leaf.{Leaf, character}
 use Rattle.tree.specs.Records.{labels, encode, piece-count}
 use Rattle.tree.specs.Places.{with-places}
 use Rattle.lists.specs.Recording.{Recorded}
-use Rattle.scanner.specs.Bytes.{first, second}
+use Rattle.operands.specs.Bytes.{first, second}
 use Rattle.classes.specs.Class.{Class}
-use Rattle.scanner.specs.Scanner.{Atom, Outcome, tree, refused}
-use Rattle.reader.specs.Expanded.{expanded}
-use Rattle.reader.specs.ExpandedLaws.{expanded-exactly}
-use Rattle.reader.specs.Drawn.{classes-of, classes-in, recorded, recorded-from, drawn}
+use Rattle.operands.specs.Scanner.{Atom, Outcome, tree, refused}
+use Rattle.checker.specs.Expanded.{expanded}
+use Rattle.checker.specs.ExpandedLaws.{expanded-exactly}
+use Rattle.checker.specs.Drawn.{classes-of, classes-in, recorded, recorded-from, drawn}
 use Rattle.classes.specs.ClassRecord.{encode-classes}
-use Rattle.reader.specs.DrawnLaws.{first-has-no-class}
+use Rattle.checker.specs.DrawnLaws.{first-has-no-class}
 use Rattle.reader.specs.PlacesIn.{places-in}
 use Rattle.reader.specs.PlacesInLaws.{recorded-places, placed-recorded}
-use Rattle.scanner.specs.Placed.{written-at}
-use Rattle.reader.specs.Relabelled.{
+use Rattle.operands.specs.Placed.{written-at}
+use Rattle.checker.specs.Relabelled.{
   class-labels,
   relabelled,
   labelled-classes,
@@ -35,8 +35,8 @@ use Rattle.reader.specs.Relabelled.{
   classes-counted,
   labels-numbered,
 }
-use Rattle.reader.specs.ClassStore.{Labels-placed, labels-placed}
-use Rattle.reader.specs.Count.{Reading-counted, Reading-refused, Counts-are, counts-are}
+use Rattle.checker.specs.ClassStore.{Labels-placed, labels-placed}
+use Rattle.checker.specs.Count.{Reading-counted, Reading-refused, Counts-are, counts-are}
 use Rattle.reader.specs.Answer.{
   Numbers,
   refusing,
@@ -48,15 +48,10 @@ use Rattle.reader.specs.Answer.{
   records-after,
 }
 use Rattle.tree.specs.Lengths.{nodes-positive}
+use Rattle.checker.specs.Checked.{Counted-numbers, refusing-counts, counting, counted-numbers, too-many, checked-for}
 use Rattle.reader.specs.SecondAnswer.{
-  Counted-numbers,
-  refusing-counts,
-  counting,
-  counted-numbers,
-  too-many,
   too-short,
   too-few-classes,
-  checked-for,
   second-answer-for,
   second-records-for,
   second-classes-for,
@@ -66,8 +61,8 @@ use Rattle.reader.specs.SecondAnswer.{
 }
 use Rattle.reader.specs.declared.answer.ReadAnswer.{ReadAnswer}
 use Rattle.reader.specs.declared.answer.ReadAnswer.the-variants.{Read, Refused}
-use Rattle.reader.specs.declared.answer.CountedAnswer.{CountedAnswer}
-use Rattle.reader.specs.declared.answer.CountedAnswer.the-variants.{Counted, Refused as Second-refused}
+use Rattle.checker.specs.declared.answer.CountedAnswer.{CountedAnswer}
+use Rattle.checker.specs.declared.answer.CountedAnswer.the-variants.{Counted, Refused as Second-refused}
 
 -- a list with something in it is not empty, and neither is one before it
 both-empty : {A : Type 0} (xs ys : List A) → xs ++ ys ≡ [] → (xs ≡ []) × (ys ≡ [])

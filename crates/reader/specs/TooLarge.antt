@@ -16,11 +16,11 @@ use Rattle.tree.specs.Leaf.{Leaf}
 use Rattle.tree.specs.Cut.{Cut, Fits, pieces}
 use Rattle.tree.specs.Records.{piece-count}
 use Rattle.tree.specs.Least.{too-many-exactly}
-use Rattle.scanner.specs.Bytes.{first}
-use Rattle.scanner.specs.Scanner.{tree}
-use Rattle.reader.specs.Expanded.{expanded}
-use Rattle.reader.specs.Drawn.{drawn}
-use Rattle.reader.specs.DrawnLaws.{Written-as, drawn-exactly}
+use Rattle.operands.specs.Bytes.{first}
+use Rattle.operands.specs.Scanner.{tree}
+use Rattle.checker.specs.Expanded.{expanded}
+use Rattle.checker.specs.Drawn.{drawn}
+use Rattle.checker.specs.DrawnLaws.{Written-as, drawn-exactly}
 use Rattle.reader.specs.Answer.{Numbers, refusing, reading, answer-for, answered}
 
 -- of the answers to a tree, only the one for too many pieces has the number 8

@@ -1,44 +1,20 @@
 // Reads an expression into tree records, or refuses it by number and place: two readers, the second with the dot and
 // classes.
 mod answer;
-mod count;
 mod store;
 
-pub use answer::CountedAnswer;
 pub use answer::ReadAnswer;
-use count::count_first;
-use count::count_second;
+use checker::CountedAnswer;
+use checker::count::count_first;
+use checker::count::count_second;
 use store::store;
 use store::store_second;
 use tree::limits::MOST_LABELS;
 ghost use mathlib.Core.Path.{_≡_};
-ghost use mathlib.Core.Bool.{true, false};
 ghost use lib.ListN.{length};
-ghost use Rattle.scanner.specs.Bytes.{syntax-of};
 ghost use Rattle.reader.specs.Answer.{numbers, answered, records-after};
-ghost use Rattle.reader.specs.SecondAnswer.{
-  checked,
-  counted-numbers,
-  second-answered,
-  second-records-after,
-  second-classes-after,
-};
-
-// Checks an expression: what `read` refuses without a buffer, or the counts.
-pub fn check(expr: &[u8]) -> CountedAnswer
-    ensures { λ r. ⌜ counted-numbers r ≡ checked (syntax-of false) (now (expr .entry)) ⌝ }
-{
-    let mut labels = [0u16; MOST_LABELS];
-    count_first(expr, &mut labels)
-}
-
-// Checks an expression that may have the dot and classes: what `read_second` refuses without a buffer, or the counts.
-pub fn check_second(expr: &[u8]) -> CountedAnswer
-    ensures { λ r. ⌜ counted-numbers r ≡ checked (syntax-of true) (now (expr .entry)) ⌝ }
-{
-    let mut labels = [0u16; MOST_LABELS];
-    count_second(expr, &mut labels)
-}
+ghost use Rattle.checker.specs.Checked.{counted-numbers};
+ghost use Rattle.reader.specs.SecondAnswer.{second-answered, second-records-after, second-classes-after};
 
 // Reads an expression and writes its tree's records. The labels are collected apart, so that nothing is written before
 // the answer is sure.

@@ -1,6 +1,6 @@
 // From the labels of a tree to its records and class records: storing can refuse by 9 and 15 alone.
-use crate::answer::CountedAnswer;
 use crate::answer::ReadAnswer;
+use checker::CountedAnswer;
 use classes::class::class_members;
 use classes::members::VALUE_COUNT;
 use classes::members::fill;
@@ -27,13 +27,13 @@ ghost use Rattle.tree.specs.Limits.{most-labels};
 ghost use Rattle.tree.specs.Places.{with-places};
 ghost use Rattle.cutting.specs.Measured.{Postorder};
 ghost use Rattle.lists.specs.Recording.{Recorded};
-ghost use Rattle.scanner.specs.Bytes.{syntax-of};
+ghost use Rattle.operands.specs.Bytes.{syntax-of};
 ghost use Rattle.classes.specs.ClassRecord.{class-record, encode-classes};
 ghost use Rattle.classes.specs.ClassAt.{class-at, Class-here};
 ghost use Rattle.classes.specs.Members.{Members, value-count};
-ghost use Rattle.reader.specs.Relabelled.{class-labels, relabelled, labelled-classes};
-ghost use Rattle.reader.specs.ClassStore.{Labels-placed, Label-to-store, Label-stored, Label-numbered};
-ghost use Rattle.reader.specs.Count.{Reading-counted, First-counted};
+ghost use Rattle.checker.specs.Relabelled.{class-labels, relabelled, labelled-classes};
+ghost use Rattle.checker.specs.ClassStore.{Labels-placed, Label-to-store, Label-stored, Label-numbered};
+ghost use Rattle.checker.specs.Count.{Reading-counted, First-counted};
 ghost use Rattle.reader.specs.Store.{Read-answer, Second-answer};
 ghost use Rattle.reader.specs.PlacesIn.{places-in};
 ghost use Rattle.reader.specs.Placing.{Places-due};

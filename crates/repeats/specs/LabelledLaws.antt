@@ -39,15 +39,6 @@ use Rattle.repeats.specs.Labelled.{
   copied,
 }
 
--- the count is never above one past the most
-pub appended-few : {earlier later new : List ℕ} {count total : ℕ} → Appended earlier count new total later
-    → total ≤ slot-count
-appended-few a = omega (arith, a .counted)
-
-pub labelled-few : {places : Bool} {x : Placed-tree Leaf} {begin total : ℕ} {earlier later : List ℕ}
-    → Labelled places x begin earlier total later → total ≤ slot-count
-labelled-few a = omega (arith, a .counted)
-
 -- what is noted of a tree is appended, and the other way round
 pub as-appended : {places : Bool} {x : Placed-tree Leaf} {begin total : ℕ} {earlier later : List ℕ}
     → Labelled places x begin earlier total later → Appended earlier begin (noted places x) total later

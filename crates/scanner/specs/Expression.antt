@@ -25,15 +25,15 @@ use Rattle.tree.specs.Limits.{longest-expression, most-labels}
 use Rattle.tree.specs.Leaf.{Leaf}
 use Rattle.tree.specs.Records.{labels}
 use Rattle.repeats.specs.Noted.{noted, noted-labels, noted-places}
-use Rattle.scanner.specs.Bytes.{Syntax}
-use Rattle.scanner.specs.Placed.{atom-at, Leaf-placed, written-at, Placed, signs-at}
-use Rattle.scanner.specs.Scanner.{Atom, no-text, tree, refused, due, nothing, scan, scanned}
-use Rattle.scanner.specs.Grammar.{united}
-use Rattle.scanner.specs.Stopping.{closes-united}
-use Rattle.scanner.specs.Surroundings.{from, Fails, accepts, closes-none}
-use Rattle.scanner.specs.Reading.{whole-tree, Whole}
-use Rattle.scanner.specs.declared.part.Part.{Part}
-use Rattle.scanner.specs.declared.part.Part.the-variants.{Read, Refused}
+use Rattle.operands.specs.Bytes.{Syntax}
+use Rattle.operands.specs.Placed.{atom-at, Leaf-placed, written-at, Placed, signs-at}
+use Rattle.operands.specs.Scanner.{Atom, no-text, tree, refused, due, nothing, scan, scanned}
+use Rattle.operands.specs.Grammar.{united}
+use Rattle.operands.specs.Stopping.{closes-united}
+use Rattle.operands.specs.Surroundings.{from, Fails, accepts, closes-none}
+use Rattle.operands.specs.Reading.{whole-tree, Whole}
+use Rattle.operands.specs.declared.part.Part.{Part}
+use Rattle.operands.specs.declared.part.Part.the-variants.{Read, Refused}
 
 -- the expression has a tree of signs, and the labels are those of the tree that it stands for, while there is room; or
 -- its places: one more than there is room for says that it has more nodes

@@ -1,11 +1,11 @@
 // A catenation: operands one after the other, up to a `|`, a `)` or the end.
 use crate::operand::operand;
-use crate::part::Part;
+use operands::part::Part;
 use repeats::copies::put_note;
 use tree::layout::CATENATION_LABEL;
-ghost use Rattle.scanner.specs.Bytes.{syntax-of};
-ghost use Rattle.scanner.specs.Grammar.{joined};
-ghost use Rattle.scanner.specs.Reading.{Scratch-room, Part-answer};
+ghost use Rattle.operands.specs.Bytes.{syntax-of};
+ghost use Rattle.operands.specs.Grammar.{joined};
+ghost use Rattle.operands.specs.Reading.{Scratch-room, Part-answer};
 
 // Reads a catenation from a place on: the place of its node is where its right operand begins.
 pub fn catenation(

@@ -1,6 +1,6 @@
 // A whole expression.
-use crate::part::Part;
 use crate::union::union;
+use operands::part::Part;
 use tree::limits::LONGEST_EXPRESSION;
 use tree::refusal_numbers::CLOSING_WITHOUT_GROUP;
 use tree::refusal_numbers::EXPRESSION_EMPTY;
@@ -8,7 +8,7 @@ use tree::refusal_numbers::EXPRESSION_TOO_LONG;
 ghost use Prim.Native.Nat.{_≤_};
 ghost use lib.ListN.{length};
 ghost use Rattle.tree.specs.Limits.{most-labels};
-ghost use Rattle.scanner.specs.Bytes.{syntax-of};
+ghost use Rattle.operands.specs.Bytes.{syntax-of};
 ghost use Rattle.scanner.specs.Expression.{Expression-answer};
 
 // Writes the labels of the tree that an expression stands for, or where `places` says so the places of its nodes, while

@@ -1,15 +1,15 @@
 // An operand with its signs: a single one, or a group.
-use crate::part::Part;
-use crate::signs::signs;
-use crate::single::single;
 use crate::union::union;
+use operands::part::Part;
+use operands::signs::signs;
+use operands::single::single;
 use tree::limits::MOST_GROUPS;
 use tree::refusal_numbers::GROUP_LEFT_OPEN;
 use tree::refusal_numbers::OPERAND_MISSING;
 use tree::refusal_numbers::TOO_MANY_GROUPS;
-ghost use Rattle.scanner.specs.Bytes.{syntax-of};
-ghost use Rattle.scanner.specs.Grammar.{starred};
-ghost use Rattle.scanner.specs.Reading.{Scratch-room, Part-answer};
+ghost use Rattle.operands.specs.Bytes.{syntax-of};
+ghost use Rattle.operands.specs.Grammar.{starred};
+ghost use Rattle.operands.specs.Reading.{Scratch-room, Part-answer};
 
 // Reads the operand at a place: 3 where none stands there, 4 and 6 at a `(`, 7, 14 and 16. Its labels begin at `count`.
 pub fn operand(

@@ -1,11 +1,11 @@
 // A union: catenations with `|` between them, up to a `)` or the end.
 use crate::catenation::catenation;
-use crate::part::Part;
+use operands::part::Part;
 use repeats::copies::put_note;
 use tree::layout::UNION_LABEL;
-ghost use Rattle.scanner.specs.Bytes.{syntax-of};
-ghost use Rattle.scanner.specs.Grammar.{united};
-ghost use Rattle.scanner.specs.Reading.{Scratch-room, Part-answer};
+ghost use Rattle.operands.specs.Bytes.{syntax-of};
+ghost use Rattle.operands.specs.Grammar.{united};
+ghost use Rattle.operands.specs.Reading.{Scratch-room, Part-answer};
 
 // Reads a union from a place on: the place of its node is its `|`.
 pub fn union(

@@ -112,9 +112,8 @@ part-same c before after long same = ext-getD 0 (part c after) (part c before) a
         part-at c after o inside ∙ same o inside ∙ sym (part-at c before o inside)
 
 -- a child piece that was gone through, as it stands in the words now: its start is marked, or waits for a mark of its
--- stand-in's;
--- its accepting state was passed up; each piece of its run is closed in itself, and the run is settled where all are
--- said to be
+-- stand-in's; its accepting state was passed up; each piece of its run is closed in itself, and the run is settled
+-- where all are said to be
 pub record Gone (words : List ℕ) (waiting : ℕ) (settled : Bool) (at : ℕ) (c : Child) : Type 0 where
   pub behind : c .from + (1 + run (c .tree)) ≤ at
   pub after-own : 0 < c .from
@@ -256,8 +255,7 @@ module _ (reach codes runs stands tops : List ℕ) where
 
   module _ (x : Nested Leaf) (k : ℕ) where
     -- a sweep under way: the child pieces that are left stand from `at` on as at the beginning, and their visits are
-    -- the last of the sweep's;
-    -- the others were gone through
+    -- the last of the sweep's; the others were gone through
     pub record Under-way (begun words : List ℕ) (at waiting : ℕ) (settled : Bool) : Type 0 where
       pub rest : List Child
       pub chain : Lined-up begun x k rest at (length words)

@@ -60,8 +60,7 @@ module _ (reach codes runs stands tops : List ℕ) where
     pub narrow-below : Narrow-below x
 
   -- the words are the run of x's pieces, the first of which is piece k of the tables; no bit past a last state is set,
-  -- and each piece is
-  -- closed in itself but for the first, whose start may have been marked since
+  -- and each piece is closed in itself but for the first, whose start may have been marked since
   pub record Sweepable (x : Nested Leaf) (k : ℕ) (words : List ℕ) : Type 0 where
     pub laid : In-tables x k
     pub whole-run : length words ≡ 1 + run x

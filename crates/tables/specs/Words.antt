@@ -60,8 +60,8 @@ number (below x) (left q) = 0
 number (below x) (right q) = 0
 
 -- which states are marked. In a walk of the piece's own tree a start is numbered on entry and an accepting state on
--- leaving: x's are
--- numbered from i, and their bits stand in the word w. The words of the child pieces below x are at the beginning of ws
+-- leaving: x's are numbered from i, and their bits stand in the word w. The words of the child pieces below x are at
+-- the beginning of ws
 abbrev pub Marked : {A : Type 0} → Nested A → ℕ → ℕ → List ℕ → States
 Marked (leaf a) w i ws start = Bit w i
 Marked (leaf a) w i ws accepting = Bit w (i + 1)

@@ -16,6 +16,7 @@ use Rattle.tree.specs.Layout.{
   record-size,
   no-child,
   two-bytes,
+  two-bytes-limit,
   record-of,
   number-at,
   kind-at,
@@ -191,7 +192,7 @@ place-before (place ∷ places) list r q before =
     ∙ rw (kept low (omega arith), kept (low + 1) (omega arith)) refl
 
 -- the place of a record that one is put into
-place-put : (list : List ℕ) (r place : ℕ) → record-size * r + record-size ≤ length list → place < 65536
+place-put : (list : List ℕ) (r place : ℕ) → record-size * r + record-size ≤ length list → place < two-bytes-limit
     → place-at (sets list (record-size * r + 8) (two-bytes place)) r ≡ place
 place-put list r place room small =
     let at : ℕ = record-size * r + 8 in
@@ -205,7 +206,7 @@ place-put list r place room small =
     rw (next, low, high) (omega arith)
 
 place-placed : (places list : List ℕ) (r j : ℕ) → j < length places
-    → record-size * (r + length places) ≤ length list → getD places j 0 < 65536
+    → record-size * (r + length places) ≤ length list → getD places j 0 < two-bytes-limit
     → place-at (placed-from r places list) (r + j) ≡ getD places j 0
 place-placed [] list r j inside room small = absurd (omega arith)
 place-placed (place ∷ places) list r zero inside room small =
@@ -219,7 +220,7 @@ place-placed (place ∷ places) list r (suc j) inside room small =
 
 -- the place of record j is the j-th
 pub place-with-places : (places list : List ℕ) (j : ℕ) → j < length places
-    → record-size * length places ≤ length list → getD places j 0 < 65536
+    → record-size * length places ≤ length list → getD places j 0 < two-bytes-limit
     → place-at (with-places places list) j ≡ getD places j 0
 place-with-places places list j inside room small =
     rw (zero-add j) at (place-placed places list 0 j inside (omega arith) small)

@@ -20,21 +20,6 @@ pub rows-none : (Row : ℕ → ℕ → Type 0) (before : List ℕ) (base : ℕ) 
 rows-none Row before base = record { same-length = refl; rows = λ i h. absurd (omega arith); others = λ k _. refl }
 
 module _ {Row : ℕ → ℕ → Type 0} {before after : List ℕ} {base n : ℕ} (so-far : Rows Row before after base n) where
-  -- all that were to be made
-  pub rows-all : {m : ℕ} → n ≡ m → Rows Row before after base m
-  rows-all e = subst (λ (k : ℕ). Rows Row before after base k) e so-far
-
-  -- one more that is right already
-  pub rows-same : Row n (getD after (base + n) 0) → Rows Row before after base (n + 1)
-  rows-same r = record {
-    same-length = so-far .same-length;
-    rows = λ i h. elim (ℕ-discrete i n) [
-      | yes e ↦ subst (λ (k : ℕ). Row k (getD after (base + k) 0)) (sym e) r
-      | no l ↦ so-far .rows i (omega arith)
-    ];
-    others = λ k h. so-far .others k (⊎-elim inl (λ l. inr (omega arith)) h);
-  }
-
   -- one more, stored
   pub rows-set : (w : ℕ) → base + n < length before → Row n w → Rows Row before (set after (base + n) w) base (n + 1)
   rows-set w l r = record {
@@ -57,14 +42,3 @@ module _ {Row : ℕ → ℕ → Type 0} {before after : List ℕ} {base n : ℕ}
 -- an entry of the row of piece k, by its place in the table
 pub row-at : (table : List ℕ) (k n i : ℕ) → i < n → getD (row table k n) i 0 ≡ getD table (row-size * k + i) 0
 row-at table k n i h = getD-take n (drop (row-size * k) table) i 0 h ∙ getD-drop (row-size * k) table i 0
-
--- the row of a piece is the same in two tables that have the same entries there
-pub row-same : (table table′ : List ℕ) (k n : ℕ) → length table ≡ length table′
-    → ((i : ℕ) → i < n → getD table (row-size * k + i) 0 ≡ getD table′ (row-size * k + i) 0)
-    → row table k n ≡ row table′ k n
-row-same table table′ k n e h =
-    ext-getD 0 (row table k n) (row table′ k n) (simp (length-take, length-drop, e))
-    (λ i l. row-at table k n i (within i l) ∙ h i (within i l) ∙ sym (row-at table′ k n i (within i l)))
-  where
-    within : (i : ℕ) → i < length (row table k n) → i < n
-    within i l = omega (arith, length-take n (drop (row-size * k) table))

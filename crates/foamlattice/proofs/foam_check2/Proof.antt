@@ -1,6 +1,6 @@
 -- `foamlattice::foam_check2` meets its contract: the numbers are those of `reader::check_second`, and each fits its part of the word.
 use mathlib.Core.Path.{sym, ap, _∙_}
-use Rattle.scanner.specs.Bytes.{second}
+use Rattle.operands.specs.Bytes.{second}
 use Rattle.foamlattice.specs.Promise.{second-packed}
 use Rattle.foamlattice.specs.Bounds.{checked-ranges}
 use borrow.Author.Needs.{needs}

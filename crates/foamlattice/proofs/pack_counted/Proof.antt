@@ -1,11 +1,11 @@
 -- `foamlattice::pack_counted` meets its contract: each number fits its part of the word.
 use native.Mathlib.Omega.{arith}
 use mathlib.Core.Path.{ap, sym, _∙_}
-use Rattle.reader.specs.SecondAnswer.{counted-numbers}
+use Rattle.checker.specs.Checked.{counted-numbers}
 use Rattle.foamlattice.specs.Promise.{second-packed}
 use Rattle.foamlattice.specs.Bounds.{Second-ranges}
 use Rattle.foamlattice.proofs.Told.{second-number, second-refused-number}
-use Rattle.reader.specs.declared.answer.CountedAnswer.the-variants.{Counted, Refused}
+use Rattle.checker.specs.declared.answer.CountedAnswer.the-variants.{Counted, Refused}
 use borrow.Author.Needs.{needs}
 use Rattle.foamlattice.proofs.pack_counted.Statement.{statement}
 use Rattle.foamlattice.proofs.pack_counted.Tie as tie

@@ -6,8 +6,8 @@ use mathlib.Core.Bool.{Bool, true, false, false≢true}
 use native.Mathlib.Omega.{arith}
 use borrow.Author.Tests.{not-true, not-false}
 use borrow.Author.Needs.{needs}
+use Rattle.stepping.specs.Hold.{Marks-of}
 use Rattle.marks.specs.Promise.{
-  Marks-of,
   Too-few,
   start-too-few,
   started,
@@ -15,15 +15,15 @@ use Rattle.marks.specs.Promise.{
   step-not-marks,
   stepped,
 }
-use Rattle.marks.specs.Inner.{prepared-checkable, prepared-told}
+use Rattle.stepping.specs.Inner.{prepared-checkable, prepared-told}
 use Rattle.marks.proofs.mark_in.Statement.{statement}
 use Rattle.marks.proofs.mark_in.Tie as tie
 use Rattle.marks.proofs.mark_in.Reads as reads
 use Rattle.marks.proofs.mark_in.Lts as lts
-use Rattle.marks.proofs.agree.agreeing.Reads as agreeing-reads
-use Rattle.marks.proofs.inner.advance.Reads as advance-reads
-use Rattle.marks.proofs.inner.begin.Reads as begin-reads
-use Rattle.marks.proofs.inner.prepare.Reads as prepare-reads
+use Rattle.stepping.proofs.agree.agreeing.Reads as agreeing-reads
+use Rattle.stepping.proofs.inner.advance.Reads as advance-reads
+use Rattle.stepping.proofs.inner.begin.Reads as begin-reads
+use Rattle.stepping.proofs.inner.prepare.Reads as prepare-reads
 
 -- where the tables were made, and where the call began
 abbrev tables-made : tie.After-slice-known5 → tie.After-prepare

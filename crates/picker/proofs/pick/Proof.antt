@@ -2,7 +2,7 @@
 use mathlib.Core.List.{[]}
 use native.Mathlib.Omega.{arith}
 use Rattle.finder.specs.Decide.{matches}
-use Rattle.picker.specs.OutputCases.{output-long, output-short}
+use Rattle.printing.specs.OutputCases.{output-long, output-short}
 use Rattle.picker.specs.Written.{wrote}
 use borrow.Author.Needs.{needs}
 use Rattle.picker.proofs.pick.Statement.{statement}

@@ -10,7 +10,7 @@ use Rattle.tree.specs.Layout.{record-size}
 use Rattle.reader.specs.Answer.{numbers}
 use Rattle.reader.specs.Kept.{Kept, kept}
 use Rattle.picker.specs.Report.{Refusal-read, told, read-outcome, reports-refusal, reports-texts, texts-space}
-use Rattle.picker.specs.Room.{refusal-line-length}
+use Rattle.printing.specs.Room.{refusal-line-length}
 use borrow.Author.Needs.{needs}
 use Rattle.picker.proofs.report_lines.Statement.{statement}
 use Rattle.picker.proofs.report_lines.Tie as tie

@@ -1,8 +1,8 @@
 -- `reader::read` meets its contract: what is read and counted is stored, or the refusal is handed on.
 use mathlib.Core.Path.{_≡_, sym}
 use native.Mathlib.Omega.{arith}
-use Rattle.scanner.specs.Bytes.{first}
-use Rattle.reader.specs.Count.{Reading-counted}
+use Rattle.operands.specs.Bytes.{first}
+use Rattle.checker.specs.Count.{Reading-counted}
 use Rattle.reader.specs.Store.{refused-read}
 use borrow.Author.Needs.{needs}
 use Rattle.reader.proofs.read.Statement.{statement}

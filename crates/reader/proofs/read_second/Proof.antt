@@ -1,8 +1,8 @@
 -- `reader::read_second` meets its contract: what is read and counted is stored, or the refusal is handed on.
 use mathlib.Core.Path.{_≡_, sym}
 use native.Mathlib.Omega.{arith}
-use Rattle.scanner.specs.Bytes.{second}
-use Rattle.reader.specs.Count.{Reading-counted}
+use Rattle.operands.specs.Bytes.{second}
+use Rattle.checker.specs.Count.{Reading-counted}
 use Rattle.reader.specs.Store.{refused-second}
 use borrow.Author.Needs.{needs}
 use Rattle.reader.proofs.read_second.Statement.{statement}

@@ -10,7 +10,7 @@ use Rattle.finder.proofs.good.find_in.Reads as reads
 use Rattle.finder.proofs.good.find_in.Lts as lts
 use Rattle.matching.proofs.part.first_part.Reads as first-part-reads
 use Rattle.matching.proofs.text.text_matches.Reads as text-matches-reads
-use Rattle.marks.proofs.inner.prepare.Reads as prepare-reads
+use Rattle.stepping.proofs.inner.prepare.Reads as prepare-reads
 
 -- where the tables were made, and where the call began
 abbrev tables-made : tie.After-slice-known4 → tie.After-prepare

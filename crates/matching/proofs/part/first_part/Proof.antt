@@ -12,7 +12,7 @@ use Rattle.tree.specs.Leaf.{Leaf, Matches}
 use mathlib.Core.List.{[]}
 use Rattle.tree.specs.Limits.{most-pieces}
 use Rattle.tables.specs.Tables.{Prepared, Ready, Answered}
-use Rattle.marks.specs.Inner.{answered-first}
+use Rattle.stepping.specs.Inner.{answered-first}
 use Rattle.matching.specs.Found.{None-before}
 use Rattle.matching.specs.Parts.{end-of}
 use Rattle.matching.specs.declared.part.End.{End}

@@ -9,16 +9,16 @@ use Rattle.language.specs.Tree.{Tree}
 use Rattle.tree.specs.Limits.{most-pieces}
 use Rattle.tree.specs.Leaf.{Leaf}
 use Rattle.tables.specs.Tables.{Prepared, Ready}
-use Rattle.marks.specs.Texts.{nothing-left}
-use Rattle.marks.specs.Inner.{running, holding-marks, answered-copy, answered-next}
+use Rattle.stepping.specs.Texts.{nothing-left}
+use Rattle.stepping.specs.Inner.{running, holding-marks, answered-copy, answered-next}
 use Rattle.matching.specs.Parts.{end-of}
 use Rattle.matching.specs.Answering.{Looking, standing-first, standing-next, settled-early, settled-at-end}
 use Rattle.matching.proofs.part.furthest_end.Statement.{statement}
 use Rattle.matching.proofs.part.furthest_end.Tie as tie
 use Rattle.matching.proofs.part.furthest_end.Reads as reads
 use Rattle.matching.proofs.part.furthest_end.Lts as lts
-use Rattle.marks.proofs.inner.advance.Reads as advance-reads
-use Rattle.marks.proofs.inner.copy.Reads as copy-reads
+use Rattle.stepping.proofs.inner.advance.Reads as advance-reads
+use Rattle.stepping.proofs.inner.copy.Reads as copy-reads
 use Rattle.matching.proofs.part.with_end.Reads as with-end-reads
 
 abbrev Inv-loop : tie.InvT-loop

@@ -10,18 +10,18 @@ use borrow.Author.Needs.{needs}
 use lib.ListN.{length, take, drop, take-append-drop}
 use lib.Seq.{take-all}
 use Rattle.matching.specs.Taken.{take-next}
-use Rattle.marks.specs.Texts.{nothing-left}
+use Rattle.stepping.specs.Texts.{nothing-left}
 use Rattle.language.specs.Tree.{Tree}
 use Rattle.tree.specs.Limits.{most-pieces}
 use Rattle.tree.specs.Leaf.{Leaf, Matches}
 use Rattle.tables.specs.Tables.{Prepared, Ready, Answered}
-use Rattle.marks.specs.Inner.{running, holding-marks, answered-first, answered-next}
+use Rattle.stepping.specs.Inner.{running, holding-marks, answered-first, answered-next}
 use Rattle.matching.proofs.text.text_matches.Statement.{statement}
 use Rattle.matching.proofs.text.text_matches.Tie as tie
 use Rattle.matching.proofs.text.text_matches.Reads as reads
 use Rattle.matching.proofs.text.text_matches.Lts as lts
-use Rattle.marks.proofs.inner.advance.Reads as advance-reads
-use Rattle.marks.proofs.inner.begin.Reads as begin-reads
+use Rattle.stepping.proofs.inner.advance.Reads as advance-reads
+use Rattle.stepping.proofs.inner.begin.Reads as begin-reads
 
 -- no text that begins so is in the language, and this one does
 never-matches : (classes : List ℕ) (t : Tree Leaf) (text : List ℕ) (i : ℕ)

@@ -1,6 +1,5 @@
 -- `picker::texts::texts` meets its contract: before each text the lines printed so far, with those still to come, are
--- the whole output. The
--- measure is what is left of the input.
+-- the whole output. The measure is what is left of the input.
 use Prim.Native.Nat.{ℕ, _-_}
 use mathlib.Core.Path.{_≡_, refl, sym, ap, _∙_}
 use mathlib.Core.Bool.{Bool}
@@ -13,8 +12,8 @@ use Rattle.language.specs.Tree.{Tree}
 use Rattle.tree.specs.Leaf.{Leaf}
 use Rattle.tables.specs.Tables.{Prepared}
 use Rattle.finder.specs.Decide.{matches}
-use Rattle.picker.specs.EndLaws.{after-start}
-use Rattle.picker.specs.Print.{yes-after}
+use Rattle.printing.specs.EndLaws.{after-start}
+use Rattle.printing.specs.Print.{yes-after}
 use Rattle.picker.specs.Loop.{
   Print-space,
   space-line,

@@ -3,7 +3,7 @@ use Prim.Native.Nat.{ℕ, _-_, _≤_}
 use mathlib.Core.Path.{_≡_, refl, _∙_}
 use native.Mathlib.Omega.{arith}
 use lib.ListN.{length}
-use Rattle.reader.specs.ClassStore.{Labels-numbered, none-numbered, next-numbered, number-le, all-numbered}
+use Rattle.checker.specs.ClassStore.{Labels-numbered, none-numbered, next-numbered, number-le, all-numbered}
 use borrow.Author.Needs.{needs}
 use Rattle.reader.proofs.store.number_classes.Statement.{statement}
 use Rattle.reader.proofs.store.number_classes.Tie as tie

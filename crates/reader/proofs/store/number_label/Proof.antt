@@ -1,6 +1,6 @@
 -- `reader::store::number_label` meets its contract: a class label gets the number, another label stays.
 use native.Mathlib.Omega.{arith}
-use Rattle.reader.specs.ClassStore.{class-label-numbered, other-label-numbered}
+use Rattle.checker.specs.ClassStore.{class-label-numbered, other-label-numbered}
 use borrow.Author.Needs.{needs}
 use Rattle.reader.proofs.store.number_label.Statement.{statement}
 use Rattle.reader.proofs.store.number_label.Tie as tie

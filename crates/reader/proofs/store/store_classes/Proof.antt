@@ -4,7 +4,7 @@ use Prim.Native.Nat.{ℕ, _-_, _≤_}
 use mathlib.Core.Path.{_≡_, refl, _∙_}
 use native.Mathlib.Omega.{arith}
 use lib.ListN.{length}
-use Rattle.reader.specs.ClassStore.{
+use Rattle.checker.specs.ClassStore.{
   Classes-stored,
   no-class-stored,
   next-stored,

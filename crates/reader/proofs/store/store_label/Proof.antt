@@ -1,6 +1,6 @@
 -- `reader::store::store_label` meets its contract: a class label's record is stored, of another label none.
 use native.Mathlib.Omega.{arith}
-use Rattle.reader.specs.ClassStore.{class-label-stored, other-label-stored}
+use Rattle.checker.specs.ClassStore.{class-label-stored, other-label-stored}
 use borrow.Author.Needs.{needs}
 use Rattle.reader.proofs.store.store_label.Statement.{statement}
 use Rattle.reader.proofs.store.store_label.Tie as tie

@@ -5,12 +5,12 @@ use mathlib.Core.Path.{_≡_, refl, ap, sym, _∙_}
 use native.Mathlib.Omega.{arith}
 use lib.ListN.{length}
 use lib.Seq.{length-take-le, take-at}
-use Rattle.reader.specs.ClassStore.{labels-placed}
-use Rattle.reader.specs.Count.{classes-bounded}
+use Rattle.checker.specs.ClassStore.{labels-placed}
+use Rattle.checker.specs.Count.{classes-bounded}
 use Rattle.reader.specs.Placing.{due-counted}
-use Rattle.reader.specs.Drawn.{recorded}
-use Rattle.scanner.specs.Placed.{written-at}
-use Rattle.reader.specs.Relabelled.{relabelled}
+use Rattle.checker.specs.Drawn.{recorded}
+use Rattle.operands.specs.Placed.{written-at}
+use Rattle.checker.specs.Relabelled.{relabelled}
 use lib.ListN.{take, drop, length-append, length-drop}
 use mathlib.Core.List.{List, _++_}
 use Rattle.reader.specs.Store.{

@@ -6,12 +6,12 @@ use native.Mathlib.Omega.{arith}
 use borrow.Author.Needs.{needs}
 use lib.ListN.{length, getD}
 use mathlib.Core.Bool.{true}
-use Rattle.scanner.specs.Bytes.{syntax-of, sign-of}
-use Rattle.scanner.specs.Grammar.{starred, joined}
-use Rattle.scanner.specs.Stopping.{Stops, at-end, beginning, stops-at, begins-next}
-use Rattle.scanner.specs.Surroundings.{fails-joined, fails-factor}
-use Rattle.scanner.specs.Reading.{Carries, Whole, Read-up-to}
-use Rattle.scanner.specs.ReadingLaws.{went-joined, went-factor}
+use Rattle.operands.specs.Bytes.{syntax-of, sign-of}
+use Rattle.operands.specs.Grammar.{starred, joined}
+use Rattle.operands.specs.Stopping.{Stops, at-end, beginning, stops-at, begins-next}
+use Rattle.operands.specs.Surroundings.{fails-joined, fails-factor}
+use Rattle.operands.specs.Reading.{Carries, Whole, Read-up-to}
+use Rattle.operands.specs.ReadingLaws.{went-joined, went-factor}
 use Rattle.scanner.proofs.catenation.catenation.Reads as catenation
 use Rattle.scanner.proofs.+catenation-catenation+operand-operand+union-union.Lts-catenation-catenation as lts
 use Rattle.scanner.proofs.+catenation-catenation+operand-operand+union-union.Proof.Base.{

@@ -2,11 +2,11 @@
 use Prim.Native.Nat.{ℕ, _+_}
 use native.Mathlib.Omega.{arith}
 use borrow.Author.Needs.{needs}
-use Rattle.scanner.specs.Bytes.{syntax-of}
-use Rattle.scanner.specs.Grammar.{starred, united}
-use Rattle.scanner.specs.Surroundings.{fails-end, fails-deep, fails-group, fails-open}
-use Rattle.scanner.specs.Reading.{Whole, Read-up-to}
-use Rattle.scanner.specs.ReadingLaws.{went-group, then-signs}
+use Rattle.operands.specs.Bytes.{syntax-of}
+use Rattle.operands.specs.Grammar.{starred, united}
+use Rattle.operands.specs.Surroundings.{fails-end, fails-deep, fails-group, fails-open}
+use Rattle.operands.specs.Reading.{Whole, Read-up-to}
+use Rattle.operands.specs.ReadingLaws.{went-group, then-signs}
 use Rattle.scanner.proofs.operand.operand.Reads as operand
 use Rattle.scanner.proofs.+catenation-catenation+operand-operand+union-union.Lts-operand-operand as lts
 use Rattle.scanner.proofs.+catenation-catenation+operand-operand+union-union.Proof.Base.{

@@ -5,12 +5,12 @@ use mathlib.Core.Path.{_≡_, refl, _∙_}
 use native.Mathlib.Omega.{arith}
 use borrow.Author.Needs.{needs}
 use lib.ListN.{length}
-use Rattle.scanner.specs.Bytes.{syntax-of}
-use Rattle.scanner.specs.Grammar.{joined, united}
-use Rattle.scanner.specs.Stopping.{Stops, at-end, stops-united}
-use Rattle.scanner.specs.Surroundings.{fails-united, fails-branch}
-use Rattle.scanner.specs.Reading.{Carries, Whole, Read-up-to}
-use Rattle.scanner.specs.ReadingLaws.{went-united, went-branch}
+use Rattle.operands.specs.Bytes.{syntax-of}
+use Rattle.operands.specs.Grammar.{joined, united}
+use Rattle.operands.specs.Stopping.{Stops, at-end, stops-united}
+use Rattle.operands.specs.Surroundings.{fails-united, fails-branch}
+use Rattle.operands.specs.Reading.{Carries, Whole, Read-up-to}
+use Rattle.operands.specs.ReadingLaws.{went-united, went-branch}
 use Rattle.scanner.proofs.union.union.Reads as union
 use Rattle.scanner.proofs.+catenation-catenation+operand-operand+union-union.Lts-union-union as lts
 use Rattle.scanner.proofs.+catenation-catenation+operand-operand+union-union.Proof.Base.{union-at, union-claims}

@@ -6,9 +6,9 @@ use native.Mathlib.Omega.{arith}
 use lib.ListN.{length}
 use borrow.Author.Needs.{needs}
 use Rattle.tree.specs.Limits.{longest-expression}
-use Rattle.scanner.specs.Bytes.{syntax-of}
-use Rattle.scanner.specs.Grammar.{united}
-use Rattle.scanner.specs.Reading.{Whole}
+use Rattle.operands.specs.Bytes.{syntax-of}
+use Rattle.operands.specs.Grammar.{united}
+use Rattle.operands.specs.Reading.{Whole}
 use Rattle.scanner.specs.Expression.{empty, too-long, faulty, unopened, accepted}
 use Rattle.scanner.proofs.expression.expression.Statement.{statement}
 use Rattle.scanner.proofs.expression.expression.Tie as tie

@@ -1,6 +1,5 @@
 -- `sweeping::sweep::close_twice` meets its contract: each of the two sweeps is lent the first words, which come back
--- swept; where the first
--- settles them a second would change nothing.
+-- swept; where the first settles them a second would change nothing.
 use borrow.Author.Needs.{needs}
 use mathlib.Core.Path.{sym}
 use mathlib.Core.List.{_++_}

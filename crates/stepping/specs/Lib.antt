@@ -1,0 +1,9 @@
+-- Start and step in a list's tables, for callers that make these once. In the order of reading.
+-- words that hold a set of states
+pub mod Hold
+-- the words after a text
+pub mod Texts
+-- refusal 13: the two bits of a shared state
+pub mod SharedStates
+-- making the tables, and what start and step in them do
+pub mod Inner
