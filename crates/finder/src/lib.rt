@@ -1,5 +1,4 @@
 // Whole-text match and search over good lists.
-mod good;
 pub mod numbers;
 
 use matching::part::Span;
@@ -14,6 +13,7 @@ ghost use Rattle.finder.specs.Answer.{as-match, match-numbers, search-nu
 ghost use Rattle.finder.specs.Promise.{Match-answers, Search-answers};
 use deciding::good::Decided;
 use deciding::good::decide_with;
+use finding::good::find_good;
 use stepping::inner::FEW_PIECES;
 use tree::layout::CLASS_RECORD_SIZE;
 use tree::layout::RECORD_SIZE;
@@ -71,7 +71,7 @@ fn find_by(list: &[u8], classes: &[u8], cuts: &mut [u16], text: &[u8], whole: bo
     if LONGEST_TEXT < text.len() {
         return Searched::TooLong;
     }
-    let part = good::find_good(list, classes, cuts, pieces, FEW_PIECES, text, whole);
+    let part = find_good(list, classes, cuts, pieces, FEW_PIECES, text, whole);
     match part {
         Span::At { start, end } => Searched::Found { start, end },
         Span::Nothing => Searched::Nothing,

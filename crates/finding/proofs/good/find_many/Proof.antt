@@ -1,8 +1,8 @@
--- `finder::good::find_many` meets its contract: it is `find_in`'s, and there are at most 128 pieces.
+-- `finding::good::find_many` meets its contract: it is `find_in`'s, and there are at most 128 pieces.
 use native.Mathlib.Omega.{arith}
 use borrow.Author.Needs.{needs}
-use Rattle.finder.proofs.good.find_many.Statement.{statement}
-use Rattle.finder.proofs.good.find_many.Tie as tie
+use Rattle.finding.proofs.good.find_many.Statement.{statement}
+use Rattle.finding.proofs.good.find_many.Tie as tie
 
 slice-aggregate-find-in : tie.Need-slice-aggregate-find-in
 slice-aggregate-find-in c = search needs

@@ -1,8 +1,8 @@
--- `finder::good::find_some` meets its contract: it is `find_in`'s, and its tables have room for 64 pieces.
+-- `finding::good::find_few` meets its contract: it is `find_in`'s, and small tables have room for few pieces.
 use native.Mathlib.Omega.{arith}
 use borrow.Author.Needs.{needs}
-use Rattle.finder.proofs.good.find_some.Statement.{statement}
-use Rattle.finder.proofs.good.find_some.Tie as tie
+use Rattle.finding.proofs.good.find_few.Statement.{statement}
+use Rattle.finding.proofs.good.find_few.Tie as tie
 
 slice-aggregate-find-in : tie.Need-slice-aggregate-find-in
 slice-aggregate-find-in c = search needs
@@ -27,8 +27,8 @@ find-in-requires c κs =
 returns : tie.Need-returns
 returns c = c .before .before .find-in .ensures
 
-pub find-some-spec : {M : Type 1} → statement M
-find-some-spec =
+pub find-few-spec : {M : Type 1} → statement M
+find-few-spec =
     tie.close
     (tie.spec
     slice-aggregate-find-in

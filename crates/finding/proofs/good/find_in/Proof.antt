@@ -1,13 +1,13 @@
--- `finder::good::find_in` meets its contract: the tables that are made are those of the list's tree, for a search and
+-- `finding::good::find_in` meets its contract: the tables that are made are those of the list's tree, for a search and
 -- for a match.
 use mathlib.Core.Path.{sym, _∙_}
 use mathlib.Core.Bool.{false≢true}
 use borrow.Author.Tests.{not-true, not-false}
 use borrow.Author.Needs.{needs}
-use Rattle.finder.proofs.good.find_in.Statement.{statement}
-use Rattle.finder.proofs.good.find_in.Tie as tie
-use Rattle.finder.proofs.good.find_in.Reads as reads
-use Rattle.finder.proofs.good.find_in.Lts as lts
+use Rattle.finding.proofs.good.find_in.Statement.{statement}
+use Rattle.finding.proofs.good.find_in.Tie as tie
+use Rattle.finding.proofs.good.find_in.Reads as reads
+use Rattle.finding.proofs.good.find_in.Lts as lts
 use Rattle.matching.proofs.part.first_part.Reads as first-part-reads
 use Rattle.matching.proofs.text.text_matches.Reads as text-matches-reads
 use Rattle.stepping.proofs.inner.prepare.Reads as prepare-reads

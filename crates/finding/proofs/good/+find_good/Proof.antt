@@ -1,18 +1,18 @@
--- `finder::good::find_good` meets its contract: where there is not room enough it calls itself with more, and else there
+-- `finding::good::find_good` meets its contract: where there is not room enough it calls itself with more, and else there
 -- is room in the tables of the size that is taken. The measure is how many pieces too many there are.
 use Prim.Native.Nat.{ℕ, _-_, _<_}
 use native.Mathlib.Omega.{arith}
 use borrow.Author.Needs.{needs}
 use borrow.Fn.Kinds.{In}
 use borrow.Fn.PlainCycle.{Measures, is, falls, and}
-use Rattle.finder.proofs.good.find_good.Reads as find-good
-use Rattle.finder.proofs.good.find_good.Kinds as find-good-kinds
-use Rattle.finder.proofs.good.+find_good.Lts-find_good as find-good-lts
-use Rattle.finder.proofs.good.find_few.Reads as find-few-reads
-use Rattle.finder.proofs.good.find_some.Reads as find-some-reads
-use Rattle.finder.proofs.good.find_many.Reads as find-many-reads
-use Rattle.finder.proofs.good.+find_good.{statement}
-use Rattle.finder.proofs.good.+find_good.Tie.{close}
+use Rattle.finding.proofs.good.find_good.Reads as find-good
+use Rattle.finding.proofs.good.find_good.Kinds as find-good-kinds
+use Rattle.finding.proofs.good.+find_good.Lts-find_good as find-good-lts
+use Rattle.finding.proofs.good.find_few.Reads as find-few-reads
+use Rattle.finding.proofs.good.find_some.Reads as find-some-reads
+use Rattle.finding.proofs.good.find_many.Reads as find-many-reads
+use Rattle.finding.proofs.good.+find_good.{statement}
+use Rattle.finding.proofs.good.+find_good.Tie.{close}
 
 abbrev μ-find-good : Measures 4 find-good-kinds.ps ℕ
 μ-find-good κs a = a .1 .1 .1 .0 - a .1 .1 .1 .1 .0
