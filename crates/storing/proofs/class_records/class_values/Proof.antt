@@ -1,10 +1,10 @@
--- `reader::store::class_values` meets its contract: the values of the dot, or of the class that is read again.
+-- `storing::class_records::class_values` meets its contract: the values of the dot, or of the class that is read again.
 use mathlib.Core.Path.{_∙_}
 use native.Mathlib.Omega.{arith}
 use Rattle.classes.specs.ClassItems.{dot-at, dot-members, members-at, inside-at}
 use borrow.Author.Needs.{needs}
-use Rattle.reader.proofs.store.class_values.Statement.{statement}
-use Rattle.reader.proofs.store.class_values.Tie as tie
+use Rattle.storing.proofs.class_records.class_values.Statement.{statement}
+use Rattle.storing.proofs.class_records.class_values.Tie as tie
 
 -- where the members were filled for the dot, and where the call began
 abbrev filled : tie.After-put-arg → tie.After-fill

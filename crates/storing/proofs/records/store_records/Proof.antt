@@ -1,8 +1,8 @@
--- `reader::store::store_records` meets its contract: the tree is measured, and its records are written.
+-- `storing::records::store_records` meets its contract: the tree is measured, and its records are written.
 use native.Mathlib.Omega.{arith}
 use borrow.Author.Needs.{needs}
-use Rattle.reader.proofs.store.store_records.Statement.{statement}
-use Rattle.reader.proofs.store.store_records.Tie as tie
+use Rattle.storing.proofs.records.store_records.Statement.{statement}
+use Rattle.storing.proofs.records.store_records.Tie as tie
 
 -- where the tree was measured, and where the call began
 abbrev measured : tie.After-write-records-arg → tie.After-piece-count

@@ -1,9 +1,9 @@
--- `reader::store::number_label` meets its contract: a class label gets the number, another label stays.
+-- `storing::class_records::number_label` meets its contract: a class label gets the number, another label stays.
 use native.Mathlib.Omega.{arith}
 use Rattle.checker.specs.ClassStore.{class-label-numbered, other-label-numbered}
 use borrow.Author.Needs.{needs}
-use Rattle.reader.proofs.store.number_label.Statement.{statement}
-use Rattle.reader.proofs.store.number_label.Tie as tie
+use Rattle.storing.proofs.class_records.number_label.Statement.{statement}
+use Rattle.storing.proofs.class_records.number_label.Tie as tie
 
 mul-if1 : tie.Need-mul-if1
 mul-if1 c = search needs

@@ -1,9 +1,9 @@
--- `reader::store::store_label` meets its contract: a class label's record is stored, of another label none.
+-- `storing::class_records::store_label` meets its contract: a class label's record is stored, of another label none.
 use native.Mathlib.Omega.{arith}
 use Rattle.checker.specs.ClassStore.{class-label-stored, other-label-stored}
 use borrow.Author.Needs.{needs}
-use Rattle.reader.proofs.store.store_label.Statement.{statement}
-use Rattle.reader.proofs.store.store_label.Tie as tie
+use Rattle.storing.proofs.class_records.store_label.Statement.{statement}
+use Rattle.storing.proofs.class_records.store_label.Tie as tie
 
 cast-store-class : tie.Need-cast-store-class
 cast-store-class c = search needs

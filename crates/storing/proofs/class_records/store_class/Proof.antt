@@ -1,4 +1,4 @@
--- `reader::store::store_class` meets its contract: the class's record is written into its part of the buffer.
+-- `storing::class_records::store_class` meets its contract: the class's record is written into its part of the buffer.
 use Prim.Native.Nat.{ℕ, _+_, _*_, _-_, _≤_}
 use mathlib.Core.Path.{_≡_, _∙_}
 use mathlib.Core.List.{List, _++_}
@@ -7,8 +7,8 @@ use lib.ListN.{length, take, drop, length-drop}
 use lib.Seq.{length-take-le}
 use Rattle.classes.specs.Members.{members-binary, recorded-whole}
 use borrow.Author.Needs.{needs}
-use Rattle.reader.proofs.store.store_class.Statement.{statement}
-use Rattle.reader.proofs.store.store_class.Tie as tie
+use Rattle.storing.proofs.class_records.store_class.Statement.{statement}
+use Rattle.storing.proofs.class_records.store_class.Tie as tie
 
 -- the part that is lent has 32 bytes
 part-size : (n : ℕ) → n + 32 - n ≡ 32

@@ -1,4 +1,4 @@
--- `reader::store::store_classes` meets its contract. The loop's invariant: the class records of the labels before `i`
+-- `storing::class_records::store_classes` meets its contract. The loop's invariant: the class records of the labels before `i`
 -- are stored.
 use Prim.Native.Nat.{ℕ, _-_, _≤_}
 use mathlib.Core.Path.{_≡_, refl, _∙_}
@@ -14,8 +14,8 @@ use Rattle.checker.specs.ClassStore.{
   all-stored,
 }
 use borrow.Author.Needs.{needs}
-use Rattle.reader.proofs.store.store_classes.Statement.{statement}
-use Rattle.reader.proofs.store.store_classes.Tie as tie
+use Rattle.storing.proofs.class_records.store_classes.Statement.{statement}
+use Rattle.storing.proofs.class_records.store_classes.Tie as tie
 
 abbrev Inv-loop : tie.InvT-loop
 Inv-loop expr labels classes₀ k₀ i₀ classes k i =

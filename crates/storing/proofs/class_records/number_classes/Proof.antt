@@ -1,12 +1,12 @@
--- `reader::store::number_classes` meets its contract. The loop's invariant: the labels before `i` are numbered.
+-- `storing::class_records::number_classes` meets its contract. The loop's invariant: the labels before `i` are numbered.
 use Prim.Native.Nat.{ℕ, _-_, _≤_}
 use mathlib.Core.Path.{_≡_, refl, _∙_}
 use native.Mathlib.Omega.{arith}
 use lib.ListN.{length}
 use Rattle.checker.specs.ClassStore.{Labels-numbered, none-numbered, next-numbered, number-le, all-numbered}
 use borrow.Author.Needs.{needs}
-use Rattle.reader.proofs.store.number_classes.Statement.{statement}
-use Rattle.reader.proofs.store.number_classes.Tie as tie
+use Rattle.storing.proofs.class_records.number_classes.Statement.{statement}
+use Rattle.storing.proofs.class_records.number_classes.Tie as tie
 
 abbrev Inv-loop : tie.InvT-loop
 Inv-loop labels₀ k₀ i₀ labels k i =
