@@ -11,9 +11,9 @@ use Rattle.tree.specs.Leaf.{Leaf, Matches}
 use Rattle.matching.specs.Found.{part}
 use Rattle.finder.specs.Decide.{matches}
 use Rattle.finder.specs.DecideExactly.{matches-answer}
-use Rattle.printing.specs.Lines.{lines}
-use Rattle.printing.specs.Ends.{Ends, after}
-use Rattle.printing.specs.EndLaws.{after-inside, line-at, lines-none, lent-part}
+use Rattle.input.specs.Lines.{lines}
+use Rattle.input.specs.Ends.{Ends, after}
+use Rattle.input.specs.EndLaws.{after-inside, line-at, lines-none, lent-part}
 use Rattle.printing.specs.Print.{text-line, total-line, yes-after, text-lines}
 use Rattle.printing.specs.Room.{text-line-length, total-line-length, yes-after-most}
 use Rattle.printing.specs.Printing.{Prints, prints-none, prints-join}

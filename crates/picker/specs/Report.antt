@@ -24,10 +24,10 @@ use Rattle.reader.specs.Answer.{Numbers, refusing, reading, answer-for, answere
 use Rattle.reader.specs.Kept.{Kept}
 use Rattle.matching.specs.Found.{part}
 use Rattle.finder.specs.Decide.{matches}
-use Rattle.printing.specs.Lines.{lines, expression, texts}
-use Rattle.printing.specs.LineLaws.{texts-count}
-use Rattle.printing.specs.Ends.{Ends, after}
-use Rattle.printing.specs.EndLaws.{after-inside, first-line}
+use Rattle.input.specs.Lines.{lines, expression, texts}
+use Rattle.input.specs.LineLaws.{texts-count}
+use Rattle.input.specs.Ends.{Ends, after}
+use Rattle.input.specs.EndLaws.{after-inside, first-line}
 use Rattle.printing.specs.Limits.{longest-input, most-output}
 use Rattle.printing.specs.Print.{few-pieces, answered, refusal-line, text-lines, reported}
 use Rattle.printing.specs.Printing.{Prints}

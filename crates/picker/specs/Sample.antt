@@ -8,7 +8,7 @@ use Rattle.operands.specs.Scanner.{scan, scanned}
 use Rattle.checker.specs.Expanded.{expanded}
 use Rattle.finder.specs.Decide.{any-split, any-repeat, leaf-text, matched}
 use Rattle.picker.specs.Edges.{Every}
-use Rattle.printing.specs.Lines.{lines}
+use Rattle.input.specs.Lines.{lines}
 use Rattle.printing.specs.Digits.{digits, digits-within}
 use Rattle.printing.specs.Print.{text-lines, output, picked}
 

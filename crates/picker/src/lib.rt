@@ -1,8 +1,8 @@
 // The whole output of `pick`, from the bytes that it reads.
 mod texts;
 
-use printing::line::line_end;
-use printing::line::next_line;
+use input::line::line_end;
+use input::line::next_line;
 use printing::print::put;
 use printing::report::refusal_line;
 use reader::ReadAnswer;
@@ -15,7 +15,7 @@ ghost use mathlib.Core.List.{[]};
 ghost use lib.ListN.{length};
 ghost use Rattle.finder.specs.Decide.{matches};
 ghost use Rattle.printing.specs.Limits.{longest-input, most-output};
-ghost use Rattle.printing.specs.Lines.{lines, expression, texts};
+ghost use Rattle.input.specs.Lines.{lines, expression, texts};
 ghost use Rattle.printing.specs.Print.{answered, reported, picked};
 ghost use Rattle.printing.specs.Printing.{Prints};
 ghost use Rattle.picker.specs.Promise.{Picks};

@@ -2,9 +2,9 @@
 // first syntax, so no class records are lent.
 use deciding::good::Decided;
 use deciding::good::decide_with;
+use input::line::line_end;
+use input::line::next_line;
 use matching::text::text_matches;
-use printing::line::line_end;
-use printing::line::next_line;
 use printing::report::text_line;
 use printing::report::total_line;
 use stepping::inner::prepare;
@@ -21,7 +21,7 @@ ghost use Rattle.tree.specs.Records.{Good};
 ghost use Rattle.tables.specs.Given.{Good-list, Decided-good};
 ghost use Rattle.tables.specs.Tables.{Prepared, Ready};
 ghost use Rattle.finder.specs.Decide.{matches};
-ghost use Rattle.printing.specs.Lines.{lines};
+ghost use Rattle.input.specs.Lines.{lines};
 ghost use Rattle.printing.specs.Print.{text-lines};
 ghost use Rattle.printing.specs.Printing.{Prints};
 ghost use Rattle.picker.specs.Loop.{Print-space};

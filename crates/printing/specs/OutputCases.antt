@@ -7,7 +7,7 @@ use lib.ListN.{length}
 use borrow.Author.Tests.{lt-ltb, le-ltb}
 use Rattle.language.specs.Tree.{Tree}
 use Rattle.tree.specs.Leaf.{Leaf}
-use Rattle.printing.specs.Lines.{lines, expression, texts}
+use Rattle.input.specs.Lines.{lines, expression, texts}
 use Rattle.printing.specs.Limits.{longest-input}
 use Rattle.printing.specs.Print.{answered, too-long-line, reported, output}
 

@@ -16,7 +16,7 @@ use Rattle.checker.specs.Expanded.{expanded}
 use Rattle.checker.specs.Drawn.{drawn}
 use Rattle.finder.specs.Decide.{matches}
 use Rattle.printing.specs.Limits.{longest-input}
-use Rattle.printing.specs.Lines.{lines, expression, texts}
+use Rattle.input.specs.Lines.{lines, expression, texts}
 use Rattle.printing.specs.Digits.{digits}
 
 -- a tree is refused with 8 where its cut has more than 128 pieces

@@ -17,8 +17,8 @@ use Rattle.operands.specs.Scanner.{Outcome, tree, refused}
 use Rattle.checker.specs.Expanded.{expanded}
 use Rattle.checker.specs.Drawn.{drawn}
 use Rattle.checker.specs.DrawnLaws.{first-drawn-size, first-drawn-refusal}
-use Rattle.printing.specs.Lines.{lines, expression, texts}
-use Rattle.printing.specs.LineLaws.{texts-count}
+use Rattle.input.specs.Lines.{lines, expression, texts}
+use Rattle.input.specs.LineLaws.{texts-count}
 use Rattle.printing.specs.DigitLaws.{digits-length}
 use Rattle.printing.specs.Limits.{longest-input, most-output}
 use Rattle.printing.specs.Print.{

@@ -1,4 +1,3 @@
-// The lines of an input, and the lines that are printed for them.
-pub mod line;
+// The lines that are printed for the lines of an input.
 pub mod print;
 pub mod report;

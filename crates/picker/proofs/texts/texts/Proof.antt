@@ -12,7 +12,7 @@ use Rattle.language.specs.Tree.{Tree}
 use Rattle.tree.specs.Leaf.{Leaf}
 use Rattle.tables.specs.Tables.{Prepared}
 use Rattle.finder.specs.Decide.{matches}
-use Rattle.printing.specs.EndLaws.{after-start}
+use Rattle.input.specs.EndLaws.{after-start}
 use Rattle.printing.specs.Print.{yes-after}
 use Rattle.picker.specs.Loop.{
   Print-space,

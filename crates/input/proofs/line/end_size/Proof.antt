@@ -1,12 +1,12 @@
--- `printing::line::end_size` meets its contract: it tests a byte and the next one as the definition of lines does.
+-- `input::line::end_size` meets its contract: it tests a byte and the next one as the definition of lines does.
 use mathlib.Core.Path.{_∙_}
 use mathlib.Core.Logic.{⊎-elim}
 use native.Mathlib.Omega.{arith}
 use borrow.Author.Needs.{needs}
 use borrow.Author.Tests.{eqb-true, eqb-false}
-use Rattle.printing.specs.EndLaws.{size-ten, size-two, size-other}
-use Rattle.printing.proofs.line.end_size.Statement.{statement}
-use Rattle.printing.proofs.line.end_size.Tie as tie
+use Rattle.input.specs.EndLaws.{size-ten, size-two, size-other}
+use Rattle.input.proofs.line.end_size.Statement.{statement}
+use Rattle.input.proofs.line.end_size.Tie as tie
 
 abbrev start : tie.After-byte-at2 → tie.Start
 start c = c .before .before .before

@@ -1,10 +1,10 @@
--- `printing::line::byte_at` meets its contract: past the input a list gives its default.
+-- `input::line::byte_at` meets its contract: past the input a list gives its default.
 use mathlib.Core.Path.{sym}
 use native.Mathlib.Omega.{arith}
 use borrow.Author.Needs.{needs}
 use lib.ListN.{List·getD-eq-default}
-use Rattle.printing.proofs.line.byte_at.Statement.{statement}
-use Rattle.printing.proofs.line.byte_at.Tie as tie
+use Rattle.input.proofs.line.byte_at.Statement.{statement}
+use Rattle.input.proofs.line.byte_at.Tie as tie
 
 shared-slice-read-result : tie.Need-shared-slice-read-result
 shared-slice-read-result c = search needs

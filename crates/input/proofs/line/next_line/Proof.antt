@@ -1,9 +1,9 @@
--- `printing::line::next_line` meets its contract: the end lies within the input.
+-- `input::line::next_line` meets its contract: the end lies within the input.
 use native.Mathlib.Omega.{arith}
 use borrow.Author.Needs.{needs}
-use Rattle.printing.specs.EndLaws.{after-inside}
-use Rattle.printing.proofs.line.next_line.Statement.{statement}
-use Rattle.printing.proofs.line.next_line.Tie as tie
+use Rattle.input.specs.EndLaws.{after-inside}
+use Rattle.input.proofs.line.next_line.Statement.{statement}
+use Rattle.input.proofs.line.next_line.Tie as tie
 
 end-size-requires : tie.Need-end-size-requires
 end-size-requires c κs = search needs

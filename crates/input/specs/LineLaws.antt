@@ -6,8 +6,8 @@ use mathlib.Core.List.{List, [], _∷_, _++_}
 use native.Mathlib.Omega.{arith}
 use lib.ListN.{length, drop}
 use lib.Dec.{eqb}
-use Rattle.printing.specs.Lines.{in-line, begins-end, lines, expression, texts}
-use Rattle.printing.specs.Ends.{end-size}
+use Rattle.input.specs.Lines.{in-line, begins-end, lines, expression, texts}
+use Rattle.input.specs.Ends.{end-size}
 
 -- the lines of a byte and the bytes after it, by what the two tests say of it
 abbrev from : (b : ℕ) (ten begins : Bool) → List (List ℕ) → List (List ℕ)

@@ -5,7 +5,7 @@ use mathlib.Core.Bool.{cond}
 use mathlib.Core.List.{List, [], _∷_}
 use lib.ListN.{length, drop}
 use lib.Dec.{eqb}
-use Rattle.printing.specs.Lines.{begins-end}
+use Rattle.input.specs.Lines.{begins-end}
 
 -- how many bytes the end at the front has: one for 10, two for 13 and 10; none where no end stands there
 abbrev pub end-size : List ℕ → ℕ

@@ -2,7 +2,7 @@
 ghost use Prim.Native.Nat.{_≤_};
 ghost use mathlib.Core.Path.{_≡_};
 ghost use lib.ListN.{length, getD, drop};
-ghost use Rattle.printing.specs.Ends.{end-size, Ends, after};
+ghost use Rattle.input.specs.Ends.{end-size, Ends, after};
 
 // What is read past the input: a byte that is in no end.
 const PAST_INPUT: u8 = 0;

@@ -1,4 +1,4 @@
--- `printing::line::line_end` meets its contract: no byte passed begins an end. The measure is what is left of the input.
+-- `input::line::line_end` meets its contract: no byte passed begins an end. The measure is what is left of the input.
 use Prim.Native.Nat.{ℕ, _+_, _≤_, _<_, _-_}
 use mathlib.Core.Path.{_≡_, subst}
 use mathlib.Core.List.{List}
@@ -6,9 +6,9 @@ use native.Mathlib.Decide.{decLt}
 use native.Mathlib.Omega.{arith}
 use borrow.Author.Needs.{needs}
 use lib.ListN.{length, drop}
-use Rattle.printing.specs.Ends.{end-size}
-use Rattle.printing.proofs.line.line_end.Statement.{statement}
-use Rattle.printing.proofs.line.line_end.Tie as tie
+use Rattle.input.specs.Ends.{end-size}
+use Rattle.input.proofs.line.line_end.Statement.{statement}
+use Rattle.input.proofs.line.line_end.Tie as tie
 
 -- one more byte that begins no end
 unbroken-next : (input : List ℕ) (start end : ℕ)

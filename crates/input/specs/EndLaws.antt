@@ -12,9 +12,9 @@ use borrow.Author.Tests.{eqb-true, ne-eqb}
 use lib.Seq.{take-nil, take-add, take-all, drop-at, drop-drop, drop-append-le, length-take-le}
 use Rattle.matching.specs.Found.{part}
 use Rattle.matching.specs.PartLaws.{part-length}
-use Rattle.printing.specs.Lines.{begins-end, lines, expression, texts}
-use Rattle.printing.specs.Ends.{end-size, Ends, after}
-use Rattle.printing.specs.LineLaws.{lines-end, lines-ended, lines-last}
+use Rattle.input.specs.Lines.{begins-end, lines, expression, texts}
+use Rattle.input.specs.Ends.{end-size, Ends, after}
+use Rattle.input.specs.LineLaws.{lines-end, lines-ended, lines-last}
 
 -- the end at a place, by the byte there and the next one
 size-at : (input : List ℕ) (place : ℕ) → end-size (drop place input)
