@@ -34,7 +34,7 @@ use Rattle.classes.specs.ClassGrammar.{
   all-but-these,
 }
 use Rattle.classes.specs.Class.{Item, Class}
-use Rattle.repeats.specs.CountComplete.{count-shorter, count-bounds}
+use Rattle.counts.specs.CountComplete.{count-shorter, count-bounds}
 use Rattle.operands.specs.Scanner.{Atom, Outcome, tree, refused, due, nothing, scan, scanned}
 use Rattle.operands.specs.Grammar.{
   Level,

@@ -20,8 +20,8 @@ use Rattle.tree.specs.Limits.{most-groups}
 use Rattle.operands.specs.Bytes.{Syntax, plus, question, brace, sign-of}
 use Rattle.operands.specs.ScanClass.{after-class, scan-class}
 use Rattle.classes.specs.ClassComplete.{class-found}
-use Rattle.repeats.specs.CountGrammar.{Spells-count}
-use Rattle.repeats.specs.CountComplete.{count-found}
+use Rattle.counts.specs.CountGrammar.{Spells-count}
+use Rattle.counts.specs.CountComplete.{count-found}
 use Rattle.operands.specs.ScanCount.{after-count, scan-count}
 use Rattle.operands.specs.Scanner.{
   Atom,

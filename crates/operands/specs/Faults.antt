@@ -39,7 +39,7 @@ use Rattle.operands.specs.Bytes.{
   special,
 }
 use Rattle.classes.specs.Class.{the-dot, unread, opened, Step, goes-on, whole, faulty, class-step}
-use Rattle.repeats.specs.Count.{
+use Rattle.counts.specs.Count.{
   fewest-due,
   Count-step,
   goes-on as counts-on,

@@ -21,7 +21,7 @@ use Rattle.tree.specs.Limits.{most-groups}
 use Rattle.operands.specs.Bytes.{Syntax, dot, bracket, plus, question, brace, plain, sign-of, special}
 use Rattle.classes.specs.Class.{Class, the-dot}
 use Rattle.classes.specs.ClassGrammar.{Spells-class}
-use Rattle.repeats.specs.CountGrammar.{Spells-count}
+use Rattle.counts.specs.CountGrammar.{Spells-count}
 use Rattle.operands.specs.Scanner.{Atom, literal, one-of}
 
 -- what is read: an operand, an operand with the signs after it, a catenation of these, a union of those

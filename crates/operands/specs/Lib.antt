@@ -15,7 +15,5 @@ pub mod Text
 pub mod Stopping
 pub mod Placed
 pub mod Surroundings
-pub mod ClassLeads
 pub mod Reading
 pub mod ReadingLaws
-pub mod OneSign

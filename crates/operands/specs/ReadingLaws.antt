@@ -14,8 +14,8 @@ use Rattle.tree.specs.Records.{leaf-label}
 use Rattle.repeats.specs.Noted.{note}
 use Rattle.repeats.specs.Labelled.{Appended, Relabels, Relabels-from}
 use Rattle.repeats.specs.LabelledLaws.{labelled-leaf, labelled-star, labelled-catenation, labelled-union}
-use Rattle.repeats.specs.CountReading.{Count-here}
-use Rattle.repeats.specs.CountRun.{count-at}
+use Rattle.counts.specs.CountReading.{Count-here}
+use Rattle.counts.specs.CountRun.{count-at}
 use Rattle.operands.specs.Bytes.{Syntax, second, sign-of}
 use Rattle.operands.specs.Placed.{signs-at, Leaf-placed}
 use Rattle.operands.specs.Grammar.{starred, joined, united}

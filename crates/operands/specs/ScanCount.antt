@@ -4,8 +4,8 @@ use mathlib.Core.Path.{_≡_, refl}
 use mathlib.Core.List.{List, [], _∷_}
 use Rattle.language.specs.SignedTree.{Signed-tree, counted}
 use Rattle.tree.specs.RefusalNumbers.{count-faulty}
-use Rattle.repeats.specs.Count.{Counting, Count-step, goes-on, whole, faulty, count-step}
-use Rattle.repeats.specs.CountRun.{Count-ran, found, failed, ran-on, count-run}
+use Rattle.counts.specs.Count.{Counting, Count-step, goes-on, whole, faulty, count-step}
+use Rattle.counts.specs.CountRun.{Count-ran, found, failed, ran-on, count-run}
 use Rattle.operands.specs.Bytes.{Syntax}
 use Rattle.operands.specs.Scanner.{Atom, Outcome, refused, in-count, after, Before, Group, recounted, scan}
 

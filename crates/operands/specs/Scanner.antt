@@ -47,7 +47,7 @@ use Rattle.operands.specs.Bytes.{
   special,
 }
 use Rattle.classes.specs.Class.{Class, the-dot, unread, Inside, opened, Step, goes-on, whole, faulty, class-step}
-use Rattle.repeats.specs.Count.{
+use Rattle.counts.specs.Count.{
   Counting,
   fewest-due,
   Count-step,

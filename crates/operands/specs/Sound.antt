@@ -45,7 +45,7 @@ use Rattle.classes.specs.Class.{
   class-step,
 }
 use Rattle.classes.specs.ClassSound.{So-far, at-opened, Kept, step-kept}
-use Rattle.repeats.specs.Count.{
+use Rattle.counts.specs.Count.{
   Counting,
   fewest-due,
   Count-step,
@@ -54,7 +54,7 @@ use Rattle.repeats.specs.Count.{
   faulty as count-wrong,
   count-step,
 }
-use Rattle.repeats.specs.CountSound.{
+use Rattle.counts.specs.CountSound.{
   So-far as Count-so-far,
   at-opened as at-brace,
   Kept as Count-kept,

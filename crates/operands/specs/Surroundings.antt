@@ -54,8 +54,8 @@ use Rattle.classes.specs.Class.{Class, the-dot, unread, opened as class-opened}
 use Rattle.classes.specs.ClassRun.{found, failed}
 use Rattle.operands.specs.ScanClass.{after-class, scan-class}
 use Rattle.classes.specs.ClassAt.{run-at}
-use Rattle.repeats.specs.Count.{fewest-due}
-use Rattle.repeats.specs.CountRun.{found as count-found, failed as count-failed, count-at}
+use Rattle.counts.specs.Count.{fewest-due}
+use Rattle.counts.specs.CountRun.{found as count-found, failed as count-failed, count-at}
 use Rattle.operands.specs.ScanCount.{after-count, scan-count}
 use Rattle.operands.specs.Signs.{Means, sign-means}
 use Rattle.operands.specs.Scanner.{

@@ -1,5 +1,3 @@
-// What an expression is; the readers of an operand but for a group, and of the signs after it.
-mod character;
+// What an expression is, and the reader of one character.
+pub mod character;
 pub mod part;
-pub mod signs;
-pub mod single;

@@ -1,8 +1,8 @@
 // An operand with its signs: a single one, or a group.
 use crate::union::union;
 use operands::part::Part;
-use operands::signs::signs;
-use operands::single::single;
+use signs::signs::signs;
+use signs::single::single;
 use tree::limits::MOST_GROUPS;
 use tree::refusal_numbers::GROUP_LEFT_OPEN;
 use tree::refusal_numbers::OPERAND_MISSING;

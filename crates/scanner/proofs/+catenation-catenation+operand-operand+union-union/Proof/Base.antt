@@ -15,8 +15,8 @@ use Rattle.scanner.proofs.+catenation-catenation+operand-operand+union-
 use Rattle.scanner.proofs.union.union.Reads as union
 use Rattle.scanner.proofs.union.union.Kinds as union-kinds
 use Rattle.scanner.proofs.+catenation-catenation+operand-operand+union-union.Lts-union-union as union-lts
-use Rattle.operands.proofs.single.single.Reads as single-reads
-use Rattle.operands.proofs.signs.signs.Reads as signs-reads
+use Rattle.signs.proofs.single.single.Reads as single-reads
+use Rattle.signs.proofs.signs.signs.Reads as signs-reads
 use Rattle.repeats.proofs.copies.put_note.Reads as put-note-reads
 
 abbrev pub μ-operand : Measures 2 operand-kinds.ps ℕ

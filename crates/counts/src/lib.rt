@@ -1,0 +1,3 @@
+// Reads a count `{m,n}`.
+pub mod count;
+pub mod part;
