@@ -1,6 +1,6 @@
 // Reading and counting: what can be said of an expression with no buffer lent.
 use crate::answer::CountedAnswer;
-use cutting::measure::piece_count;
+use measuring::measure::piece_count;
 use operands::part::Part;
 use scanner::expression::expression;
 use tree::layout::CLASS_LABEL;

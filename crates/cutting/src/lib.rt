@@ -1,4 +1,3 @@
-// The cut of a tree into pieces, made from its labels: which edges are cut, and how many pieces there are.
+// The cut at one node of a tree, and the slots of its children.
 pub mod cut;
-pub mod measure;
 pub mod slots;

@@ -1,10 +1,10 @@
 // Whether a lent list is good: its labels are those of one tree, and each record is that tree's.
-use cutting::measure::piece_count;
 use cutting::slots::child_number;
 use cutting::slots::left_slot;
 use cutting::slots::right_slot;
 use lists::hand::hand_down;
 use lists::order::one_tree;
+use measuring::measure::piece_count;
 use tree::layout::RECORD_SIZE;
 use tree::layout::character_at;
 use tree::layout::is_record;

@@ -1,6 +1,6 @@
 // The records of a tree, from its labels.
-use cutting::measure::piece_count;
 use lists::write::write_records;
+use measuring::measure::piece_count;
 use tree::limits::SLOT_COUNT;
 ghost use Prim.Native.Nat.{_*_, _≤_};
 ghost use lib.ListN.{length};

@@ -1,10 +1,10 @@
--- `cutting::measure::piece_count` meets its contract: the root's slot holds the cut edges of the whole tree, fewer than
+-- `measuring::measure::piece_count` meets its contract: the root's slot holds the cut edges of the whole tree, fewer than
 -- there are labels.
 use native.Mathlib.Omega.{arith}
 use Rattle.cutting.specs.MeasuredLaws.{counted-all, root-cuts-lt}
 use borrow.Author.Needs.{needs}
-use Rattle.cutting.proofs.measure.piece_count.Statement.{statement}
-use Rattle.cutting.proofs.measure.piece_count.Tie as tie
+use Rattle.measuring.proofs.measure.piece_count.Statement.{statement}
+use Rattle.measuring.proofs.measure.piece_count.Tie as tie
 
 -- where the tree has been measured, from the reading of the root's slot
 abbrev measured : tie.After-slice-known7 → tie.After-measure

@@ -1,13 +1,13 @@
 // From the leaves up: the nodes, the open size and the cut edges of every subtree, in the slot of its root's record;
 // and so the number of pieces.
-use crate::cut::cut_count;
-use crate::cut::open_size;
-use crate::slots::left_slot;
-use crate::slots::right_slot;
+use cutting::cut::cut_count;
+use cutting::cut::open_size;
+use cutting::slots::left_slot;
+use cutting::slots::right_slot;
 ghost use Prim.Native.Nat.{_≤_};
 ghost use lib.ListN.{length};
 ghost use Rattle.tree.specs.Limits.{most-labels};
 ghost use Rattle.cutting.specs.Measured.{Postorder, Room-to-measure, Measured, Counts-pieces};
 
 // A child comes before its parent, so its slots are filled when the parent is met.
 fn measure(labels: &[u16], sizes: &mut [u16], opens: &mut [u16], cuts: &mut [u16])

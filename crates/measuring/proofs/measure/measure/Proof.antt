@@ -1,4 +1,4 @@
--- `cutting::measure::measure` meets its contract. The loop's invariant: the records below `i` are measured. A turn reads
+-- `measuring::measure::measure` meets its contract. The loop's invariant: the records below `i` are measured. A turn reads
 -- the children's slots, which the invariant speaks of, and the laws of the specs gather the record's own numbers from
 -- theirs; that a tree has these labels bounds them all. The measure is what is left of the labels.
 use Prim.Native.Nat.{_+_, _≤_, _-_}
@@ -8,16 +8,16 @@ use lib.ListN.{length, getD, length-set}
 use Rattle.language.specs.Tree.{Tree}
 use Rattle.tree.specs.Leaf.{Leaf}
 use Rattle.tree.specs.Records.{labels}
 use Rattle.cutting.specs.Measured.{Room-to-measure, Measured}
 use Rattle.cutting.specs.MeasuredLaws.{Gathered, gathered, children, right-size-le, room-stays, measured-none, measured-more}
-use Rattle.cutting.proofs.measure.measure.Statement.{statement}
-use Rattle.cutting.proofs.measure.measure.Tie as tie
-use Rattle.cutting.proofs.measure.measure.Reads as reads
-use Rattle.cutting.proofs.measure.measure.Lts as lts
+use Rattle.measuring.proofs.measure.measure.Statement.{statement}
+use Rattle.measuring.proofs.measure.measure.Tie as tie
+use Rattle.measuring.proofs.measure.measure.Reads as reads
+use Rattle.measuring.proofs.measure.measure.Lts as lts
 use Rattle.cutting.proofs.cut.cut_count.Reads as cut-count-reads
 use Rattle.cutting.proofs.cut.open_size.Reads as open-size-reads
 use Rattle.cutting.proofs.slots.left_slot.Reads as left-slot-reads
 use Rattle.cutting.proofs.slots.right_slot.Reads as right-slot-reads
 
 abbrev Inv-loop : tie.InvT-loop
 Inv-loop labels sizes₀ opens₀ cuts₀ i₀ sizes opens cuts i =
