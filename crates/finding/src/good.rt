@@ -20,7 +20,7 @@ ghost use mathlib.Core.Logic.{_↔_};
 ghost use Rattle.language.specs.Tree.{Tree};
 ghost use Rattle.tree.specs.Leaf.{Leaf, Matches};
 ghost use Rattle.tree.specs.Records.{Good};
-ghost use Rattle.tables.specs.Given.{Decided-good};
+ghost use Rattle.planning.specs.Given.{Decided-good};
 ghost use Rattle.tables.specs.Tables.{Roomy};
 ghost use Rattle.stepping.specs.Inner.{few-pieces, some-pieces};
 ghost use Rattle.matching.specs.Found.{Answers};

@@ -15,7 +15,7 @@ use Rattle.deciding.specs.Judged.{Judged, Counts-below, Room-to-decide}
 use Rattle.deciding.specs.declared.good.Decided.{Decided}
 use Rattle.deciding.specs.declared.good.Decided.the-variants.{Good as good, NotGood as not-good}
 use Rattle.deciding.proofs.good.Decided.{the-type}
-use Rattle.tables.specs.Given.{Decided-good, good-top}
+use Rattle.planning.specs.Given.{Decided-good, good-top}
 use Rattle.marks.specs.declared.MarksAnswer.{MarksAnswer}
 use Rattle.marks.specs.declared.MarksAnswer.the-variants.{
   Marked,

@@ -30,7 +30,7 @@ ghost use Rattle.tree.specs.Limits.{few-slots};
 ghost use Rattle.tree.specs.Layout.{record-size};
 ghost use Rattle.tree.specs.Records.{Good};
 ghost use Rattle.deciding.specs.Judged.{Room-to-decide};
-ghost use Rattle.tables.specs.Given.{Decided-good};
+ghost use Rattle.planning.specs.Given.{Decided-good};
 ghost use Rattle.tables.specs.Tables.{Roomy};
 ghost use Rattle.marks.specs.Answer.{numbers};
 ghost use Rattle.stepping.specs.Inner.{few-pieces, some-pieces};

@@ -18,7 +18,7 @@ ghost use lib.ListN.{drop};
 ghost use Rattle.language.specs.Tree.{Tree};
 ghost use Rattle.tree.specs.Leaf.{Leaf};
 ghost use Rattle.tree.specs.Records.{Good};
-ghost use Rattle.tables.specs.Given.{Good-list, Decided-good};
+ghost use Rattle.planning.specs.Given.{Good-list, Decided-good};
 ghost use Rattle.tables.specs.Tables.{Prepared, Ready};
 ghost use Rattle.finder.specs.Decide.{matches};
 ghost use Rattle.input.specs.Lines.{lines};

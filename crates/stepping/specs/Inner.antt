@@ -35,8 +35,8 @@ use Rattle.stepping.specs.Hold.{Hold, Marks-of}
 use Rattle.closing.specs.EachPieceClosed.{Each-closed-below}
 use Rattle.sweeping.specs.Swept.{Nearly-closed, Quiet, In-tables}
 use Rattle.sweeping.specs.ClosedFromState.{closed-nearly}
-use Rattle.tables.specs.Given
-use Rattle.tables.specs.Given.{small-narrow}
+use Rattle.planning.specs.Given
+use Rattle.planning.specs.Given.{small-narrow}
 use Rattle.closing.specs.Passes.Masks.{Pieces-noted}
 use Rattle.closing.specs.Passes.Laid.{Lays-each, Narrow-below, lays-each}
 use Rattle.stepping.specs.SharedStates.Low.{low-tops, checkable}

@@ -2,8 +2,8 @@
 use closing::bits::has_bit;
 use closing::masks::note_all;
 use moving::moves::move_all;
+use planning::plan::plan;
 use sweeping::sweep::close_twice;
-use tables::plan::plan;
 use tree::limits::MOST_PIECES;
 ghost use Prim.Native.Nat.{ℕ, _≤_, _<_};
 ghost use mathlib.Core.Path.{_≡_};
@@ -13,7 +13,7 @@ ghost use Rattle.language.specs.Tree.{Tree};
 ghost use Rattle.tree.specs.Leaf.{Leaf};
 ghost use Rattle.tree.specs.Records.{Good};
 ghost use Rattle.closing.specs.BitsOfWords.Bits.{Tells};
-ghost use Rattle.tables.specs.Given.{Decided-good};
+ghost use Rattle.planning.specs.Given.{Decided-good};
 ghost use Rattle.stepping.specs.Hold.{Marks-of};
 ghost use Rattle.tables.specs.Tables.{Prepared, Roomy, Ready};
 ghost use Rattle.stepping.specs.Inner.{Running, Begun, Advanced};

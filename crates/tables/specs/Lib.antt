@@ -3,9 +3,6 @@ pub mod Words
 pub mod Plan
 pub mod Tables
 pub mod Entries
-mod Standing
+pub mod Standing
 pub mod Filling
 pub mod Walking
-pub mod Below
-pub mod Making
-pub mod Given

@@ -1,6 +1,5 @@
 // The tables of a good list, made once before any byte is read: the codes of the states, and where each piece stands.
-mod fill;
-pub mod plan;
+pub mod fill;
 
 // How many entries a piece has in the table of codes: one for each bit of a word.
 pub const ROW_SIZE: usize = 64;

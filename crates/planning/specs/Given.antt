@@ -28,9 +28,9 @@ use Rattle.tables.specs.Standing.{
   Sound,
   Low-numbers,
 }
 use Rattle.tables.specs.Filling.{tables}
-use Rattle.tables.specs.Below.{Top, Listed, slot-below}
-use Rattle.tables.specs.Making.{made-none, made-planned, Making, making-at, Total}
+use Rattle.planning.specs.Below.{Top, Listed, slot-below}
+use Rattle.planning.specs.Making.{made-none, made-planned, Making, making-at, Total}
 
 -- two states for each node of a piece's own tree
 pub width-own : (x : Nested Leaf) → width x ≡ 2 * nodes (own x)

@@ -79,7 +79,7 @@ use Rattle.tables.specs.Walking.{
   room-kept,
   row-within,
 }
-use Rattle.tables.specs.Below.{Top, Listed, slot-below}
+use Rattle.planning.specs.Below.{Top, Listed, slot-below}
 
 -- what lies below what lies below a site
 in-in : {s t u : Site} → In s t → In t u → In s u

@@ -1,6 +1,6 @@
 // The tables of a good list, made once before any byte is read.
-use crate::ROW_SIZE;
-use crate::fill::fill;
+use tables::ROW_SIZE;
+use tables::fill::fill;
 use tree::layout::RECORD_SIZE;
 use tree::limits::MOST_PIECES;
 ghost use Prim.Native.Nat.{ℕ, _+_, _<_};
@@ -8,11 +8,11 @@ ghost use Rattle.language.specs.Tree.{Tree};
 ghost use Rattle.language.specs.Nested.{Nested};
 ghost use Rattle.tree.specs.Leaf.{Leaf};
 ghost use Rattle.tree.specs.Records.{Good};
 ghost use Rattle.tables.specs.Tables.{Pieces-room};
 ghost use Rattle.tables.specs.Filling.{tables};
-ghost use Rattle.tables.specs.Below.{Top};
-ghost use Rattle.tables.specs.Making.{Pieces-made, Making, Piece-number, Total};
-ghost use Rattle.tables.specs.Given.{Decided-good, Laid};
+ghost use Rattle.planning.specs.Below.{Top};
+ghost use Rattle.planning.specs.Making.{Pieces-made, Making, Piece-number, Total};
+ghost use Rattle.planning.specs.Given.{Decided-good, Laid};
 
 // Makes what the tables tell of the piece k: its row, its run and its last state, and of its child pieces where their
 // stand-ins are.

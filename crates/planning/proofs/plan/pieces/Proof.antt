@@ -1,14 +1,14 @@
--- `tables::plan::pieces` meets its contract. The invariant: the pieces up to k have been made. The measure is what is
+-- `planning::plan::pieces` meets its contract. The invariant: the pieces up to k have been made. The measure is what is
 -- left of them.
 use Prim.Native.Nat.{_≤_, _-_}
 use mathlib.Core.Path.{_≡_, refl, _∙_}
 use native.Mathlib.Omega.{arith}
 use lib.ListN.{length}
 use Rattle.tables.specs.Filling.{Same-lengths, tables}
-use Rattle.tables.specs.Making.{Making, total-inside, total-few, making-more, making-at}
+use Rattle.planning.specs.Making.{Making, total-inside, total-few, making-more, making-at}
 use borrow.Author.Needs.{needs}
-use Rattle.tables.proofs.plan.pieces.Statement.{statement}
-use Rattle.tables.proofs.plan.pieces.Tie as tie
+use Rattle.planning.proofs.plan.pieces.Statement.{statement}
+use Rattle.planning.proofs.plan.pieces.Tie as tie
 
 abbrev Inv-loop : tie.InvT-loop
 Inv-loop list cuts total codes₀ runs₀ stands₀ tops₀ roots₀ k₀ codes runs stands tops roots k =

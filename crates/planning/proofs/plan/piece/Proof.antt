@@ -1,13 +1,13 @@
--- `tables::plan::piece` meets its contract: it walks the piece, and stores what the walk and the decision on the list
+-- `planning::plan::piece` meets its contract: it walks the piece, and stores what the walk and the decision on the list
 -- tell.
 use Prim.Native.Nat.{_+_}
 use native.Mathlib.Omega.{arith}
 use lib.ListN.{getD}
 use Rattle.tables.specs.Filling.{Same-lengths, tables}
-use Rattle.tables.specs.Making.{Storable, root-within, piece-ready, piece-made, piece-storable}
+use Rattle.planning.specs.Making.{Storable, root-within, piece-ready, piece-made, piece-storable}
 use borrow.Author.Needs.{needs}
-use Rattle.tables.proofs.plan.piece.Statement.{statement}
-use Rattle.tables.proofs.plan.piece.Tie as tie
+use Rattle.planning.proofs.plan.piece.Statement.{statement}
+use Rattle.planning.proofs.plan.piece.Tie as tie
 
 -- where the walk has ended, and where the call began
 abbrev walked : tie.After-slice-known9 → tie.After-fill

@@ -1,10 +1,10 @@
--- `tables::plan::plan` meets its contract: the root is the last record, and all pieces are made.
+-- `planning::plan::plan` meets its contract: the root is the last record, and all pieces are made.
 use mathlib.Core.Path.{refl}
 use native.Mathlib.Omega.{arith}
-use Rattle.tables.specs.Given.{has-records, total-of, making-none, laid}
+use Rattle.planning.specs.Given.{has-records, total-of, making-none, laid}
 use borrow.Author.Needs.{needs}
-use Rattle.tables.proofs.plan.plan.Statement.{statement}
-use Rattle.tables.proofs.plan.plan.Tie as tie
+use Rattle.planning.proofs.plan.plan.Statement.{statement}
+use Rattle.planning.proofs.plan.plan.Tie as tie
 
 -- where the call began, from the first statement and from the call
 abbrev entry : tie.After-slice-known4 → tie.Start

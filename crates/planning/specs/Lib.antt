@@ -1,0 +1,4 @@
+-- What the tables hold once some of the pieces are made, and that those of a good list can be made.
+pub mod Below
+pub mod Making
+pub mod Given

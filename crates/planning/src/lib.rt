@@ -1,0 +1,2 @@
+// Makes the tables of a good list.
+pub mod plan;
