@@ -8,7 +8,7 @@ use Rattle.tree.specs.Cut.{cuts, open-size, wanted}
 use Rattle.tree.specs.Records.{piece-count}
 use Rattle.operands.specs.Scanner.{Atom, literal, one-of, no-text}
 use Rattle.checker.specs.Drawn.{classes-in, recorded, recorded-from}
-use Rattle.operands.specs.Placed.{written-at}
+use Rattle.operands.specs.LeavesPlaced.{written-at}
 
 -- two trees of one shape
 pub data Alike {A B : Type 0} : Tree A → Tree B → Type 0 where

@@ -29,7 +29,7 @@ use Rattle.classes.specs.Class.{Class}
 use Rattle.classes.specs.ClassRecord.{class-record, encode-classes}
 use Rattle.classes.specs.ClassRecordLaws.{record-length, encode-classes-length, encode-classes-append}
 use Rattle.classes.specs.ClassAt.{class-at, Class-here}
-use Rattle.operands.specs.Placed.{Placed}
+use Rattle.operands.specs.LeavesPlaced.{Leaves-placed}
 use Rattle.checker.specs.Relabelled.{
   class-labels,
   relabelled,
@@ -55,7 +55,7 @@ placed-append bytes (l ∷ xs) ys p q = (p .0, placed-append bytes xs ys (p .1) 
 other-label : (bytes : List ℕ) (l : ℕ) → (l % 8 ≡ class-kind → ⊥) → Labels-placed bytes (l ∷ [])
 other-label bytes l h = (λ e. absurd (h e), tt)
 
-pub labels-placed : (bytes : List ℕ) (p : Tree Leaf) → Placed bytes p → Labels-placed bytes (labels p)
+pub labels-placed : (bytes : List ℕ) (p : Tree Leaf) → Leaves-placed bytes p → Labels-placed bytes (labels p)
 labels-placed bytes (leaf (character b)) h = (λ e. absurd (omega (arith, e)), tt)
 labels-placed bytes (leaf (Leaf.class at)) h =
     let number : (5 + 8 * at) / 8 ≡ at = omega arith in (λ e. rw number h, tt)

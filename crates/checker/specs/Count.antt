@@ -22,7 +22,7 @@ use Rattle.operands.specs.Agree.{scanned-exactly}
 use Rattle.checker.specs.Expanded.{expansion, expanded-for, expanded}
 use Rattle.checker.specs.ExpandedLaws.{expanded-small, expanded-large, form-first}
 use Rattle.checker.specs.Drawn.{classes-in, recorded}
-use Rattle.operands.specs.Placed.{written-at, Placed}
+use Rattle.operands.specs.LeavesPlaced.{written-at, Leaves-placed}
 use Rattle.checker.specs.Alike.{nodes-placed, nodes-recorded, pieces-placed}
 use Rattle.checker.specs.Relabelled.{class-labels, classes-counted, class-labels-le}
 use Rattle.scanner.specs.Expression.{Labels-read, Expression-refused}
@@ -80,7 +80,7 @@ counts-written bytes p = rw (
 pub record Reading-counted (syntax : Syntax) (bytes later : List ℕ) (records pieces classes : ℕ) : Type 0 where
   pub read : Tree Leaf
   pub scans : expanded syntax bytes ≡ tree (written-at bytes read)
-  pub placed : Placed bytes read
+  pub placed : Leaves-placed bytes read
   pub written : take records later ≡ labels read
   pub bounded : records ≤ most-labels
   pub numbers : counted-numbers (Counted records pieces classes) ≡ checked-for (expanded syntax bytes)

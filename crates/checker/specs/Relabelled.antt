@@ -14,7 +14,7 @@ use Rattle.operands.specs.Scanner.{Atom, literal, one-of}
 use Rattle.classes.specs.Class.{Class}
 use Rattle.checker.specs.Drawn.{classes-of, classes-in, recorded, recorded-from}
 use Rattle.classes.specs.ClassAt.{class-at}
-use Rattle.operands.specs.Placed.{written-at}
+use Rattle.operands.specs.LeavesPlaced.{written-at}
 
 -- how many class labels there are
 abbrev pub class-labels : List ℕ → ℕ

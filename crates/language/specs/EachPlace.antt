@@ -103,7 +103,7 @@ module _ (P : ℕ → Type 0) where
     abbrev shown : Signed-tree A → List ℕ
     shown s = places (placed-stands-for empty s)
 
-    -- THE RESULT: what holds of every written place holds of every place of what the signs stand for
+    -- the result: what holds of every written place holds of every place of what the signs stand for
     pub each-stands-for : (s : Signed-tree A) → Each-written P s → Each P (places (placed-stands-for empty s))
     each-stands-for (leaf place a) p = (p, tt)
     each-stands-for (catenation place s t) (p, first, second) =

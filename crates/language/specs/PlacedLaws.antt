@@ -48,7 +48,7 @@ module _ {A : Type 0} where
       unplaced-followed place (placed-followed place x m x) (most - suc m) (placed-perhaps empty place x)
       ∙ ap (λ (t : Tree A). followed t (most - suc m) (perhaps empty (unplaced x))) (unplaced-followed place x m x)
 
-  -- THE RESULT: without the places it is the tree that the signs stand for
+  -- the result: without the places it is the tree that the signs stand for
   pub unplaced-stands-for : (empty : A) (s : Signed-tree A) → unplaced (placed-stands-for empty s) ≡ stands-for empty s
   unplaced-stands-for empty (Signed-tree.leaf place a) = refl
   unplaced-stands-for empty (Signed-tree.catenation place s t) =

@@ -42,7 +42,7 @@ module _ {A : Type 0} (M N : Meaning A) (kept : (a : A) → M .Has-empty a → N
   closed-kept t X q (p, m, path) = (p, m, path-kept path)
 
 module _ {A : Type 0} (M N : Meaning A) (same : Same-empty M N) where
-  -- THE RESULT: they close alike
+  -- the result: they close alike
   pub closed-same : (t : Tree A) (X : States) (q : State) → Closed M t X q ↔ Closed N t X q
   closed-same t X q = (closed-kept M N (λ a. same a .0) t X q, closed-kept N M (λ a. same a .1) t X q)
 

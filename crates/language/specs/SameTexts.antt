@@ -64,7 +64,7 @@ module _ {A : Type 0} (M : Meaning A) (empty : A) (takes-none : (b : ℕ) → M 
       times-between M empty takes-none (stands-for empty s) fewest most (well .0) (well .1) w l in
       (k, least, few, joined-within (tree-signs s (well .2)) j)
 
--- THE RESULT: they have the same texts, by any meaning in which the leaf `empty` has the empty text and takes no byte
+-- the result: they have the same texts, by any meaning in which the leaf `empty` has the empty text and takes no byte
 pub same-texts : {A : Type 0} (M : Meaning A) (empty : A) → M .Has-empty empty → ((b : ℕ) → M .Takes empty b → ⊥)
     → (s : Signed-tree A) → Well-counted s → (w : List ℕ)
     → Signed-language M s w ↔ Language M (stands-for empty s) w

@@ -29,7 +29,7 @@ module _ {A : Type 0} where
   nodes-times empty (suc m) most x =
       omega (arith, nodes-followed x m x, nodes-followed (followed x m x) (most - suc m) (perhaps empty x))
 
-  -- THE RESULT: the nodes of the tree that the signs stand for
+  -- the result: the nodes of the tree that the signs stand for
   pub nodes-signed : (empty : A) (s : Signed-tree A) → nodes (stands-for empty s) ≡ signed-size s
   nodes-signed empty (leaf place a) = refl
   nodes-signed empty (catenation place s t) = omega (arith, nodes-signed empty s, nodes-signed empty t)
@@ -53,28 +53,6 @@ module _ (limit : ℕ) where
   -- past the limit it stands still
   pub capped-past : (n : ℕ) → limit < n → capped limit n ≡ suc limit
   capped-past n past = omega arith
-
-  -- it never goes further than one past the limit
-  pub capped-most : (n : ℕ) → capped limit n ≤ suc limit
-  capped-most n = omega arith
-
-  -- a part that was counted that way adds up to the same
-  pub capped-left : (a b : ℕ) → capped limit (capped limit a + b) ≡ capped limit (a + b)
-  capped-left a b = omega arith
-
-  pub capped-right : (a b : ℕ) → capped limit (a + capped limit b) ≡ capped limit (a + b)
-  capped-right a b = omega arith
-
-  pub capped-both : (a b : ℕ) → capped limit (capped limit a + capped limit b) ≡ capped limit (a + b)
-  capped-both a b = omega arith
-
-  -- more is counted as more
-  pub capped-order : (a b : ℕ) → a ≤ b → capped limit a ≤ capped limit b
-  capped-order a b order = omega arith
-
-  -- THE RESULT: it tells exactly whether the number is above the limit
-  pub capped-tells : (n : ℕ) → (capped limit n ≡ suc limit) ↔ (limit < n)
-  capped-tells n = omega arith
 
   -- counting on in steps comes to the whole sum
   pub counting-whole : (start n step : ℕ) → counting-on limit start n step ≡ capped limit (start + n * step)
@@ -116,7 +94,7 @@ module _ (limit : ℕ) where
       ap (λ (n : ℕ). capped limit (times-size fewest most n)) (capped-signed s)
       ∙ capped-times fewest most (signed-size s)
 
-  -- THE RESULT: counting that stops past the limit tells exactly whether the tree has more nodes than the limit
+  -- the result: counting that stops past the limit tells exactly whether the tree has more nodes than the limit
   pub too-large-exactly : {A : Type 0} (empty : A) (s : Signed-tree A)
       → (capped-size limit s ≡ suc limit) ↔ (limit < nodes (stands-for empty s))
   too-large-exactly empty s = omega (arith, capped-signed s, nodes-signed empty s)

@@ -54,7 +54,7 @@ module _ {A : Type 0} (M : Meaning A) (x : Nested A) where
         full (origin x q) c q (copy-of-origin x q has),
   )
 
--- THE RESULT, from the start
+-- the result, from the start
 pub sweeps-start : {A : Type 0} (M : Meaning A) (x : Nested A)
     → Models x (Sweep M x (Sweep M x (λ q. q ≡ start))) (Started M (whole x))
 sweeps-start M x = sweeps-close M x _ _ (λ q begins. rw begins (closed-keeps M (whole x) _ start refl))

@@ -123,7 +123,7 @@ module _ {A : Type 0} (M : Meaning A) where
       (wires-settled (star x) X Q, settled-same M x (operand-same x _ (X start) Q) (second-settled x _ _))
   second-settled (below x) X Q = (wires-settled (below x) X Q, second-settled x _ _)
 
-  -- THE RESULT: two walks settle any marks
+  -- the result: two walks settle any marks
   pub two-walks-settle : (x : Nested A) (X : States) → Settled M x (Walked M x (Walked M x X))
   two-walks-settle x X =
       settled-same M x

@@ -23,7 +23,7 @@ module _ {A B : Type 0} (f : A → B) where
       ap (λ (t : Tree B). followed t (most - suc m) (perhaps (f empty) (with-leaves f x))) (followed-leaves x m x)
       ∙ followed-leaves (followed x m x) (most - suc m) (perhaps empty x)
 
-  -- THE RESULT: with other leaves the signs stand for the same tree with these leaves
+  -- the result: with other leaves the signs stand for the same tree with these leaves
   pub stands-for-leaves : (empty : A) (s : Signed-tree A)
       → stands-for (f empty) (signed-with-leaves f s) ≡ with-leaves f (stands-for empty s)
   stands-for-leaves empty (Signed-tree.leaf place a) = refl

@@ -13,7 +13,7 @@ pub mod FirstSyntax
 pub mod PlacesInside
 pub mod Text
 pub mod Stopping
-pub mod Placed
+pub mod LeavesPlaced
 pub mod Surroundings
 pub mod Reading
 pub mod ReadingLaws

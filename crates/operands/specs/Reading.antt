@@ -13,7 +13,7 @@ use Rattle.tree.specs.Leaf.{Leaf}
 use Rattle.repeats.specs.Noted.{note}
 use Rattle.repeats.specs.Labelled.{Labelled, Appended}
 use Rattle.operands.specs.Bytes.{Syntax}
-use Rattle.operands.specs.Placed.{signs-at, Signs-placed}
+use Rattle.operands.specs.LeavesPlaced.{signs-at, Signs-placed}
 use Rattle.operands.specs.Grammar.{Level, starred}
 use Rattle.operands.specs.Stopping.{Stops}
 use Rattle.operands.specs.Surroundings.{Leads, Fails}

@@ -17,7 +17,7 @@ use Rattle.repeats.specs.LabelledLaws.{labelled-leaf, labelled-star, labelled-c
 use Rattle.counts.specs.CountReading.{Count-here}
 use Rattle.counts.specs.CountRun.{count-at}
 use Rattle.operands.specs.Bytes.{Syntax, second, sign-of}
-use Rattle.operands.specs.Placed.{signs-at, Leaf-placed}
+use Rattle.operands.specs.LeavesPlaced.{signs-at, Leaf-placed}
 use Rattle.operands.specs.Grammar.{starred, joined, united}
 use Rattle.operands.specs.Stopping.{beginning, closes-united}
 use Rattle.operands.specs.Surroundings.{

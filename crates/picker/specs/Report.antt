@@ -29,7 +29,7 @@ use Rattle.input.specs.LineLaws.{texts-count}
 use Rattle.input.specs.Ends.{Ends, after}
 use Rattle.input.specs.EndLaws.{after-inside, first-line}
 use Rattle.printing.specs.Limits.{longest-input, most-output}
-use Rattle.printing.specs.Print.{few-pieces, answered, refusal-line, text-lines, reported}
+use Rattle.printing.specs.Print.{refusing-many-pieces, answered, refusal-line, text-lines, reported}
 use Rattle.printing.specs.Printing.{Prints}
 use Rattle.picker.specs.Loop.{Print-space}
 
@@ -48,7 +48,7 @@ records-fit t few = omega (arith, nodes-per-piece t, ltb-false most-pieces (piec
 told-tree : (bytes : List ℕ) (room number place : ℕ) → record-size * most-records ≤ room
     → (t : Tree Leaf) (many short : Bool)
     → ltb most-pieces (piece-count t) ≡ many → ltb room (record-size * nodes t) ≡ short
-    → few-pieces (drawn (expanded first bytes)) ≡ cond many (refused too-many-pieces 0) (tree t)
+    → refusing-many-pieces (drawn (expanded first bytes)) ≡ cond many (refused too-many-pieces 0) (tree t)
     → refusing number place
     ≡ cond many (refusing too-many-pieces 0) (cond short (refusing buffer-too-short 0) (reading t))
     → Refusal-read bytes number place

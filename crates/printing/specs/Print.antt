@@ -20,13 +20,13 @@ use Rattle.input.specs.Lines.{lines, expression, texts}
 use Rattle.printing.specs.Digits.{digits}
 
 -- a tree is refused with 8 where its cut has more than 128 pieces
-abbrev pub few-pieces : Outcome (Tree Leaf) → Outcome (Tree Leaf)
-few-pieces (tree t) = cond (ltb most-pieces (piece-count t)) (refused too-many-pieces 0) (tree t)
-few-pieces (refused number place) = refused number place
+abbrev pub refusing-many-pieces : Outcome (Tree Leaf) → Outcome (Tree Leaf)
+refusing-many-pieces (tree t) = cond (ltb most-pieces (piece-count t)) (refused too-many-pieces 0) (tree t)
+refusing-many-pieces (refused number place) = refused number place
 
 -- what reading an expression of the first syntax comes to, where there is room for its records
 abbrev pub answered : List ℕ → Outcome (Tree Leaf)
-answered expr = few-pieces (drawn (expanded first expr))
+answered expr = refusing-many-pieces (drawn (expanded first expr))
 
 -- the line of a text: its number, `yes` or `no`, and its rank among the yes lines, or `-`
 abbrev pub text-line : Bool → (number rank : ℕ) → List ℕ

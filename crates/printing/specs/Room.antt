@@ -22,7 +22,7 @@ use Rattle.input.specs.LineLaws.{texts-count}
 use Rattle.printing.specs.DigitLaws.{digits-length}
 use Rattle.printing.specs.Limits.{longest-input, most-output}
 use Rattle.printing.specs.Print.{
-  few-pieces,
+  refusing-many-pieces,
   text-line,
   total-line,
   refusal-line,
@@ -80,7 +80,7 @@ module _ (matching : Tree Leaf → List ℕ → Bool) where
   -- an expression that is read has a byte, so there are at most 65,534 texts
   reported-length : (expr : List ℕ) (outcome : Outcome (Tree Leaf)) → drawn (expanded first expr) ≡ outcome
       → (later : List (List ℕ))
-      → length later ≤ longest-input - (length expr + 1) → length (reported matching (few-pieces outcome) later)
+      → length later ≤ longest-input - (length expr + 1) → length (reported matching (refusing-many-pieces outcome) later)
       ≤ most-output
   reported-length expr (refused number place) e later h =
       let bounds = first-drawn-refusal expr number place e in

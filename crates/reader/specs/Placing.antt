@@ -13,7 +13,7 @@ use Rattle.tree.specs.Limits.{most-labels}
 use Rattle.operands.specs.Bytes.{Syntax}
 use Rattle.operands.specs.Scanner.{Atom, no-text, Outcome, tree, refused, scanned}
 use Rattle.operands.specs.Sound.{no-tree}
-use Rattle.operands.specs.Placed.{written-at}
+use Rattle.operands.specs.LeavesPlaced.{written-at}
 use Rattle.scanner.specs.Expression.{Expression-answer, Places-read, places-read}
 use Rattle.operands.specs.declared.part.Part.{Part}
 use Rattle.operands.specs.declared.part.Part.the-variants.{Read, Refused}

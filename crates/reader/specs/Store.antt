@@ -26,7 +26,7 @@ use Rattle.classes.specs.ClassRecord.{encode-classes}
 use Rattle.checker.specs.DrawnLaws.{first-has-no-class}
 use Rattle.reader.specs.PlacesIn.{places-in}
 use Rattle.reader.specs.PlacesInLaws.{recorded-places, placed-recorded}
-use Rattle.operands.specs.Placed.{written-at}
+use Rattle.operands.specs.LeavesPlaced.{written-at}
 use Rattle.checker.specs.Relabelled.{
   class-labels,
   relabelled,

@@ -26,7 +26,7 @@ use Rattle.tree.specs.Leaf.{Leaf}
 use Rattle.tree.specs.Records.{labels}
 use Rattle.repeats.specs.Noted.{noted, noted-labels, noted-places}
 use Rattle.operands.specs.Bytes.{Syntax}
-use Rattle.operands.specs.Placed.{atom-at, Leaf-placed, written-at, Placed, signs-at}
+use Rattle.operands.specs.LeavesPlaced.{atom-at, Leaf-placed, written-at, Leaves-placed, signs-at}
 use Rattle.operands.specs.Scanner.{Atom, no-text, tree, refused, due, nothing, scan, scanned}
 use Rattle.operands.specs.Grammar.{united}
 use Rattle.operands.specs.Stopping.{closes-united}
@@ -42,7 +42,7 @@ pub record Expression-read (syntax : Syntax) (places : Bool) (bytes later : List
   pub scans : scanned syntax bytes ≡ tree signs
   pub read : Placed-tree Leaf
   pub stands : placed-with-leaves (atom-at bytes) read ≡ placed-stands-for no-text signs
-  pub placed : Placed bytes (unplaced read)
+  pub placed : Leaves-placed bytes (unplaced read)
   pub counted : total ≡ capped most-labels (nodes (unplaced read))
   pub written : total ≤ most-labels → take total later ≡ noted places read
 
@@ -121,7 +121,7 @@ pub record Labels-read (syntax : Syntax) (bytes later : List ℕ) (total : ℕ) 
   pub scans : scanned syntax bytes ≡ tree signs
   pub read : Tree Leaf
   pub stands : written-at bytes read ≡ stands-for no-text signs
-  pub placed : Placed bytes read
+  pub placed : Leaves-placed bytes read
   pub counted : total ≡ capped most-labels (nodes read)
   pub written : total ≤ most-labels → take total later ≡ labels read
 

@@ -26,7 +26,7 @@ use Rattle.operands.specs.Bytes.{
 use Rattle.operands.specs.Grammar.{starred}
 use Rattle.operands.specs.Surroundings.{Leads, leads-dot, leads-class, class-begins}
 use Rattle.classes.specs.ClassAt.{run-at, class-at}
-use Rattle.operands.specs.Placed.{signs-at}
+use Rattle.operands.specs.LeavesPlaced.{signs-at}
 use Rattle.classes.specs.ClassItems.{Class-ended, found-at, dot-at}
 
 -- a class that was found is a leaf of the second syntax, in all surroundings

@@ -36,7 +36,7 @@ Outside i k n m (under o b) = (o < n) ⊎ (n + m ≤ o)
 
 -- x stands at e in whole: the states of whole are those of x, at the spots of its seat, and states whose spots are
 -- outside
-pub record Placed {A : Type 0} (whole x : Nested A) (e : State → State) (i n : ℕ) : Type 0 where
+pub record Stands-at {A : Type 0} (whole x : Nested A) (e : State → State) (i n : ℕ) : Type 0 where
   pub seat : Part-seat whole x i n
   pub has : (q : State) → Has whole (e q) ↔ Has x q
   pub spots : (q : State) → Has x q → spot whole (e q) ≡ shift i n (spot x q)
@@ -70,7 +70,7 @@ outside-part (under o b) i k n l j k' m l' i' n' e f g h = ⊎-elim (λ o. inl (
 -- a place in a place
 pub place-in : {A : Type 0} {whole x y : Nested A} {e f : State → State} {i n j m : ℕ} (i' n' : ℕ) → i' ≡ i + j
     → n' ≡ n + m
-    → Placed whole x e i n → Placed x y f j m → Placed whole y (λ p. e (f p)) i' n'
+    → Stands-at whole x e i n → Stands-at x y f j m → Stands-at whole y (λ p. e (f p)) i' n'
 place-in {whole = whole} {x = x} {y = y} {e = e} {f = f} {i = i} {n = n} {j = j} {m = m} i' n' same-i same-n outer
     inner = record {
       seat = seat-in i' n' same-i same-n (outer .seat) (inner .seat);
@@ -93,7 +93,7 @@ place-in {whole = whole} {x = x} {y = y} {e = e} {f = f} {i = i} {n = n} {j = j}
         (inner .apart p hp)
 
 -- a tree stands in itself
-pub place-whole : {A : Type 0} (x : Nested A) → Placed x x (λ p. p) 0 0
+pub place-whole : {A : Type 0} (x : Nested A) → Stands-at x x (λ p. p) 0 0
 place-whole x = record {
   seat = record {
     wide = omega arith;
@@ -120,7 +120,7 @@ past (own b) i n i' k' n' l' e f = inr (omega arith)
 past (under o b) i n i' k' n' l' e f = inr (omega arith)
 
 -- the parts of a node
-pub catenation-left : {A : Type 0} (x y : Nested A) → Placed (catenation x y) x left 1 0
+pub catenation-left : {A : Type 0} (x y : Nested A) → Stands-at (catenation x y) x left 1 0
 catenation-left x y =
     record {
       seat =
@@ -142,7 +142,7 @@ catenation-left x y =
     apart (left q) h = inl (q, refl)
     apart (right q) h = inr (past (spot y q) (1 + width x) (run x) 1 (width x) 0 (run x) (omega arith) (omega arith))
 
-pub catenation-right : {A : Type 0} (x y : Nested A) → Placed (catenation x y) y right (1 + width x) (run x)
+pub catenation-right : {A : Type 0} (x y : Nested A) → Stands-at (catenation x y) y right (1 + width x) (run x)
 catenation-right x y =
     record {
       seat = record { wide = omega arith; long = omega arith; same-widths = λ o l. getD-right x y o };
@@ -161,7 +161,7 @@ catenation-right x y =
         (spot-within x q h))
     apart (right q) h = inl (q, refl)
 
-pub union-left : {A : Type 0} (x y : Nested A) → Placed (union x y) x left 1 0
+pub union-left : {A : Type 0} (x y : Nested A) → Stands-at (union x y) x left 1 0
 union-left x y =
     record {
       seat =
@@ -183,7 +183,7 @@ union-left x y =
     apart (left q) h = inl (q, refl)
     apart (right q) h = inr (past (spot y q) (1 + width x) (run x) 1 (width x) 0 (run x) (omega arith) (omega arith))
 
-pub union-right : {A : Type 0} (x y : Nested A) → Placed (union x y) y right (1 + width x) (run x)
+pub union-right : {A : Type 0} (x y : Nested A) → Stands-at (union x y) y right (1 + width x) (run x)
 union-right x y =
     record {
       seat = record { wide = omega arith; long = omega arith; same-widths = λ o l. getD-right x y o };
@@ -202,7 +202,7 @@ union-right x y =
         (spot-within x q h))
     apart (right q) h = inl (q, refl)
 
-pub star-inside : {A : Type 0} (x : Nested A) → Placed (star x) x left 1 0
+pub star-inside : {A : Type 0} (x : Nested A) → Stands-at (star x) x left 1 0
 star-inside x =
     record {
       seat =

@@ -20,7 +20,7 @@ use Rattle.sweeping.specs.Swept.{Child, children-of, part}
 use Rattle.closing.specs.BitsOfWords.Spots.{bit-at, bit-of}
 use Rattle.closing.specs.Within.{own-has}
 use Rattle.sweeping.specs.Places.{
-  Placed,
+  Stands-at,
   place-in,
   place-whole,
   catenation-left,
@@ -92,7 +92,7 @@ pub record Joined-child (words : List ℕ) (c : Child) : Type 0 where
 
 module _ (whole : Nested Leaf) (words : List ℕ) (closes : Closes whole (getD words 0 0) (getD words 0 0)) where
   -- the part x of the piece, at e, whose own transitions are the piece's
-  settled-part : (x : Nested Leaf) (e : State → State) (i n f : ℕ) → Placed whole x e i n → f ≡ suc n
+  settled-part : (x : Nested Leaf) (e : State → State) (i n f : ℕ) → Stands-at whole x e i n → f ≡ suc n
       → ((p q : State) → Own-empty byteless x p q → Own-empty byteless whole (e p) (e q))
       → Each-child (Joined-child words) (children-of x i f) → Settled byteless x (λ p. Holds whole words (e p))
   settled-part (leaf a) e i n f place from stands each = wires

@@ -55,7 +55,7 @@ use Rattle.closing.specs.BitsOfWords.Spots.{
 use Rattle.closing.specs.Within.{own-has, path-own, begins, closed-within, sweep-extends}
 use Rattle.sweeping.specs.Places.{
   Outside,
-  Placed,
+  Stands-at,
   place-in,
   place-whole,
   catenation-left,
@@ -165,7 +165,7 @@ module _ (c : Child) (i n k : ℕ) (from : c .from ≡ suc n) where
       Iff·trans (bit-of b (started-below c words o (omega arith))) (inl, ⊎-elim (λ h. h) (λ h. absurd (h .0)))
 
 -- the child piece c stands at e in the piece of x
-module _ (x : Nested Leaf) (e : State → State) (c : Child) (n : ℕ) (place : Placed x (below (c .tree)) e (c .stand) n)
+module _ (x : Nested Leaf) (e : State → State) (c : Child) (n : ℕ) (place : Stands-at x (below (c .tree)) e (c .stand) n)
     (from : c .from ≡ suc n) where
   -- a state of a child piece is marked exactly when the child's run holds it
   pub child-holds : (words : List ℕ) (p : State) → Has (c .tree) p → Holds x words (e (left p))
@@ -340,7 +340,7 @@ visits-length : (x : Nested Leaf) (cs : List Child) (before after : List ℕ) �
 visits-length x [] before after v = ap length (sym v)
 visits-length x (c ∷ cs) before after (next, first, rest) = visits-length x cs next after rest ∙ first .same-length
 
-visit-same : (whole x : Nested Leaf) (e : State → State) (i n : ℕ) → Placed whole x e i n → (M N : States)
+visit-same : (whole x : Nested Leaf) (e : State → State) (i n : ℕ) → Stands-at whole x e i n → (M N : States)
     → Agree whole M N
     → Agree whole (Visit byteless x e (Own-closed byteless whole) M) (Visit byteless x e (Own-closed byteless whole) N)
 visit-same whole x e i n place M N same q h = (
@@ -349,7 +349,7 @@ visit-same whole x e i n place M N same q h = (
 )
 
 -- the visits of two parts, one after the other
-then-visit : (whole y : Nested Leaf) (e : State → State) (i n : ℕ) → Placed whole y e i n → (M N K : States)
+then-visit : (whole y : Nested Leaf) (e : State → State) (i n : ℕ) → Stands-at whole y e i n → (M N K : States)
     → Agree whole M N
     → Agree whole K (Visit byteless y e (Own-closed byteless whole) M)
     → Agree whole K (Visit byteless y e (Own-closed byteless whole) N)
@@ -357,7 +357,7 @@ then-visit whole y e i n place M N K first second q h =
     Iff·trans (second q h) (visit-same whole y e i n place M N first q h)
 
 -- the visits of the child pieces below a part of the piece make the marks those of its visit
-pub visits-hold : (whole x : Nested Leaf) (e : State → State) (i n f : ℕ) → Placed whole x e i n → f ≡ suc n
+pub visits-hold : (whole x : Nested Leaf) (e : State → State) (i n f : ℕ) → Stands-at whole x e i n → f ≡ suc n
     → (before after : List ℕ) → 1 + run whole ≤ length before
     → Visits whole (children-of x i f) before after
     → Agree whole (Holds whole after) (Visit byteless x e (Own-closed byteless whole) (Holds whole before))
@@ -366,7 +366,7 @@ visits-hold whole (leaf a) e i n f place from before after room v =
 visits-hold whole (catenation x y) e i n f place from before after room v =
     let (between, some, others) =
     visits-split whole (children-of x (i + 1) f) (children-of y (i + (1 + width x)) (f + run x)) before after v in
-    let second : Placed whole y (λ p. e (right p)) (i + (1 + width x)) (n + run x) =
+    let second : Stands-at whole y (λ p. e (right p)) (i + (1 + width x)) (n + run x) =
     place-in (i + (1 + width x)) (n + run x) refl refl place (catenation-right x y) in
     then-visit whole y (λ p. e (right p)) (i + (1 + width x)) (n + run x) second (Holds whole between)
     (Visit byteless x (λ p. e (left p)) (Own-closed byteless whole) (Holds whole before)) (Holds whole after)
@@ -378,7 +378,7 @@ visits-hold whole (catenation x y) e i n f place from before after room v =
 visits-hold whole (union x y) e i n f place from before after room v =
     let (between, some, others) =
     visits-split whole (children-of x (i + 1) f) (children-of y (i + (1 + width x)) (f + run x)) before after v in
-    let second : Placed whole y (λ p. e (right p)) (i + (1 + width x)) (n + run x) =
+    let second : Stands-at whole y (λ p. e (right p)) (i + (1 + width x)) (n + run x) =
     place-in (i + (1 + width x)) (n + run x) refl refl place (union-right x y) in
     then-visit whole y (λ p. e (right p)) (i + (1 + width x)) (n + run x) second (Holds whole between)
     (Visit byteless x (λ p. e (left p)) (Own-closed byteless whole) (Holds whole before)) (Holds whole after)

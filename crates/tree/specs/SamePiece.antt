@@ -8,7 +8,7 @@ use Rattle.language.specs.Tree.{Tree, leaf, catenation, union, star}
 use Rattle.tree.specs.Cut.{Cut, one, cuts}
 use Rattle.tree.specs.Numbering.{child-piece, numbered}
 use Rattle.tree.specs.Saying.{true-false}
-use Rattle.tree.specs.Ways.{Way, here, left, right, Node, number-of, Uncut, Joined}
+use Rattle.tree.specs.Ways.{Way, here, left, right, Node, number-of, Uncut, Uncut-between}
 
 -- a node's number: the root's where no edge on the way is cut, else one of the k from `new` on
 data Among (uncut : Type 0) (a piece new k : ℕ) : Type 0 where
@@ -90,7 +90,7 @@ module _ {A : Type 0} (s t : Tree A) (b c : Bool) (d : Cut s) (e : Cut t) (piece
 
 -- two nodes have the same number exactly when no cut edge lies between them
 pub same-piece-exactly : {A : Type 0} (t : Tree A) (c : Cut t) (piece new : ℕ) → piece < new → (v w : Way) → Node t v
-    → Node t w → (number-of (numbered t c piece new) v ≡ number-of (numbered t c piece new) w) ↔ Joined t c v w
+    → Node t w → (number-of (numbered t c piece new) v ≡ number-of (numbered t c piece new) w) ↔ Uncut-between t c v w
 same-piece-exactly (leaf a) c piece new h here w m n = root-or-not h (among (leaf a) c piece new w n)
 same-piece-exactly (leaf a) c piece new h (left v) w m n = absurd m
 same-piece-exactly (leaf a) c piece new h (right v) w m n = absurd m

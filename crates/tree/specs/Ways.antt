@@ -47,17 +47,17 @@ Uncut (star s) c (left w) = (c .0 ≡ false) × Uncut s (c .1) w
 Uncut (star s) c (right w) = ⊥
 
 -- no cut edge lies between the ends of two ways: where the ways part, neither goes on over a cut edge
-abbrev pub Joined : {A : Type 0} (t : Tree A) → Cut t → Way → Way → Type 0
-Joined t c here w = Uncut t c w
-Joined t c (left v) here = Uncut t c (left v)
-Joined t c (right v) here = Uncut t c (right v)
-Joined t c (left v) (right w) = Uncut t c (left v) × Uncut t c (right w)
-Joined t c (right v) (left w) = Uncut t c (right v) × Uncut t c (left w)
-Joined (leaf a) c (left v) (left w) = ⊥
-Joined (leaf a) c (right v) (right w) = ⊥
-Joined (catenation s t) c (left v) (left w) = Joined s (c .1) v w
-Joined (catenation s t) c (right v) (right w) = Joined t (c .3) v w
-Joined (union s t) c (left v) (left w) = Joined s (c .1) v w
-Joined (union s t) c (right v) (right w) = Joined t (c .3) v w
-Joined (star s) c (left v) (left w) = Joined s (c .1) v w
-Joined (star s) c (right v) (right w) = ⊥
+abbrev pub Uncut-between : {A : Type 0} (t : Tree A) → Cut t → Way → Way → Type 0
+Uncut-between t c here w = Uncut t c w
+Uncut-between t c (left v) here = Uncut t c (left v)
+Uncut-between t c (right v) here = Uncut t c (right v)
+Uncut-between t c (left v) (right w) = Uncut t c (left v) × Uncut t c (right w)
+Uncut-between t c (right v) (left w) = Uncut t c (right v) × Uncut t c (left w)
+Uncut-between (leaf a) c (left v) (left w) = ⊥
+Uncut-between (leaf a) c (right v) (right w) = ⊥
+Uncut-between (catenation s t) c (left v) (left w) = Uncut-between s (c .1) v w
+Uncut-between (catenation s t) c (right v) (right w) = Uncut-between t (c .3) v w
+Uncut-between (union s t) c (left v) (left w) = Uncut-between s (c .1) v w
+Uncut-between (union s t) c (right v) (right w) = Uncut-between t (c .3) v w
+Uncut-between (star s) c (left v) (left w) = Uncut-between s (c .1) v w
+Uncut-between (star s) c (right v) (right w) = ⊥

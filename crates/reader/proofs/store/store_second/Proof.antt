@@ -9,7 +9,7 @@ use Rattle.checker.specs.ClassStore.{labels-placed}
 use Rattle.checker.specs.Count.{classes-bounded}
 use Rattle.reader.specs.Placing.{due-counted}
 use Rattle.checker.specs.Drawn.{recorded}
-use Rattle.operands.specs.Placed.{written-at}
+use Rattle.operands.specs.LeavesPlaced.{written-at}
 use Rattle.checker.specs.Relabelled.{relabelled}
 use lib.ListN.{take, drop, length-append, length-drop}
 use mathlib.Core.List.{List, _++_}

@@ -26,8 +26,8 @@ abbrev pub written-at : List ℕ → Tree Leaf → Tree Atom
 written-at bytes t = with-leaves (atom-at bytes) t
 
 -- every class leaf holds the place of a class
-abbrev pub Placed : List ℕ → Tree Leaf → Type 0
-Placed bytes t = Every-leaf (Leaf-placed bytes) t
+abbrev pub Leaves-placed : List ℕ → Tree Leaf → Type 0
+Leaves-placed bytes t = Every-leaf (Leaf-placed bytes) t
 
 -- the same of a tree with signs
 abbrev pub signs-at : List ℕ → Signed-tree Leaf → Signed-tree Atom
