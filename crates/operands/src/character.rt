@@ -70,17 +70,17 @@ pub fn leaf(
     label: u16,
     place: usize,
     next: usize,
-    labels: &mut [u16],
+    notes: &mut [u16],
     count: usize,
     places: bool,
 ) -> Part
-    requires room { ⌜ Label-room (now labels) count ⌝ }
+    requires room { ⌜ Label-room (now notes) count ⌝ }
     requires low { ⌜ place ≤ most-labels ⌝ }
-    ensures { λ r. ⌜ Leaf-answer places label place next count (now (labels .entry)) (now (labels .exit)) r ⌝ }
+    ensures { λ r. ⌜ Leaf-answer places label place next count (now (notes .entry)) (now (notes .exit)) r ⌝ }
 {
     Part::Read {
         next,
-        count: put_note(labels, count, label, place as u16, places),
+        count: put_note(notes, count, label, place as u16, places),
     }
 }
 
@@ -89,7 +89,7 @@ pub fn leaf(
 pub fn character(
     expr: &[u8],
     at: usize,
-    labels: &mut [u16],
+    notes: &mut [u16],
     count: usize,
     second: bool,
     places: bool,
@@ -97,9 +97,9 @@ pub fn character(
     requires within { ⌜ at < length (now expr) ⌝ }
     requires character { ⌜ (getD (now expr) at 0 ≡ 40 → ⊥) ⌝ }
     requires common { ⌜ class-begins (sign-of (syntax-of second) (getD (now expr) at 0)) ≡ false ⌝ }
-    requires room { ⌜ Scratch-room (now expr) at 0 count (now labels) ⌝ }
-    ensures { λ r. ⌜ Character-answer (syntax-of second) places (now (expr .entry)) at count (now (labels .entry)) (now
-        (labels .exit)) r ⌝ }
+    requires room { ⌜ Scratch-room (now expr) at 0 count (now notes) ⌝ }
+    ensures { λ r. ⌜ Character-answer (syntax-of second) places (now (expr .entry)) at count (now (notes .entry)) (now
+        (notes .exit)) r ⌝ }
 {
     let byte = expr[at];
     if byte == b'\\' {
@@ -116,7 +116,7 @@ pub fn character(
                 label_of(CHARACTER, escaped),
                 at,
                 place + 1,
-                labels,
+                notes,
                 count,
                 places,
             );
@@ -132,5 +132,5 @@ pub fn character(
             place: at,
         };
     }
-    leaf(label_of(CHARACTER, byte), at, at + 1, labels, count, places)
+    leaf(label_of(CHARACTER, byte), at, at + 1, notes, count, places)
 }

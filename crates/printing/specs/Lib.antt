@@ -8,3 +8,4 @@ pub mod DigitLaws
 pub mod OutputCases
 pub mod Room
 pub mod Printing
+pub mod PrintingLaws

@@ -80,8 +80,8 @@ module _ (matching : Tree Leaf → List ℕ → Bool) where
   -- an expression that is read has a byte, so there are at most 65,534 texts
   reported-length : (expr : List ℕ) (outcome : Outcome (Tree Leaf)) → drawn (expanded first expr) ≡ outcome
       → (later : List (List ℕ))
-      → length later ≤ longest-input - (length expr + 1) → length (reported matching (refusing-many-pieces outcome) later)
-      ≤ most-output
+      → length later ≤ longest-input - (length expr + 1)
+      → length (reported matching (refusing-many-pieces outcome) later) ≤ most-output
   reported-length expr (refused number place) e later h =
       let bounds = first-drawn-refusal expr number place e in
       omega (arith, refusal-line-length number place (omega (arith, bounds)) (omega (arith, bounds)))

@@ -28,101 +28,95 @@ ghost use Rattle.repeats.specs.Labelled.{
 const NO_ROOM: usize = MOST_LABELS + 1;
 
 // Writes one more number.
-fn put(labels: &mut [u16], count: usize, number: u16) -> usize
-    requires { ⌜ Label-room (now labels) count ⌝ }
-    ensures { λ r. ⌜ Appended (now (labels .entry)) count (number ∷ []) r (now (labels .exit)) ⌝ }
+fn put(notes: &mut [u16], count: usize, number: u16) -> usize
+    requires { ⌜ Label-room (now notes) count ⌝ }
+    ensures { λ r. ⌜ Appended (now (notes .entry)) count (number ∷ []) r (now (notes .exit)) ⌝ }
 {
     if count >= MOST_LABELS {
         return NO_ROOM;
     }
-    labels[count] = number;
+    notes[count] = number;
     count + 1
 }
 
 // Writes what is noted of one more node: its label or its place.
-pub fn put_note(labels: &mut [u16], count: usize, label: u16, place: u16, places: bool) -> usize
-    requires { ⌜ Label-room (now labels) count ⌝ }
-    ensures { λ r. ⌜ Appended (now (labels .entry)) count (note places label place ∷ []) r (now (labels .exit)) ⌝ }
+pub fn put_note(notes: &mut [u16], count: usize, label: u16, place: u16, places: bool) -> usize
+    requires { ⌜ Label-room (now notes) count ⌝ }
+    ensures { λ r. ⌜ Appended (now (notes .entry)) count (note places label place ∷ []) r (now (notes .exit)) ⌝ }
 {
     let number = note(label, place, places);
-    put(labels, count, number)
+    put(notes, count, number)
 }
 
 // Writes what is noted of two more nodes that a sign adds.
 fn put_two(
-    labels: &mut [u16],
+    notes: &mut [u16],
     count: usize,
     first: u16,
     second: u16,
     place: u16,
     places: bool,
 ) -> usize
-    requires { ⌜ Label-room (now labels) count ⌝ }
-    ensures { λ r. ⌜ Appended (now (labels .entry)) count (note places first place ∷ note places second place ∷ []) r
-        (now (labels .exit)) ⌝ }
+    requires { ⌜ Label-room (now notes) count ⌝ }
+    ensures { λ r. ⌜ Appended (now (notes .entry)) count (note places first place ∷ note places second place ∷ []) r
+        (now (notes .exit)) ⌝ }
 {
-    let one = put_note(labels, count, first, place, places);
-    put_note(labels, one, second, place, places)
+    let one = put_note(notes, count, first, place, places);
+    put_note(notes, one, second, place, places)
 }
 
 // Turns the tree whose notes stand last into the union of it and the empty text.
-pub fn perhaps(labels: &mut [u16], count: usize, place: u16, places: bool) -> usize
-    requires { ⌜ Label-room (now labels) count ⌝ }
-    ensures added { λ r. ⌜ Appended (now (labels .entry)) count (question-notes places place) r (now (labels .exit)) ⌝ }
-    ensures turned { λ r. ⌜ Relabels places count (now (labels .entry)) (placed-perhaps empty-text place) r
-        (now (labels .exit)) ⌝ }
+pub fn perhaps(notes: &mut [u16], count: usize, place: u16, places: bool) -> usize
+    requires { ⌜ Label-room (now notes) count ⌝ }
+    ensures added { λ r. ⌜ Appended (now (notes .entry)) count (question-notes places place) r (now (notes .exit)) ⌝ }
+    ensures turned { λ r. ⌜ Relabels places count (now (notes .entry)) (placed-perhaps empty-text place) r
+        (now (notes .exit)) ⌝ }
 {
-    put_two(labels, count, EMPTY_LABEL, UNION_LABEL, place, places)
+    put_two(notes, count, EMPTY_LABEL, UNION_LABEL, place, places)
 }
 
 // Writes a copy of a run of labels or places.
-fn copy_run(labels: &mut [u16], begin: usize, size: usize, count: usize) -> usize
-    requires { ⌜ Copy-room (now labels) begin size count ⌝ }
-    ensures { λ r. ⌜ Copies (now (labels .entry)) begin size count (λ run. run) r (now (labels .exit)) ⌝ }
+fn copy_run(notes: &mut [u16], begin: usize, size: usize, count: usize) -> usize
+    requires { ⌜ Copy-room (now notes) begin size count ⌝ }
+    ensures { λ r. ⌜ Copies (now (notes .entry)) begin size count (λ run. run) r (now (notes .exit)) ⌝ }
 {
     if count + size > MOST_LABELS {
         return NO_ROOM;
     }
     let mut i = 0;
     while i < size {
-        labels[count + i] = labels[begin + i];
+        notes[count + i] = notes[begin + i];
         i += 1;
     }
     count + size
 }
 
 // Turns the tree whose notes begin at `begin` and stand last into its catenation with its star.
-pub fn more(labels: &mut [u16], begin: usize, count: usize, place: u16, places: bool) -> usize
-    requires { ⌜ Label-room (now labels) count × (begin ≤ count) ⌝ }
-    ensures { λ r. ⌜ Relabels-from places begin count (now (labels .entry)) (placed-repeated place) r
-        (now (labels .exit)) ⌝ }
+pub fn more(notes: &mut [u16], begin: usize, count: usize, place: u16, places: bool) -> usize
+    requires { ⌜ Label-room (now notes) count × (begin ≤ count) ⌝ }
+    ensures { λ r. ⌜ Relabels-from places begin count (now (notes .entry)) (placed-repeated place) r
+        (now (notes .exit)) ⌝ }
 {
-    let copied = copy_run(labels, begin, count - begin, count);
-    put_two(labels, copied, STAR_LABEL, CATENATION_LABEL, place, places)
+    let copied = copy_run(notes, begin, count - begin, count);
+    put_two(notes, copied, STAR_LABEL, CATENATION_LABEL, place, places)
 }
 
 // Writes what ends a copy that follows: the notes of its `?`, if it has one, and the catenation's.
-fn end_copy(
-    labels: &mut [u16],
-    count: usize,
-    with_question: bool,
-    place: u16,
-    places: bool,
-) -> usize
-    requires { ⌜ Label-room (now labels) count ⌝ }
-    ensures { λ r. ⌜ Appended (now (labels .entry)) count (copy-end places place «with_question») r
-        (now (labels .exit)) ⌝ }
+fn end_copy(notes: &mut [u16], count: usize, with_question: bool, place: u16, places: bool) -> usize
+    requires { ⌜ Label-room (now notes) count ⌝ }
+    ensures { λ r. ⌜ Appended (now (notes .entry)) count (copy-end places place «with_question») r
+        (now (notes .exit)) ⌝ }
 {
     if with_question {
-        let united = perhaps(labels, count, place, places);
-        return put_note(labels, united, CATENATION_LABEL, place, places);
+        let united = perhaps(notes, count, place, places);
+        return put_note(notes, united, CATENATION_LABEL, place, places);
     }
-    put_note(labels, count, CATENATION_LABEL, place, places)
+    put_note(notes, count, CATENATION_LABEL, place, places)
 }
 
 // Writes n copies of a run, each catenated to what stands before it.
 fn follow(
-    labels: &mut [u16],
+    notes: &mut [u16],
     begin: usize,
     size: usize,
     count: usize,
@@ -131,15 +125,15 @@ fn follow(
     place: u16,
     places: bool,
 ) -> usize
-    requires { ⌜ Copy-room (now labels) begin size count ⌝ }
-    ensures { λ r. ⌜ Copies (now (labels .entry)) begin size count
-        (λ run. copied n (run ++ copy-end places place «with_question»)) r (now (labels .exit)) ⌝ }
+    requires { ⌜ Copy-room (now notes) begin size count ⌝ }
+    ensures { λ r. ⌜ Copies (now (notes .entry)) begin size count
+        (λ run. copied n (run ++ copy-end places place «with_question»)) r (now (notes .exit)) ⌝ }
 {
     let mut total = count;
     let mut i = 0;
     while i < n {
-        let copy = copy_run(labels, begin, size, total);
-        total = end_copy(labels, copy, with_question, place, places);
+        let copy = copy_run(notes, begin, size, total);
+        total = end_copy(notes, copy, with_question, place, places);
         i += 1;
     }
     total
@@ -148,7 +142,7 @@ fn follow(
 // Turns the tree whose notes begin at `begin` and stand last into `fewest` of it, then as many as are left to `most`,
 // each with a `?`, catenated to the left.
 pub fn times(
-    labels: &mut [u16],
+    notes: &mut [u16],
     begin: usize,
     count: usize,
     fewest: usize,
@@ -156,16 +150,16 @@ pub fn times(
     place: u16,
     places: bool,
 ) -> usize
-    requires { ⌜ Label-room (now labels) count × (begin ≤ count) × (fewest ≤ most) × (1 ≤ most) ⌝ }
-    ensures { λ r. ⌜ Relabels-from places begin count (now (labels .entry))
-        (placed-times empty-text place fewest most) r (now (labels .exit)) ⌝ }
+    requires { ⌜ Label-room (now notes) count × (begin ≤ count) × (fewest ≤ most) × (1 ≤ most) ⌝ }
+    ensures { λ r. ⌜ Relabels-from places begin count (now (notes .entry))
+        (placed-times empty-text place fewest most) r (now (notes .exit)) ⌝ }
 {
     let size = count - begin;
     if fewest == 0 {
-        let first = perhaps(labels, count, place, places);
-        return follow(labels, begin, size, first, most - 1, true, place, places);
+        let first = perhaps(notes, count, place, places);
+        return follow(notes, begin, size, first, most - 1, true, place, places);
     }
-    let needed = follow(labels, begin, size, count, fewest - 1, false, place, places);
+    let needed = follow(notes, begin, size, count, fewest - 1, false, place, places);
     let others = most - fewest;
-    follow(labels, begin, size, needed, others, true, place, places)
+    follow(notes, begin, size, needed, others, true, place, places)
 }

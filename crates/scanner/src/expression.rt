@@ -13,9 +13,9 @@ ghost use Rattle.scanner.specs.Expression.{Expression-answer};
 
 // Writes the labels of the tree that an expression stands for, or where `places` says so the places of its nodes, while
 // there is room: refuses by 1, 2, or the first fault from left to right.
-pub fn expression(expr: &[u8], labels: &mut [u16], second: bool, places: bool) -> Part
-    requires { ⌜ most-labels ≤ length (now labels) ⌝ }
-    ensures { λ r. ⌜ Expression-answer (syntax-of second) places (now (expr .entry)) (now (labels .exit)) r ⌝ }
+pub fn expression(expr: &[u8], notes: &mut [u16], second: bool, places: bool) -> Part
+    requires { ⌜ most-labels ≤ length (now notes) ⌝ }
+    ensures { λ r. ⌜ Expression-answer (syntax-of second) places (now (expr .entry)) (now (notes .exit)) r ⌝ }
 {
     if expr.len() == 0 {
         return Part::Refused {
@@ -29,7 +29,7 @@ pub fn expression(expr: &[u8], labels: &mut [u16], second: bool, places: bool) -
             place: LONGEST_EXPRESSION,
         };
     }
-    let whole = union(expr, 0, 0, labels, 0, second, places);
+    let whole = union(expr, 0, 0, notes, 0, second, places);
     let Part::Read { next, count } = whole else {
         return whole;
     };

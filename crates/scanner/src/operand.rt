@@ -16,15 +16,15 @@ pub fn operand(
     expr: &[u8],
     at: usize,
     depth: usize,
-    labels: &mut [u16],
+    notes: &mut [u16],
     count: usize,
     second: bool,
     places: bool,
 ) -> Part
-    requires { ⌜ Scratch-room (now expr) at depth count (now labels) ⌝ }
+    requires { ⌜ Scratch-room (now expr) at depth count (now notes) ⌝ }
     ensures { λ r. ⌜ Part-answer (syntax-of second) places starred (now (expr .entry)) at depth count
-        (now (labels .entry)) (now
-        (labels .exit)) r ⌝ }
+        (now (notes .entry)) (now
+        (notes .exit)) r ⌝ }
 {
     let begin = count;
     if at == expr.len() {
@@ -41,7 +41,7 @@ pub fn operand(
             };
         }
         let open = at;
-        let inner = union(expr, open + 1, depth + 1, labels, begin, second, places);
+        let inner = union(expr, open + 1, depth + 1, notes, begin, second, places);
         let Part::Read { next, count } = inner else {
             return inner;
         };
@@ -51,11 +51,11 @@ pub fn operand(
                 place: open,
             };
         }
-        return signs(expr, next + 1, labels, begin, count, second, places);
+        return signs(expr, next + 1, notes, begin, count, second, places);
     }
-    let part = single(expr, at, labels, begin, second, places);
+    let part = single(expr, at, notes, begin, second, places);
     let Part::Read { next, count } = part else {
         return part;
     };
-    signs(expr, next, labels, begin, count, second, places)
+    signs(expr, next, notes, begin, count, second, places)
 }

@@ -12,17 +12,17 @@ pub fn union(
     expr: &[u8],
     at: usize,
     depth: usize,
-    labels: &mut [u16],
+    notes: &mut [u16],
     count: usize,
     second: bool,
     places: bool,
 ) -> Part
-    requires { ⌜ Scratch-room (now expr) at depth count (now labels) ⌝ }
+    requires { ⌜ Scratch-room (now expr) at depth count (now notes) ⌝ }
     ensures { λ r. ⌜ Part-answer (syntax-of second) places united (now (expr .entry)) at depth count
-        (now (labels .entry)) (now
-        (labels .exit)) r ⌝ }
+        (now (notes .entry)) (now
+        (notes .exit)) r ⌝ }
 {
-    let first = catenation(expr, at, depth, labels, count, second, places);
+    let first = catenation(expr, at, depth, notes, count, second, places);
     let Part::Read { next, count } = first else {
         return first;
     };
@@ -32,11 +32,11 @@ pub fn union(
         if expr[place] != b'|' {
             break;
         }
-        let part = catenation(expr, place + 1, depth, labels, n, second, places);
+        let part = catenation(expr, place + 1, depth, notes, n, second, places);
         let Part::Read { next, count } = part else {
             return part;
         };
-        n = put_note(labels, count, UNION_LABEL, place as u16, places);
+        n = put_note(notes, count, UNION_LABEL, place as u16, places);
         place = next;
     }
     Part::Read {

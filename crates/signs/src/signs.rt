@@ -19,17 +19,17 @@ ghost use Rattle.operands.specs.Reading.{Sign-room, One-sign-answer, Signs-answ
 fn counted(
     expr: &[u8],
     at: usize,
-    labels: &mut [u16],
+    notes: &mut [u16],
     begin: usize,
     total: usize,
     places: bool,
 ) -> Part
     requires within { ⌜ at < length (now expr) ⌝ }
     requires brace { ⌜ getD (now expr) at 0 ≡ 123 ⌝ }
-    requires room { ⌜ Sign-room (now expr) at begin total (now labels) ⌝ }
+    requires room { ⌜ Sign-room (now expr) at begin total (now notes) ⌝ }
     ensures { λ r. ⌜ One-sign-answer (syntax-of true) places (now (expr .entry)) begin at total
-        (now (labels .entry)) (now
-        (labels .exit)) r ⌝ }
+        (now (notes .entry)) (now
+        (notes .exit)) r ⌝ }
 {
     let part = count(expr, at);
     let CountPart::Read { next, fewest, most } = part else {
@@ -40,7 +40,7 @@ fn counted(
     };
     Part::Read {
         next,
-        count: times(labels, begin, total, fewest, most, at as u16, places),
+        count: times(notes, begin, total, fewest, most, at as u16, places),
     }
 }
 
@@ -48,33 +48,33 @@ fn counted(
 fn second_sign(
     expr: &[u8],
     at: usize,
-    labels: &mut [u16],
+    notes: &mut [u16],
     begin: usize,
     total: usize,
     places: bool,
 ) -> Part
     requires within { ⌜ at < length (now expr) ⌝ }
     requires other { ⌜ (getD (now expr) at 0 ≡ 42 → ⊥) ⌝ }
-    requires room { ⌜ Sign-room (now expr) at begin total (now labels) ⌝ }
+    requires room { ⌜ Sign-room (now expr) at begin total (now notes) ⌝ }
     ensures { λ r. ⌜ One-sign-answer (syntax-of true) places (now (expr .entry)) begin at total
-        (now (labels .entry)) (now
-        (labels .exit)) r ⌝ }
+        (now (notes .entry)) (now
+        (notes .exit)) r ⌝ }
 {
     let byte = expr[at];
     if byte == b'+' {
         return Part::Read {
             next: at + 1,
-            count: more(labels, begin, total, at as u16, places),
+            count: more(notes, begin, total, at as u16, places),
         };
     }
     if byte == b'?' {
         return Part::Read {
             next: at + 1,
-            count: perhaps(labels, total, at as u16, places),
+            count: perhaps(notes, total, at as u16, places),
         };
     }
     if byte == b'{' {
-        return counted(expr, at, labels, begin, total, places);
+        return counted(expr, at, notes, begin, total, places);
     }
     Part::Read {
         next: at,
@@ -86,26 +86,26 @@ fn second_sign(
 fn sign(
     expr: &[u8],
     at: usize,
-    labels: &mut [u16],
+    notes: &mut [u16],
     begin: usize,
     total: usize,
     second: bool,
     places: bool,
 ) -> Part
     requires within { ⌜ at < length (now expr) ⌝ }
-    requires room { ⌜ Sign-room (now expr) at begin total (now labels) ⌝ }
+    requires room { ⌜ Sign-room (now expr) at begin total (now notes) ⌝ }
     ensures { λ r. ⌜ One-sign-answer (syntax-of second) places (now (expr .entry)) begin at total
-        (now (labels .entry)) (now
-        (labels .exit)) r ⌝ }
+        (now (notes .entry)) (now
+        (notes .exit)) r ⌝ }
 {
     if expr[at] == b'*' {
         return Part::Read {
             next: at + 1,
-            count: put_note(labels, total, STAR_LABEL, at as u16, places),
+            count: put_note(notes, total, STAR_LABEL, at as u16, places),
         };
     }
     if second {
-        return second_sign(expr, at, labels, begin, total, places);
+        return second_sign(expr, at, notes, begin, total, places);
     }
     Part::Read {
         next: at,
@@ -117,21 +117,21 @@ fn sign(
 pub fn signs(
     expr: &[u8],
     at: usize,
-    labels: &mut [u16],
+    notes: &mut [u16],
     begin: usize,
     total: usize,
     second: bool,
     places: bool,
 ) -> Part
-    requires { ⌜ Sign-room (now expr) at begin total (now labels) ⌝ }
+    requires { ⌜ Sign-room (now expr) at begin total (now notes) ⌝ }
     ensures { λ r. ⌜ Signs-answer (syntax-of second) places (now (expr .entry)) begin at total
-        (now (labels .entry)) (now
-        (labels .exit)) r ⌝ }
+        (now (notes .entry)) (now
+        (notes .exit)) r ⌝ }
 {
     let mut place = at;
     let mut n = total;
     while place < expr.len() {
-        let part = sign(expr, place, labels, begin, n, second, places);
+        let part = sign(expr, place, notes, begin, n, second, places);
         let Part::Read { next, count } = part else {
             return part;
         };

@@ -15,12 +15,12 @@ ghost use Rattle.operands.specs.Bytes.{syntax-of};
 ghost use Rattle.operands.specs.Reading.{Scratch-room, Character-answer};
 
 // Reads the class at a `[`: 14 there where it is not of the form.
-fn class(expr: &[u8], begin: usize, labels: &mut [u16], count: usize, places: bool) -> Part
+fn class(expr: &[u8], begin: usize, notes: &mut [u16], count: usize, places: bool) -> Part
     requires within { ⌜ begin < length (now expr) ⌝ }
     requires bracket { ⌜ getD (now expr) begin 0 ≡ 91 ⌝ }
-    requires room { ⌜ Scratch-room (now expr) begin 0 count (now labels) ⌝ }
-    ensures { λ r. ⌜ Character-answer (syntax-of true) places (now (expr .entry)) begin count (now (labels .entry)) (now
-        (labels .exit)) r ⌝ }
+    requires room { ⌜ Scratch-room (now expr) begin 0 count (now notes) ⌝ }
+    ensures { λ r. ⌜ Character-answer (syntax-of true) places (now (expr .entry)) begin count (now (notes .entry)) (now
+        (notes .exit)) r ⌝ }
 {
     let part = class_end(expr, begin);
     let ClassPart::Read { next } = part else {
@@ -29,23 +29,23 @@ fn class(expr: &[u8], begin: usize, labels: &mut [u16], count: usize, places: bo
             place: begin,
         };
     };
-    leaf(class_label(begin), begin, next, labels, count, places)
+    leaf(class_label(begin), begin, next, notes, count, places)
 }
 
 // Reads the operand at a place in the second syntax: 14 at a `]`, 16 at a `}`.
-fn second_single(expr: &[u8], at: usize, labels: &mut [u16], count: usize, places: bool) -> Part
+fn second_single(expr: &[u8], at: usize, notes: &mut [u16], count: usize, places: bool) -> Part
     requires within { ⌜ at < length (now expr) ⌝ }
     requires character { ⌜ (getD (now expr) at 0 ≡ 40 → ⊥) ⌝ }
-    requires room { ⌜ Scratch-room (now expr) at 0 count (now labels) ⌝ }
-    ensures { λ r. ⌜ Character-answer (syntax-of true) places (now (expr .entry)) at count (now (labels .entry)) (now
-        (labels .exit)) r ⌝ }
+    requires room { ⌜ Scratch-room (now expr) at 0 count (now notes) ⌝ }
+    ensures { λ r. ⌜ Character-answer (syntax-of true) places (now (expr .entry)) at count (now (notes .entry)) (now
+        (notes .exit)) r ⌝ }
 {
     let byte = expr[at];
     if byte == b'.' {
-        return leaf(class_label(at), at, at + 1, labels, count, places);
+        return leaf(class_label(at), at, at + 1, notes, count, places);
     }
     if byte == b'[' {
-        return class(expr, at, labels, count, places);
+        return class(expr, at, notes, count, places);
     }
     if byte == b']' {
         return Part::Refused {
@@ -59,26 +59,26 @@ fn second_single(expr: &[u8], at: usize, labels: &mut [u16], count: usize, place
             place: at,
         };
     }
-    character(expr, at, labels, count, true, places)
+    character(expr, at, notes, count, true, places)
 }
 
 // Reads the operand at a place that is no `(`.
 pub fn single(
     expr: &[u8],
     at: usize,
-    labels: &mut [u16],
+    notes: &mut [u16],
     count: usize,
     second: bool,
     places: bool,
 ) -> Part
     requires within { ⌜ at < length (now expr) ⌝ }
     requires character { ⌜ (getD (now expr) at 0 ≡ 40 → ⊥) ⌝ }
-    requires room { ⌜ Scratch-room (now expr) at 0 count (now labels) ⌝ }
-    ensures { λ r. ⌜ Character-answer (syntax-of second) places (now (expr .entry)) at count (now (labels .entry)) (now
-        (labels .exit)) r ⌝ }
+    requires room { ⌜ Scratch-room (now expr) at 0 count (now notes) ⌝ }
+    ensures { λ r. ⌜ Character-answer (syntax-of second) places (now (expr .entry)) at count (now (notes .entry)) (now
+        (notes .exit)) r ⌝ }
 {
     if second {
-        return second_single(expr, at, labels, count, places);
+        return second_single(expr, at, notes, count, places);
     }
-    character(expr, at, labels, count, false, places)
+    character(expr, at, notes, count, false, places)
 }

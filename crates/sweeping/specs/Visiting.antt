@@ -165,7 +165,8 @@ module _ (c : Child) (i n k : ℕ) (from : c .from ≡ suc n) where
       Iff·trans (bit-of b (started-below c words o (omega arith))) (inl, ⊎-elim (λ h. h) (λ h. absurd (h .0)))
 
 -- the child piece c stands at e in the piece of x
-module _ (x : Nested Leaf) (e : State → State) (c : Child) (n : ℕ) (place : Stands-at x (below (c .tree)) e (c .stand) n)
+module _ (x : Nested Leaf) (e : State → State) (c : Child) (n : ℕ)
+    (place : Stands-at x (below (c .tree)) e (c .stand) n)
     (from : c .from ≡ suc n) where
   -- a state of a child piece is marked exactly when the child's run holds it
   pub child-holds : (words : List ℕ) (p : State) → Has (c .tree) p → Holds x words (e (left p))

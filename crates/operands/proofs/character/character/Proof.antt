@@ -63,7 +63,7 @@ returns-2 c =
     let s = entry (escape .before) in
     let label = l .before .before .label-of .ensures in
     let special = sym (tested .is-special .ensures) ∙ l .before .before .before .if3 .taken in
-    leaf-read (s .args .places) (s .args .labels .now) (l .leaf .last .1 .1 .1 .0) (l .leaf .result) _ (character _) tt
+    leaf-read (s .args .places) (s .args .notes .now) (l .leaf .last .1 .1 .1 .0) (l .leaf .result) _ (character _) tt
     (λ depth. leads-escaped _ (s .args .expr .now) depth (s .args .at) (omega arith) (escape .if1 .taken) special)
     (omega arith) (omega arith) (omega arith) label (l .leaf .ensures)
 
@@ -106,7 +106,7 @@ returns-5 c =
     let s = entry (tested .before .before) in
     let label = l .before .before .label-of2 .ensures in
     let itself = not-special _ (sym (tested .is-special2 .ensures) ∙ l .before .before .before .if4 .left) in
-    leaf-read (s .args .places) (s .args .labels .now) (l .leaf2 .last .1 .1 .1 .0) (l .leaf2 .result) _
+    leaf-read (s .args .places) (s .args .notes .now) (l .leaf2 .last .1 .1 .1 .0) (l .leaf2 .result) _
     (character _) tt
     (λ depth. leads-plain _ (s .args .expr .now) depth (s .args .at) (s .pre .0) itself) (omega arith) (omega arith)
     (omega arith) label (l .leaf2 .ensures)

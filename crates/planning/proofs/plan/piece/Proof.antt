@@ -16,6 +16,9 @@ walked c = c .before .before .before .before .before .before
 abbrev entry : tie.After-fill → tie.Start
 entry c = c .before .before .before .before .before .before .before .before .before .before .before .before
 
+abbrev called : tie.After-fill-arg3 → tie.Start
+called c = c .before .before .before .before .before .before .before .before .before .before .before
+
 -- the tables that the walk leaves are as long as they were
 same : (c : tie.After-fill) → let start = entry c .args in
     Same-lengths (tables (start .codes .now) (start .stands .now) (start .roots .now))
@@ -48,9 +51,7 @@ cast-node c =
     )
 
 fill-requires : tie.Need-fill-requires
-fill-requires c κs = let start =
-    c .before .before .before .before .before .before .before .before .before .before .before in
-    piece-ready (start .pre .0) (start .pre .1)
+fill-requires c κs = let start = called c in piece-ready (start .pre .0) (start .pre .1)
 
 add-below : tie.Need-add-below
 add-below c = let small = storable (walked c) in omega arith

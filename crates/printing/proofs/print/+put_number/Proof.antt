@@ -3,7 +3,7 @@
 -- The measure is the number.
 use native.Mathlib.Omega.{arith}
 use borrow.Author.Needs.{needs}
-use Rattle.printing.specs.Printing.{prints-small, prints-large, small-room, large-room}
+use Rattle.printing.specs.PrintingLaws.{prints-small, prints-large, small-room, large-room}
 use Prim.Native.Nat.{ℕ, _<_}
 use borrow.Fn.Kinds.{In}
 use borrow.Fn.PlainCycle.{Measures, is, falls, and}

@@ -7,7 +7,7 @@ use native.Mathlib.Numerals.{add-one}
 use borrow.Author.Needs.{needs}
 use lib.ListN.{length, length-set}
 use lib.Seq.{paste, paste-zero, paste-suc}
-use Rattle.printing.specs.Printing.{prints-copied}
+use Rattle.printing.specs.PrintingLaws.{prints-copied}
 use Rattle.printing.proofs.print.put.Statement.{statement}
 use Rattle.printing.proofs.print.put.Tie as tie
 

@@ -1,6 +1,6 @@
 -- `printing::print::put_digit` meets its contract: it stores one byte.
 use borrow.Author.Needs.{needs}
-use Rattle.printing.specs.Printing.{prints-byte}
+use Rattle.printing.specs.PrintingLaws.{prints-byte}
 use Rattle.printing.proofs.print.put_digit.Statement.{statement}
 use Rattle.printing.proofs.print.put_digit.Tie as tie
 

@@ -4,7 +4,7 @@ use borrow.Author.Needs.{needs}
 use lib.ListN.{length, length-append}
 use Prim.Native.Nat.{_+_, _≤_}
 use Rattle.printing.specs.Digits.{digits}
-use Rattle.printing.specs.Printing.{prints-join}
+use Rattle.printing.specs.PrintingLaws.{prints-join}
 use Rattle.printing.proofs.report.refusal_line.Statement.{statement}
 use Rattle.printing.proofs.report.refusal_line.Tie as tie
 

@@ -14,10 +14,10 @@ use Rattle.repeats.proofs.copies.copy_run.Statement.{statement}
 use Rattle.repeats.proofs.copies.copy_run.Tie as tie
 
 abbrev Inv-loop : tie.InvT-loop
-Inv-loop labels₀ begin size count i₀ labels i = Copied-up-to labels₀ begin size count i labels
+Inv-loop notes₀ begin size count i₀ notes i = Copied-up-to notes₀ begin size count i notes
 
 abbrev μ-loop : tie.MeasureT-loop
-μ-loop labels₀ begin size count i₀ labels i = size - i
+μ-loop notes₀ begin size count i₀ notes i = size - i
 
 add-if1 : tie.Need-add-if1 Inv-loop μ-loop
 add-if1 c = omega arith
@@ -27,25 +27,25 @@ returns c =
     let s = c .before in copied-not (s .pre) (omega (arith, c .if1 .taken))
 
 loop-holds : tie.Need-loop-holds Inv-loop μ-loop
-loop-holds c = let s = c .before in copied-none (s .args .labels .now) (s .args .begin) (s .args .size) (s .args .count)
+loop-holds c = let s = c .before in copied-none (s .args .notes .now) (s .args .begin) (s .args .size) (s .args .count)
 
-add-labels : tie.Need-add-labels Inv-loop μ-loop
-add-labels c = omega arith
+add-notes : tie.Need-add-notes Inv-loop μ-loop
+add-notes c = omega arith
 
-mul-labels : tie.Need-mul-labels Inv-loop μ-loop
-mul-labels c = omega arith
+mul-notes : tie.Need-mul-notes Inv-loop μ-loop
+mul-notes c = omega arith
 
-slice-read-labels : tie.Need-slice-read-labels Inv-loop μ-loop
-slice-read-labels c = omega arith
+slice-read-notes : tie.Need-slice-read-notes Inv-loop μ-loop
+slice-read-notes c = omega arith
 
-add-labels-2 : tie.Need-add-labels-2 Inv-loop μ-loop
-add-labels-2 c = omega arith
+add-notes-2 : tie.Need-add-notes-2 Inv-loop μ-loop
+add-notes-2 c = omega arith
 
-mul-labels-2 : tie.Need-mul-labels-2 Inv-loop μ-loop
-mul-labels-2 c = omega arith
+mul-notes-2 : tie.Need-mul-notes-2 Inv-loop μ-loop
+mul-notes-2 c = omega arith
 
-slice-write-labels : tie.Need-slice-write-labels Inv-loop μ-loop
-slice-write-labels c = omega arith
+slice-write-notes : tie.Need-slice-write-notes Inv-loop μ-loop
+slice-write-notes c = omega arith
 
 add-i : tie.Need-add-i Inv-loop μ-loop
 add-i c = omega arith
@@ -82,12 +82,12 @@ copy-run-spec =
     add-if1
     returns
     loop-holds
-    add-labels
-    mul-labels
-    slice-read-labels
-    add-labels-2
-    mul-labels-2
-    slice-write-labels
+    add-notes
+    mul-notes
+    slice-read-notes
+    add-notes-2
+    mul-notes-2
+    slice-write-notes
     add-i
     loop-less
     loop-again

@@ -17,12 +17,12 @@ use Rattle.repeats.proofs.copies.follow.Statement.{statement}
 use Rattle.repeats.proofs.copies.follow.Tie as tie
 
 abbrev Inv-loop : tie.InvT-loop
-Inv-loop labels₀ begin size count n with-question place places total₀ i₀ labels total i =
-    Copies labels₀ begin size count (λ run. copied i (run ++ copy-end places place with-question)) total labels
-    × Counted-on count total × (length labels ≡ length labels₀) × (i ≤ n)
+Inv-loop notes₀ begin size count n with-question place places total₀ i₀ notes total i =
+    Copies notes₀ begin size count (λ run. copied i (run ++ copy-end places place with-question)) total notes
+    × Counted-on count total × (length notes ≡ length notes₀) × (i ≤ n)
 
 abbrev μ-loop : tie.MeasureT-loop
-μ-loop labels₀ begin size count n with-question place places total₀ i₀ labels total i = n - i
+μ-loop notes₀ begin size count n with-question place places total₀ i₀ notes total i = n - i
 
 loop-holds : tie.Need-loop-holds Inv-loop μ-loop
 loop-holds c =

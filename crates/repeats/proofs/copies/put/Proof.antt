@@ -9,13 +9,13 @@ use Rattle.repeats.proofs.copies.put.Tie as tie
 returns : tie.Need-returns
 returns c =
     let s = c .before in
-    put-left (s .args .labels .now) (s .args .labels .now) (s .args .count) _ _ refl (omega (arith, c .if1 .taken))
+    put-left (s .args .notes .now) (s .args .notes .now) (s .args .count) _ _ refl (omega (arith, c .if1 .taken))
 
-mul-labels : tie.Need-mul-labels
-mul-labels c = search needs
+mul-notes : tie.Need-mul-notes
+mul-notes c = search needs
 
-slice-write-labels : tie.Need-slice-write-labels
-slice-write-labels c = search needs
+slice-write-notes : tie.Need-slice-write-notes
+slice-write-notes c = search needs
 
 add-result : tie.Need-add-result
 add-result c = search needs
@@ -26,8 +26,8 @@ same-length c = search needs
 returns-2 : tie.Need-returns-2
 returns-2 c =
     let s = c .before in
-    put-written (s .args .labels .now) (s .args .count) (s .args .number) (s .pre .long) (omega (arith, c .if1 .left))
+    put-written (s .args .notes .now) (s .args .count) (s .args .number) (s .pre .long) (omega (arith, c .if1 .left))
 
 pub put-spec : {M : Type 1} → statement M
 put-spec =
-    tie.close (tie.spec returns mul-labels slice-write-labels add-result same-length returns-2)
+    tie.close (tie.spec returns mul-notes slice-write-notes add-result same-length returns-2)

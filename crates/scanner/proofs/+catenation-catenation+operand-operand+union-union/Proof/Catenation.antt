@@ -20,12 +20,12 @@ use Rattle.scanner.proofs.+catenation-catenation+operand-operand+union-
 }
 
 abbrev pub Inv-loop : lts.InvT-loop
-Inv-loop expr at depth labels₀ count second places next count' place₀ n₀ labels place n =
-    Carries (syntax-of second) places joined expr depth count place₀ n₀ labels₀ place n labels
-    × Stops (syntax-of second) starred expr place × (length labels ≡ length labels₀)
+Inv-loop expr at depth notes₀ count second places next count' place₀ n₀ notes place n =
+    Carries (syntax-of second) places joined expr depth count place₀ n₀ notes₀ place n notes
+    × Stops (syntax-of second) starred expr place × (length notes ≡ length notes₀)
 
 abbrev pub μ-loop : lts.MeasureT-loop
-μ-loop expr at depth labels₀ count second places next count' place₀ n₀ labels place n = length expr - place
+μ-loop expr at depth notes₀ count second places next count' place₀ n₀ notes place n = length expr - place
 
 -- the places that the needs go back to: the entry, after the first part, at the loop's head, at the next operand,
 -- after it
@@ -58,7 +58,7 @@ first-read : (t : ℕ) (c : After-first t)
     → let s = start-of t c in
     Whole (syntax-of (s .args .second)) (s .args .places) starred (s .args .expr .now) (s .args .depth) (s .args .at)
     (s .args .count)
-    (s .args .labels .now) (c .before .first .given .0 .0) (c .before .first .given .0 .1 .0)
+    (s .args .notes .now) (c .before .first .given .0 .0) (c .before .first .given .0 .1 .0)
     (c .before .before .before .before .before .operand .last .1 .1 .1 .0)
 first-read t c = rw (c .before .first .given .1) at (c .before .before .before .before .before .operand .ensures)
 
@@ -67,7 +67,7 @@ here : (t : ℕ) (c : At-head t)
     → let s = start-of t (c .before) in
     Read-up-to (syntax-of (s .args .second)) (s .args .places) joined (s .args .expr .now) (s .args .depth)
     (s .args .at) (s .args .count)
-    (s .args .labels .now) (c .loop .place) (c .loop .n) (c .loop .labels)
+    (s .args .notes .now) (c .loop .place) (c .loop .n) (c .loop .notes)
 here t c = c .loop .inv .0 .on _ _ (went-joined (first-read t (c .before) .went))
 
 -- the next part was read
@@ -75,7 +75,7 @@ part-read : (t : ℕ) (c : After-next t)
     → let s = start-of t (head-of t c .before) in
     let l = head-of t c .loop in
     Whole (syntax-of (s .args .second)) (s .args .places) starred (s .args .expr .now) (s .args .depth) (l .place)
-    (l .n) (l .labels)
+    (l .n) (l .notes)
     (c .before .part .given .0 .0) (c .before .part .given .0 .1 .0)
     (c .before .before .before .before .before .operand2 .last .1 .1 .1 .0)
 part-read t c = rw (c .before .part .given .1) at (c .before .before .before .before .before .operand2 .ensures)

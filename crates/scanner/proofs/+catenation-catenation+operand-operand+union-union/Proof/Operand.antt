@@ -48,7 +48,7 @@ inner-read : (t : ℕ) (c : After-inner t)
     → let s = start-of t (group-of t c) in
     Whole (syntax-of (s .args .second)) (s .args .places) united (s .args .expr .now) (s .args .depth + 1)
     (s .args .at + 1)
-    (s .args .count) (s .args .labels .now) (c .before .inner .given .0 .0) (c .before .inner .given .0 .1 .0)
+    (s .args .count) (s .args .notes .now) (c .before .inner .given .0 .0) (c .before .inner .given .0 .1 .0)
     (c .before .before .before .before .before .union .last .1 .1 .1 .0)
 inner-read t c = rw (c .before .inner .given .1) at (c .before .before .before .before .before .union .ensures)
 
@@ -57,7 +57,7 @@ group-read : (t : ℕ) (c : lts.Else4 (operand-claims t) (operand-at t) operand.
     → let s = start-of t (group-of t (c .before)) in
     Read-up-to (syntax-of (s .args .second)) (s .args .places) starred (s .args .expr .now) (s .args .depth)
     (s .args .at)
-    (s .args .count) (s .args .labels .now) (c .before .before .inner .given .0 .0 + 1)
+    (s .args .count) (s .args .notes .now) (c .before .before .inner .given .0 .0 + 1)
     (c .before .before .inner .given .0 .1 .0)
     (c .before .before .before .before .before .before .union .last .1 .1 .1 .0)
 group-read t c =
@@ -69,7 +69,7 @@ single-read : (t : ℕ) (c : After-single t)
     → let s = single-start t c in
     Read-up-to (syntax-of (s .args .second)) (s .args .places) starred (s .args .expr .now) (s .args .depth)
     (s .args .at)
-    (s .args .count) (s .args .labels .now) (c .before .part .given .0 .0) (c .before .part .given .0 .1 .0)
+    (s .args .count) (s .args .notes .now) (c .before .part .given .0 .0) (c .before .part .given .0 .1 .0)
     (c .before .before .before .before .before .single .last .1 .1 .0)
 single-read t c =
     let r = rw (c .before .part .given .1) at (c .before .before .before .before .before .single .ensures) in

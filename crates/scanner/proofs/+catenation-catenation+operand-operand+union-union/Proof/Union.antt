@@ -16,12 +16,12 @@ use Rattle.scanner.proofs.+catenation-catenation+operand-operand+union-
 use Rattle.scanner.proofs.+catenation-catenation+operand-operand+union-union.Proof.Base.{union-at, union-claims}
 
 abbrev pub Inv-loop : lts.InvT-loop
-Inv-loop expr at depth labels₀ count second places next count' place₀ n₀ labels place n =
-    Carries (syntax-of second) places united expr depth count place₀ n₀ labels₀ place n labels
-    × Stops (syntax-of second) joined expr place × (length labels ≡ length labels₀)
+Inv-loop expr at depth notes₀ count second places next count' place₀ n₀ notes place n =
+    Carries (syntax-of second) places united expr depth count place₀ n₀ notes₀ place n notes
+    × Stops (syntax-of second) joined expr place × (length notes ≡ length notes₀)
 
 abbrev pub μ-loop : lts.MeasureT-loop
-μ-loop expr at depth labels₀ count second places next count' place₀ n₀ labels place n = length expr - place
+μ-loop expr at depth notes₀ count second places next count' place₀ n₀ notes place n = length expr - place
 
 -- the places that the needs go back to: the entry, after the first part, at the loop's head, at a `|`, after
 -- the next part
@@ -54,7 +54,7 @@ first-read : (t : ℕ) (c : After-first t)
     → let s = start-of t c in
     Whole (syntax-of (s .args .second)) (s .args .places) joined (s .args .expr .now) (s .args .depth) (s .args .at)
     (s .args .count)
-    (s .args .labels .now) (c .before .first .given .0 .0) (c .before .first .given .0 .1 .0)
+    (s .args .notes .now) (c .before .first .given .0 .0) (c .before .first .given .0 .1 .0)
     (c .before .before .before .before .before .catenation .last .1 .1 .1 .0)
 first-read t c = rw (c .before .first .given .1) at (c .before .before .before .before .before .catenation .ensures)
 
@@ -63,7 +63,7 @@ here : (t : ℕ) (c : At-head t)
     → let s = start-of t (c .before) in
     Read-up-to (syntax-of (s .args .second)) (s .args .places) united (s .args .expr .now) (s .args .depth)
     (s .args .at) (s .args .count)
-    (s .args .labels .now) (c .loop .place) (c .loop .n) (c .loop .labels)
+    (s .args .notes .now) (c .loop .place) (c .loop .n) (c .loop .notes)
 here t c = c .loop .inv .0 .on _ _ (went-united (first-read t (c .before) .went))
 
 -- the next part was read
@@ -71,7 +71,7 @@ part-read : (t : ℕ) (c : After-next t)
     → let s = start-of t (head-of t c .before) in
     let l = head-of t c .loop in
     Whole (syntax-of (s .args .second)) (s .args .places) joined (s .args .expr .now) (s .args .depth) (l .place + 1)
-    (l .n) (l .labels)
+    (l .n) (l .notes)
     (c .before .part .given .0 .0) (c .before .part .given .0 .1 .0)
     (c .before .before .before .before .before .catenation2 .last .1 .1 .1 .0)
 part-read t c = rw (c .before .part .given .1) at (c .before .before .before .before .before .catenation2 .ensures)

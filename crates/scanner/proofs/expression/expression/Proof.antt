@@ -23,7 +23,7 @@ start-of c = call-of c .before .before .before .before
 -- the union was read
 whole-read : (c : tie.After-known-told)
     → let s = start-of c in Whole (syntax-of (s .args .second)) (s .args .places) united (s .args .expr .now) 0 0 0
-    (s .args .labels .now)
+    (s .args .notes .now)
     (c .before .whole .given .0 .0) (c .before .whole .given .0 .1 .0)
     (c .before .before .before .before .before .union .last .1 .1 .1 .0)
 whole-read c = rw (c .before .whole .given .1) at (c .before .before .before .before .before .union .ensures)

@@ -15,12 +15,12 @@ use Rattle.signs.proofs.signs.signs.Statement.{statement}
 use Rattle.signs.proofs.signs.signs.Tie as tie
 
 abbrev Inv-loop : tie.InvT-loop
-Inv-loop expr at labels₀ begin total second places place₀ n₀ labels place n =
-    (place ≤ length expr) × (begin ≤ n) × (n ≤ slot-count) × (length labels ≡ length labels₀)
-    × ((depth : ℕ) → Carries (syntax-of second) places starred expr depth begin place₀ n₀ labels₀ place n labels)
+Inv-loop expr at notes₀ begin total second places place₀ n₀ notes place n =
+    (place ≤ length expr) × (begin ≤ n) × (n ≤ slot-count) × (length notes ≡ length notes₀)
+    × ((depth : ℕ) → Carries (syntax-of second) places starred expr depth begin place₀ n₀ notes₀ place n notes)
 
 abbrev μ-loop : tie.MeasureT-loop
-μ-loop expr at labels₀ begin total second places place₀ n₀ labels place n = length expr - place
+μ-loop expr at notes₀ begin total second places place₀ n₀ notes place n = length expr - place
 
 -- the places that the needs go back to: the entry, the loop's head, and after the sign was read
 abbrev Start : Type 0
@@ -50,7 +50,7 @@ one-read : (c : Sign-read)
     let l = head-of a .loop in
     let s = start-of (head-of a) in
     One-sign (syntax-of (s .args .second)) (s .args .places) (s .args .expr .now) (s .args .begin) (l .place) (l .n)
-    (l .labels)
+    (l .notes)
     (c .before .part .given .0 .0) (c .before .part .given .0 .1 .0)
     (c .before .before .before .before .before .sign .last .1 .1 .0)
 one-read c = rw (c .before .part .given .1) at (c .before .before .before .before .before .sign .ensures)

@@ -57,7 +57,7 @@ returns-2 c =
     let s = entry (found .before .before .before) in
     let r = class-read found in
     let label = l .before .before .class-label .ensures in
-    leaf-read (s .args .places) (s .args .labels .now) (l .leaf .last .1 .1 .1 .0) (l .leaf .result) _
+    leaf-read (s .args .places) (s .args .notes .now) (l .leaf .last .1 .1 .1 .0) (l .leaf .result) _
     (Leaf.class (s .args .begin)) (bracket-here (s .pre .0) (s .pre .1 .0)
     (r .finds))
     (λ depth. class-leads depth (s .pre .0) (s .pre .1 .0) r) (r .further) (r .within) (omega arith)

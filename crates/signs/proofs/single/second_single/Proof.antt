@@ -30,7 +30,7 @@ returns c =
     let dot = c .before .before .before .before .before .if1 .taken in
     let l = c .before .before in
     let label = c .before .before .before .before .class-label .ensures in
-    leaf-read (s .args .places) (s .args .labels .now) (l .leaf .last .1 .1 .1 .0) (l .leaf .result) _
+    leaf-read (s .args .places) (s .args .notes .now) (l .leaf .last .1 .1 .1 .0) (l .leaf .result) _
     (Leaf.class (s .args .at)) (dot-here (s .pre .0) dot)
     (λ depth. dot-leads (s .args .expr .now) depth (s .args .at) (s .pre .0) dot) (omega arith) (omega arith)
     (omega arith)
