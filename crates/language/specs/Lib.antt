@@ -35,3 +35,5 @@ pub mod Unmoved
 pub mod Sweeps
 pub mod Models
 pub mod Along
+pub mod TakenAsOne
+pub mod TakenAsOneLaws

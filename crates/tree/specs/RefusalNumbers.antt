@@ -68,3 +68,7 @@ count-faulty = 16
 -- the tree has more nodes than a tree may have
 abbrev pub too-many-nodes : ℕ
 too-many-nodes = 17
+
+-- a table of steps has fewer entries than those that say where its columns begin
+abbrev pub table-too-short : ℕ
+table-too-short = 28

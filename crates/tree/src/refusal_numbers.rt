@@ -34,3 +34,5 @@ pub const CLASS_BUFFER_TOO_SHORT: u8 = 15;
 pub const COUNT_FAULTY: u8 = 16;
 // The tree has more nodes than a tree may have.
 pub const TOO_MANY_NODES: u8 = 17;
+// A table of steps has fewer entries than those that say where its columns begin.
+pub const TABLE_TOO_SHORT: u8 = 28;
