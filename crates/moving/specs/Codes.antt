@@ -84,12 +84,13 @@ module _ {classes : List ℕ} {b : ℕ} where
   }
 
   -- by its code a leaf takes the bytes that it takes
-  leaf-taken : (a : Leaf) → Takes-byte classes a b → Code-takes classes (start-code a) b
+  pub leaf-taken : (a : Leaf) → Takes-byte classes a b → Code-takes classes (start-code a) b
   leaf-taken (character c) e = of-character (ap (λ (n : ℕ). 2 * (n + 1)) e)
   leaf-taken (class k) bit = of-class (omega arith) (subst (λ (n : ℕ). In-class classes n b) (omega arith) bit)
   leaf-taken empty-text takes' = absurd takes'
 
-  leaf-takes : (a : Leaf) → Code-takes classes (start-code a) b → Takes-byte classes a b
+  -- and no others
+  pub leaf-takes : (a : Leaf) → Code-takes classes (start-code a) b → Takes-byte classes a b
   leaf-takes (character c) takes' = let e = even-takes takes' (omega arith) in omega arith
   leaf-takes (class k) takes' =
       subst (λ (n : ℕ). In-class classes n b) (omega arith) (odd-takes takes' (omega arith))

@@ -1,3 +1,3 @@
 // Moving the marks of all pieces along a byte, each piece closed in itself.
-mod classes;
+pub mod classes;
 pub mod moves;

@@ -73,7 +73,7 @@ abbrev pub some-pieces : ℕ
 some-pieces = 64
 
 -- a test that tells a fact passes exactly when the fact holds
-told-exactly : {P : Type 0} (answer : Bool) → Tells P answer → (answer ≡ true) ↔ P
+pub told-exactly : {P : Type 0} (answer : Bool) → Tells P answer → (answer ≡ true) ↔ P
 told-exactly true told = (told .holds, λ p. refl)
 told-exactly false told = (told .holds, λ p. absurd (told .fails refl p))
 

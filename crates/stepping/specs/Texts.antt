@@ -28,7 +28,7 @@ all-words t = stated t .all-pieces
 
 module _ {classes : List ℕ} {t : Tree Leaf} {w words : List ℕ} (holding : Holding classes t w words) where
   -- where the words of the pieces are 0, no state is marked after the text
-  none-marked : All-zero (piece-count t) words → (p : State)
+  pub none-marked : All-zero (piece-count t) words → (p : State)
       → After (meaning classes) t w (Started (meaning classes) t) p → ⊥
   none-marked zeros p reached =
       let (q, has, stands) = origin-onto (cut-up t) p
