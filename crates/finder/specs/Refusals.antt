@@ -150,7 +150,7 @@ module _ (list classes text : List ℕ) where
     longer-refused e = too-long-exactly reason .1 (record { t = t; good = good; classed = classed; long = omega arith })
 
   -- a refusal has a number
-  numbered : {number : ℕ} → Refuses list classes text number → number ≡ 0 → ⊥
+  pub numbered : {number : ℕ} → Refuses list classes text number → number ≡ 0 → ⊥
   numbered (not-good why) e = omega arith
   numbered (too-few-classes a) e = omega arith
   numbered (too-long a) e = omega arith

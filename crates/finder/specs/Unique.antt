@@ -76,7 +76,7 @@ searched-back Search-too-few-classes = refl
 searched-back Search-too-long = refl
 
 -- two tests of one thing give the same
-same-test : (a b : Bool) → (a ≡ true) ↔ (b ≡ true) → a ≡ b
+pub same-test : (a b : Bool) → (a ≡ true) ↔ (b ≡ true) → a ≡ b
 same-test true b h = sym (h .0 refl)
 same-test false true h = h .1 refl
 same-test false false h = refl

@@ -16,7 +16,8 @@ use Rattle.input.specs.Ends.{Ends, after}
 use Rattle.input.specs.EndLaws.{after-inside, line-at, lines-none, lent-part}
 use Rattle.printing.specs.Print.{text-line, total-line, yes-after, text-lines}
 use Rattle.printing.specs.Room.{text-line-length, total-line-length, yes-after-most}
-use Rattle.printing.specs.Printing.{Prints, prints-none, prints-join}
+use Rattle.printing.specs.Printing.{Prints}
+use Rattle.printing.specs.PrintingLaws.{prints-none, prints-join}
 
 -- there is space for what is to come from a place of the input on, after so many texts and yes lines: 16 bytes for each
 -- text, 31 for the last line

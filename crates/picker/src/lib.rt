@@ -21,7 +21,7 @@ ghost use Rattle.printing.specs.Printing.{Prints};
 ghost use Rattle.picker.specs.Promise.{Picks};
 
 // The most bytes that an input may have.
-const LONGEST_INPUT: usize = 65536;
+pub const LONGEST_INPUT: usize = 65536;
 
 // The most bytes that the output can have.
 pub const MOST_OUTPUT: usize = 1048575;

@@ -41,14 +41,14 @@ prepare-requires c κs =
       },
     )
 
-slice-aggregate-texts : tie.Need-slice-aggregate-texts
-slice-aggregate-texts c = search needs
+slice-aggregate-tables-texts : tie.Need-slice-aggregate-tables-texts
+slice-aggregate-tables-texts c = search needs
 
-slice-aggregate-texts-2 : tie.Need-slice-aggregate-texts-2
-slice-aggregate-texts-2 c = search needs
+slice-aggregate-tables-texts-2 : tie.Need-slice-aggregate-tables-texts-2
+slice-aggregate-tables-texts-2 c = search needs
 
-texts-requires : tie.Need-texts-requires
-texts-requires c κs =
+tables-texts-requires : tie.Need-tables-texts-requires
+tables-texts-requires c κs =
     let tables-back = c .before .before .before .before .before .before in
     let made = tables-back .before .before .before .before .before in
     let list = entry made .pre .0 in (
@@ -67,7 +67,7 @@ returns c = λ t good.
     let printed = c .before .before in
     let tables-back = printed .before .before .before .before .before .before .before in
     let made = tables-back .before .before .before .before .before in
-    printed .texts .ensures t (made .prepare .ensures .1 t good)
+    printed .tables-texts .ensures t (made .prepare .ensures .1 t good)
 
 pub good-texts-spec : {M : Type 1} → statement M
 good-texts-spec =
@@ -79,8 +79,8 @@ good-texts-spec =
     slice-aggregate-prepare-4
     slice-aggregate-prepare-5
     prepare-requires
-    slice-aggregate-texts
-    slice-aggregate-texts-2
-    texts-requires
+    slice-aggregate-tables-texts
+    slice-aggregate-tables-texts-2
+    tables-texts-requires
     same-length
     returns)

@@ -2,7 +2,7 @@
 -- the whole output. The measure is what is left of the input.
 use Prim.Native.Nat.{ℕ, _-_}
 use mathlib.Core.Path.{_≡_, refl, sym, ap, _∙_}
-use mathlib.Core.Bool.{Bool}
+use mathlib.Core.Bool.{Bool, true}
 use mathlib.Core.Logic.{⊎-elim}
 use mathlib.Core.List.{[]}
 use native.Mathlib.Omega.{arith}
@@ -11,6 +11,7 @@ use lib.ListN.{length}
 use Rattle.language.specs.Tree.{Tree}
 use Rattle.tree.specs.Leaf.{Leaf}
 use Rattle.tables.specs.Tables.{Prepared}
+use Rattle.choosing.specs.Choice.{Accepts-language}
 use Rattle.finder.specs.Decide.{matches}
 use Rattle.input.specs.EndLaws.{after-start}
 use Rattle.printing.specs.Print.{yes-after}
@@ -29,17 +30,20 @@ use Rattle.picker.proofs.texts.texts.Statement.{statement}
 use Rattle.picker.proofs.texts.texts.Tie as tie
 
 abbrev Inv-loop : tie.InvT-loop
-Inv-loop reach codes runs stands tops pieces input start out₀ place₀ at₀ count₀ yes₀ no-classes out place at count yes' =
+Inv-loop tabled table reach codes runs stands tops pieces input start out₀ place₀ at₀ count₀ yes₀ none out place at
+    count yes' =
     Print-space input place at count yes' out × (length out ≡ length out₀)
     × ((t : Tree Leaf) → Prepared t reach codes runs stands tops pieces
+    → (tabled ≡ true → Accepts-language [] t table)
     → So-far (matches []) t input start out₀ place at count yes' out)
 
 abbrev μ-loop : tie.MeasureT-loop
-μ-loop reach codes runs stands tops pieces input start out₀ place₀ at₀ count₀ yes₀ no-classes out place at count yes' =
+μ-loop tabled table reach codes runs stands tops pieces input start out₀ place₀ at₀ count₀ yes₀ none out place at
+    count yes' =
     length input - place
 
 abbrev begun : tie.At-loop Inv-loop μ-loop → tie.Start Inv-loop μ-loop
-begun c = c .before .before .before .before .before
+begun c = c .before .before .before .before .before .before
 
 -- a turn, up to the call that prints the text's line, and the loop's head before it
 abbrev turn : tie.After-next-line Inv-loop μ-loop → tie.After-text-line-arg Inv-loop μ-loop
@@ -50,7 +54,7 @@ head c = c .before .before .before .before .before .before
 
 -- the yes lines after the turn
 counted : (c : tie.After-next-line Inv-loop μ-loop)
-    → c .before .if1 .yes ≡ yes-after (turn c .before .text-matches .result) (head (turn c) .loop .yes)
+    → c .before .if1 .yes ≡ yes-after (turn c .before .either-matches .result) (head (turn c) .loop .yes)
 counted c =
     let before = head (turn c) .loop .yes in
     ⊎-elim
@@ -60,25 +64,25 @@ counted c =
 
 loop-holds : tie.Need-loop-holds Inv-loop μ-loop
 loop-holds c =
-    (c .before .before .before .before .pre .1, refl, λ t prepared. so-far-none (matches []) t _ _ _)
+    (c .before .before .before .before .before .pre .1, refl, λ t prepared accepts. so-far-none (matches []) t _ _ _)
 
 line-end-requires : tie.Need-line-end-requires Inv-loop μ-loop
 line-end-requires c κs = search needs
 
-slice-aggregate-text-matches : tie.Need-slice-aggregate-text-matches Inv-loop μ-loop
-slice-aggregate-text-matches c = search needs
+slice-aggregate-either-matches : tie.Need-slice-aggregate-either-matches Inv-loop μ-loop
+slice-aggregate-either-matches c = search needs
 
-sub-text-matches : tie.Need-sub-text-matches Inv-loop μ-loop
-sub-text-matches c = search needs
+sub-either-matches : tie.Need-sub-either-matches Inv-loop μ-loop
+sub-either-matches c = search needs
 
-part-text-matches-start : tie.Need-part-text-matches-start Inv-loop μ-loop
-part-text-matches-start c = search needs
+part-either-matches-start : tie.Need-part-either-matches-start Inv-loop μ-loop
+part-either-matches-start c = search needs
 
-part-text-matches-end : tie.Need-part-text-matches-end Inv-loop μ-loop
-part-text-matches-end c = search needs
+part-either-matches-end : tie.Need-part-either-matches-end Inv-loop μ-loop
+part-either-matches-end c = search needs
 
-text-matches-requires : tie.Need-text-matches-requires Inv-loop μ-loop
-text-matches-requires c κs = search needs
+either-matches-requires : tie.Need-either-matches-requires Inv-loop μ-loop
+either-matches-requires c κs = search needs
 
 add-count : tie.Need-add-count Inv-loop μ-loop
 add-count c = search needs
@@ -88,7 +92,7 @@ add-text-line c = search needs
 
 text-line-requires : tie.Need-text-line-requires Inv-loop μ-loop
 text-line-requires c κs = space-line (head c .loop .inv .0) _ (c .before .before .before .before .line-end .ensures)
-    (search needs) (c .before .text-matches .result)
+    (search needs) (c .before .either-matches .result)
 
 add-yes : tie.Need-add-yes Inv-loop μ-loop
 add-yes c = search needs
@@ -107,11 +111,11 @@ loop-again c =
     let printed = c .before .before .before .before .text-line .ensures in
     let space = head (turn c) .loop .inv .0 in
     rw (c .next-line .ensures, counted c) (
-      space-next space _ line (omega arith) (turn c .before .text-matches .result) printed,
+      space-next space _ line (omega arith) (turn c .before .either-matches .result) printed,
       search needs,
-      λ t prepared.
-          so-far-next (matches []) t _ _ _ (head (turn c) .loop .inv .2 t prepared) _ line (omega arith) _
-          (lent-answer line _ t (turn c .before .text-matches .ensures t prepared)) printed,
+      λ t prepared accepts.
+          so-far-next (matches []) t _ _ _ (head (turn c) .loop .inv .2 t prepared accepts) _ line (omega arith) _
+          (lent-answer line _ t (turn c .before .either-matches .ensures t prepared accepts)) printed,
     )
 
 total-line-requires : tie.Need-total-line-requires Inv-loop μ-loop
@@ -121,9 +125,9 @@ same-length : tie.Need-same-length Inv-loop μ-loop
 same-length c = search needs
 
 returns : tie.Need-returns Inv-loop μ-loop
-returns c = λ t prepared.
-    so-far-done (matches []) t _ _ _ (c .before .before .before .before .before .loop .inv .2 t prepared) (omega arith)
-    (c .before .before .total-line .ensures)
+returns c = λ t prepared accepts.
+    so-far-done (matches []) t _ _ _ (c .before .before .before .before .before .loop .inv .2 t prepared accepts)
+    (omega arith) (c .before .before .total-line .ensures)
 
 pub texts-spec : {M : Type 1} → statement M
 texts-spec =
@@ -133,11 +137,11 @@ texts-spec =
     μ-loop
     loop-holds
     line-end-requires
-    slice-aggregate-text-matches
-    sub-text-matches
-    part-text-matches-start
-    part-text-matches-end
-    text-matches-requires
+    slice-aggregate-either-matches
+    sub-either-matches
+    part-either-matches-start
+    part-either-matches-end
+    either-matches-requires
     add-count
     add-text-line
     text-line-requires

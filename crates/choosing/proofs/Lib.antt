@@ -1,0 +1,2 @@
+-- What the making of a table tells, by its cases.
+mod Told
