@@ -33,6 +33,9 @@ fn end_size(input: &[u8], place: usize) -> usize
     0
 }
 
+// The larger of the two bytes that an end can begin with: nearly every byte of a text is above it.
+const LAST_OF_ENDS: u8 = 13;
+
 // The place of the next end from a place on, or the input's length where none stands there.
 pub fn line_end(input: &[u8], start: usize) -> usize
     requires { ⌜ start ≤ length (now input) ⌝ }
@@ -40,7 +43,7 @@ pub fn line_end(input: &[u8], start: usize) -> usize
 {
     let mut end = start;
     while end < input.len() {
-        if end_size(input, end) > 0 {
+        if input[end] <= LAST_OF_ENDS && end_size(input, end) > 0 {
             break;
         }
         end += 1;

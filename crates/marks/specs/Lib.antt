@@ -3,6 +3,8 @@
 pub mod Answer
 pub mod Promise
 pub mod Chain
+-- a step for each byte
+pub mod StepsEach
 pub mod Unique
 -- lists that differ only in places
 pub mod ButPlaces
@@ -10,3 +12,6 @@ pub mod ChainFollows
 pub mod States
 -- where nothing is left, nothing comes back
 pub mod NothingLeft
+-- steps along many bytes
+pub mod Along
+pub mod StepsEachLaws

@@ -51,7 +51,7 @@ no-marks-made {before = before} {after = after} on zeros =
     (omega (arith, all-words s, enough, hold .same-length)) (omega (arith, all-words s, enough)) all)
 
 -- a refusal has a number
-numbered : {A : Type 0} {number : ℕ} {why : Type 0} {before after : List ℕ} {n : Numbers}
+pub numbered : {A : Type 0} {number : ℕ} {why : Type 0} {before after : List ℕ} {n : Numbers}
     → Refused (suc number) why before after n → n .refusal ≡ 0 → A
 numbered a none = absurd (omega (arith, ap (λ (m : Numbers). m .refusal) (a .refuses)))
 

@@ -42,6 +42,14 @@ use Rattle.marks.specs.Promise.{
   step-not-marks,
   stepped,
 }
+use Rattle.marks.specs.StepsEach.{
+  Stays,
+  stay-not-good,
+  stay-too-few-classes,
+  stay-too-few,
+  stay-not-marks,
+  stayed,
+}
 use Rattle.marks.specs.declared.MarksAnswer.{MarksAnswer}
 use Rattle.marks.specs.declared.MarksAnswer.the-variants.{
   Marked,
@@ -292,6 +300,25 @@ steps-answers (step-not-marks a) =
     let (t, good, classed, enough, bad) = a .because in
     not-marks (record { because = (t, good, (classed, enough, bad)); refuses = a .refuses; unchanged = a .unchanged })
 steps-answers (stepped on) = makes (on .made) (on .from-marks)
+
+-- what is promised where there is no byte: the words lent are marks
+stays-answers : {list classes words : List ℕ} {n : Numbers} → Stays list classes words n
+    → Gives-back list classes words (λ t. Set-of (cut-up t) words) (λ t. Marks-of t words) words n
+stays-answers (stay-not-good a) = not-good a
+stays-answers (stay-too-few-classes a) = too-few-classes a
+stays-answers (stay-too-few a) =
+    let (t, good, classed, few) = a .because in
+    too-few (record { because = (t, good, (classed, few)); refuses = a .refuses; unchanged = a .unchanged })
+stays-answers (stay-not-marks a) =
+    let (t, good, classed, enough, bad) = a .because in
+    not-marks (record { because = (t, good, (classed, enough, bad)); refuses = a .refuses; unchanged = a .unchanged })
+stays-answers (stayed on) = makes (on .made) (on .from-marks)
+
+-- where there is no byte, two answers that fit are the same
+pub stays-unique : {list classes words : List ℕ} {n n' : Numbers} → Stays list classes words n
+    → Stays list classes words n' → n ≡ n'
+stays-unique {list} {classes} {words} a b =
+    answers-unique list classes words _ _ (stays-answers a) (stays-answers b) .0
 
 module _ {list classes before : List ℕ} where
   -- two results of start that fit its promise are the same, with every word

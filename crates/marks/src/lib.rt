@@ -1,6 +1,8 @@
 // Marks in words: start and step, by moves and sweeps over the pieces of a good list.
+mod along;
 pub mod numbers;
 
+use along::advance_along;
 use deciding::good::Decided;
 use deciding::good::decide_with;
 use stepping::agree::agreeing;
@@ -10,7 +12,6 @@ use stepping::inner::FEW_PIECES;
 use stepping::inner::SOME_CODES;
 use stepping::inner::SOME_MASKS;
 use stepping::inner::SOME_PIECES;
-use stepping::inner::advance;
 use stepping::inner::begin;
 use stepping::inner::prepare;
 use tables::MASK_TABLE_SIZE;
@@ -35,8 +36,9 @@ ghost use Rattle.tables.specs.Tables.{Roomy};
 ghost use Rattle.marks.specs.Answer.{numbers};
 ghost use Rattle.stepping.specs.Inner.{few-pieces, some-pieces};
 ghost use Rattle.marks.specs.Promise.{Classed, Starts, Steps};
+ghost use Rattle.marks.specs.StepsEach.{Steps-each};
 
-// What a start or a step answers.
+// What a start or steps answer.
 pub enum MarksAnswer {
     // The marks are made; whether the root's accepting state is now marked, and whether nothing is left: no state is
     // marked.
@@ -51,7 +53,7 @@ pub enum MarksAnswer {
     NotMarks,
 }
 
-// Starts, or steps along the byte, on a list that is known to be good: its tables are made in those that are lent.
+// Starts, or steps along each byte, on a list that is known to be good: its tables are made in those that are lent.
 fn mark_in(
     list: &[u8],
     classes: &[u8],
@@ -64,7 +66,7 @@ fn mark_in(
     tops: &mut [u8; MOST_PIECES],
     words: &mut [u64],
     stepping: bool,
-    byte: u8,
+    bytes: &[u8],
 ) -> MarksAnswer
     requires { ⌜ Decided-good (now list) (now cuts) count ⌝ }
     requires { ⌜ ((t : Tree Leaf) → Good (now list) t → Classed (now classes) t) ⌝ }
@@ -72,8 +74,8 @@ fn mark_in(
     ensures { λ r. ⌜ (stepping ≡ false
         → Starts (now (list .entry)) (now (classes .entry)) (now (words .entry)) (now (words .exit)) (numbers r)) ⌝ }
     ensures { λ r. ⌜ (stepping ≡ true
-        → Steps (now (list .entry)) (now (classes .entry)) byte (now (words .entry)) (now (words .exit))
-        (numbers r)) ⌝ }
+        → Steps-each (now (list .entry)) (now (classes .entry)) (now (words .entry)) (now (bytes .entry))
+        (now (words .exit)) (numbers r)) ⌝ }
 {
     prepare(list, cuts, count, reach, codes, runs, stands, tops);
     if words.len() < count {
@@ -83,7 +85,7 @@ fn mark_in(
         if !agreeing(runs, stands, tops, words, count) {
             return MarksAnswer::NotMarks;
         }
-        let told = advance(
+        let told = advance_along(
             reach,
             codes,
             runs,
@@ -92,7 +94,7 @@ fn mark_in(
             count,
             classes,
             words,
-            byte,
+            bytes,
         );
         return MarksAnswer::Marked {
             accepting: told.accepting,
@@ -114,7 +116,7 @@ fn mark_few(
     count: usize,
     words: &mut [u64],
     stepping: bool,
-    byte: u8,
+    bytes: &[u8],
 ) -> MarksAnswer
     requires { ⌜ Decided-good (now list) (now cuts) count ⌝ }
     requires { ⌜ ((t : Tree Leaf) → Good (now list) t → Classed (now classes) t) ⌝ }
@@ -122,8 +124,8 @@ fn mark_few(
     ensures { λ r. ⌜ (stepping ≡ false
         → Starts (now (list .entry)) (now (classes .entry)) (now (words .entry)) (now (words .exit)) (numbers r)) ⌝ }
     ensures { λ r. ⌜ (stepping ≡ true
-        → Steps (now (list .entry)) (now (classes .entry)) byte (now (words .entry)) (now (words .exit))
-        (numbers r)) ⌝ }
+        → Steps-each (now (list .entry)) (now (classes .entry)) (now (words .entry)) (now (bytes .entry))
+        (now (words .exit)) (numbers r)) ⌝ }
 {
     let mut reach = [0u64; FEW_MASKS];
     let mut codes = [0u16; FEW_CODES];
@@ -142,7 +144,7 @@ fn mark_few(
         &mut tops,
         words,
         stepping,
-        byte,
+        bytes,
     )
 }
 
@@ -154,7 +156,7 @@ fn mark_some(
     count: usize,
     words: &mut [u64],
     stepping: bool,
-    byte: u8,
+    bytes: &[u8],
 ) -> MarksAnswer
     requires { ⌜ Decided-good (now list) (now cuts) count ⌝ }
     requires { ⌜ ((t : Tree Leaf) → Good (now list) t → Classed (now classes) t) ⌝ }
@@ -162,8 +164,8 @@ fn mark_some(
     ensures { λ r. ⌜ (stepping ≡ false
         → Starts (now (list .entry)) (now (classes .entry)) (now (words .entry)) (now (words .exit)) (numbers r)) ⌝ }
     ensures { λ r. ⌜ (stepping ≡ true
-        → Steps (now (list .entry)) (now (classes .entry)) byte (now (words .entry)) (now (words .exit))
-        (numbers r)) ⌝ }
+        → Steps-each (now (list .entry)) (now (classes .entry)) (now (words .entry)) (now (bytes .entry))
+        (now (words .exit)) (numbers r)) ⌝ }
 {
     let mut reach = [0u64; SOME_MASKS];
     let mut codes = [0u16; SOME_CODES];
@@ -182,7 +184,7 @@ fn mark_some(
         &mut tops,
         words,
         stepping,
-        byte,
+        bytes,
     )
 }
 
@@ -194,15 +196,15 @@ fn mark_many(
     count: usize,
     words: &mut [u64],
     stepping: bool,
-    byte: u8,
+    bytes: &[u8],
 ) -> MarksAnswer
     requires { ⌜ Decided-good (now list) (now cuts) count ⌝ }
     requires { ⌜ ((t : Tree Leaf) → Good (now list) t → Classed (now classes) t) ⌝ }
     ensures { λ r. ⌜ (stepping ≡ false
         → Starts (now (list .entry)) (now (classes .entry)) (now (words .entry)) (now (words .exit)) (numbers r)) ⌝ }
     ensures { λ r. ⌜ (stepping ≡ true
-        → Steps (now (list .entry)) (now (classes .entry)) byte (now (words .entry)) (now (words .exit))
-        (numbers r)) ⌝ }
+        → Steps-each (now (list .entry)) (now (classes .entry)) (now (words .entry)) (now (bytes .entry))
+        (now (words .exit)) (numbers r)) ⌝ }
 {
     let mut reach = [0u64; MASK_TABLE_SIZE];
     let mut codes = [0u16; TABLE_SIZE];
@@ -221,7 +223,7 @@ fn mark_many(
         &mut tops,
         words,
         stepping,
-        byte,
+        bytes,
     )
 }
 
@@ -235,7 +237,7 @@ fn mark_good(
     room: usize,
     words: &mut [u64],
     stepping: bool,
-    byte: u8,
+    bytes: &[u8],
 ) -> MarksAnswer
     requires { ⌜ Decided-good (now list) (now cuts) count ⌝ }
     requires { ⌜ ((t : Tree Leaf) → Good (now list) t → Classed (now classes) t) ⌝ }
@@ -243,22 +245,22 @@ fn mark_good(
     ensures { λ r. ⌜ (stepping ≡ false
         → Starts (now (list .entry)) (now (classes .entry)) (now (words .entry)) (now (words .exit)) (numbers r)) ⌝ }
     ensures { λ r. ⌜ (stepping ≡ true
-        → Steps (now (list .entry)) (now (classes .entry)) byte (now (words .entry)) (now (words .exit))
-        (numbers r)) ⌝ }
+        → Steps-each (now (list .entry)) (now (classes .entry)) (now (words .entry)) (now (bytes .entry))
+        (now (words .exit)) (numbers r)) ⌝ }
 {
     if room < count {
-        return mark_good(list, classes, cuts, count, 4 * room, words, stepping, byte);
+        return mark_good(list, classes, cuts, count, 4 * room, words, stepping, bytes);
     }
     if room <= FEW_PIECES {
-        return mark_few(list, classes, cuts, count, words, stepping, byte);
+        return mark_few(list, classes, cuts, count, words, stepping, bytes);
     }
     if room <= SOME_PIECES {
-        return mark_some(list, classes, cuts, count, words, stepping, byte);
+        return mark_some(list, classes, cuts, count, words, stepping, bytes);
     }
-    mark_many(list, classes, cuts, count, words, stepping, byte)
+    mark_many(list, classes, cuts, count, words, stepping, bytes)
 }
 
-// Starts, or steps along the byte, on any list, with slots lent for deciding on it: refuses one that is not good, and
+// Starts, or steps along each byte, on any list, with slots lent for deciding on it: refuses one that is not good, and
 // class leaves with no record.
 fn mark_by(
     list: &[u8],
@@ -266,14 +268,14 @@ fn mark_by(
     cuts: &mut [u16],
     words: &mut [u64],
     stepping: bool,
-    byte: u8,
+    bytes: &[u8],
 ) -> MarksAnswer
     requires { ⌜ Room-to-decide (now list) (now cuts) ⌝ }
     ensures { λ r. ⌜ (stepping ≡ false
         → Starts (now (list .entry)) (now (classes .entry)) (now (words .entry)) (now (words .exit)) (numbers r)) ⌝ }
     ensures { λ r. ⌜ (stepping ≡ true
-        → Steps (now (list .entry)) (now (classes .entry)) byte (now (words .entry)) (now (words .exit))
-        (numbers r)) ⌝ }
+        → Steps-each (now (list .entry)) (now (classes .entry)) (now (words .entry)) (now (bytes .entry))
+        (now (words .exit)) (numbers r)) ⌝ }
 {
     let decided = decide_with(list, cuts);
     let Decided::Good {
@@ -295,7 +297,7 @@ fn mark_by(
         FEW_PIECES,
         words,
         stepping,
-        byte,
+        bytes,
     )
 }
 
@@ -305,17 +307,17 @@ fn mark_short(
     classes: &[u8],
     words: &mut [u64],
     stepping: bool,
-    byte: u8,
+    bytes: &[u8],
 ) -> MarksAnswer
     requires { ⌜ length (now list) / record-size < few-slots ⌝ }
     ensures { λ r. ⌜ (stepping ≡ false
         → Starts (now (list .entry)) (now (classes .entry)) (now (words .entry)) (now (words .exit)) (numbers r)) ⌝ }
     ensures { λ r. ⌜ (stepping ≡ true
-        → Steps (now (list .entry)) (now (classes .entry)) byte (now (words .entry)) (now (words .exit))
-        (numbers r)) ⌝ }
+        → Steps-each (now (list .entry)) (now (classes .entry)) (now (words .entry)) (now (bytes .entry))
+        (now (words .exit)) (numbers r)) ⌝ }
 {
     let mut cuts = [0u16; FEW_SLOTS];
-    mark_by(list, classes, &mut cuts, words, stepping, byte)
+    mark_by(list, classes, &mut cuts, words, stepping, bytes)
 }
 
 // On a list of any length.
@@ -324,16 +326,16 @@ fn mark_long(
     classes: &[u8],
     words: &mut [u64],
     stepping: bool,
-    byte: u8,
+    bytes: &[u8],
 ) -> MarksAnswer
     ensures { λ r. ⌜ (stepping ≡ false
         → Starts (now (list .entry)) (now (classes .entry)) (now (words .entry)) (now (words .exit)) (numbers r)) ⌝ }
     ensures { λ r. ⌜ (stepping ≡ true
-        → Steps (now (list .entry)) (now (classes .entry)) byte (now (words .entry)) (now (words .exit))
-        (numbers r)) ⌝ }
+        → Steps-each (now (list .entry)) (now (classes .entry)) (now (words .entry)) (now (bytes .entry))
+        (now (words .exit)) (numbers r)) ⌝ }
 {
     let mut cuts = [0u16; SLOT_COUNT];
-    mark_by(list, classes, &mut cuts, words, stepping, byte)
+    mark_by(list, classes, &mut cuts, words, stepping, bytes)
 }
 
 // By the fewest slots that are enough; it calls itself with more, as above.
@@ -343,22 +345,22 @@ fn mark(
     slots: usize,
     words: &mut [u64],
     stepping: bool,
-    byte: u8,
+    bytes: &[u8],
 ) -> MarksAnswer
     requires { ⌜ 1 ≤ slots ⌝ }
     ensures { λ r. ⌜ (stepping ≡ false
         → Starts (now (list .entry)) (now (classes .entry)) (now (words .entry)) (now (words .exit)) (numbers r)) ⌝ }
     ensures { λ r. ⌜ (stepping ≡ true
-        → Steps (now (list .entry)) (now (classes .entry)) byte (now (words .entry)) (now (words .exit))
-        (numbers r)) ⌝ }
+        → Steps-each (now (list .entry)) (now (classes .entry)) (now (words .entry)) (now (bytes .entry))
+        (now (words .exit)) (numbers r)) ⌝ }
 {
     if slots <= list.len() / RECORD_SIZE {
-        return mark(list, classes, 4 * slots, words, stepping, byte);
+        return mark(list, classes, 4 * slots, words, stepping, bytes);
     }
     if slots <= FEW_SLOTS {
-        return mark_short(list, classes, words, stepping, byte);
+        return mark_short(list, classes, words, stepping, bytes);
     }
-    mark_long(list, classes, words, stepping, byte)
+    mark_long(list, classes, words, stepping, bytes)
 }
 
 // Marks the root's start in the lent words and closes.
@@ -366,7 +368,7 @@ pub fn start(list: &[u8], classes: &[u8], words: &mut [u64]) -> MarksAnswer
     ensures { λ r. ⌜ Starts (now (list .entry)) (now (classes .entry)) (now (words .entry)) (now (words .exit))
         (numbers r) ⌝ }
 {
-    mark(list, classes, FEW_SLOTS, words, false, 0)
+    mark(list, classes, FEW_SLOTS, words, false, b"")
 }
 
 // Moves the marks in the lent words along the byte and closes.
@@ -374,5 +376,13 @@ pub fn step(list: &[u8], classes: &[u8], words: &mut [u64], byte: u8) -> MarksAn
     ensures { λ r. ⌜ Steps (now (list .entry)) (now (classes .entry)) byte (now (words .entry)) (now (words .exit))
         (numbers r) ⌝ }
 {
-    mark(list, classes, FEW_SLOTS, words, true, byte)
+    mark(list, classes, FEW_SLOTS, words, true, &[byte])
+}
+
+// Moves the marks in the lent words along each byte, one after the other, and closes after each.
+pub fn steps(list: &[u8], classes: &[u8], words: &mut [u64], bytes: &[u8]) -> MarksAnswer
+    ensures { λ r. ⌜ Steps-each (now (list .entry)) (now (classes .entry)) (now (words .entry)) (now (bytes .entry))
+        (now (words .exit)) (numbers r) ⌝ }
+{
+    mark(list, classes, FEW_SLOTS, words, true, bytes)
 }

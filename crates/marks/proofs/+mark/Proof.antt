@@ -15,14 +15,14 @@ use Rattle.marks.proofs.mark_short.Reads as mark-short-reads
 use Rattle.marks.proofs.+mark.{statement}
 use Rattle.marks.proofs.+mark.Tie.{close}
 
-abbrev μ-mark : Measures 3 mark-kinds.ps ℕ
+abbrev μ-mark : Measures 4 mark-kinds.ps ℕ
 μ-mark κs a = length (a .0 .now) / record-size + 1 - a .1 .1 .0
 
-abbrev mark-at : ℕ → In 3 mark-kinds.ps
-mark-at t = and 3 mark-kinds.ps (is 3 mark-kinds.ps μ-mark t) mark.Pre
+abbrev mark-at : ℕ → In 4 mark-kinds.ps
+mark-at t = and 4 mark-kinds.ps (is 4 mark-kinds.ps μ-mark t) mark.Pre
 
-abbrev mark-below : ℕ → In 3 mark-kinds.ps
-mark-below t = and 3 mark-kinds.ps (falls 3 mark-kinds.ps _<_ μ-mark t) mark.Pre
+abbrev mark-below : ℕ → In 4 mark-kinds.ps
+mark-below t = and 4 mark-kinds.ps (falls 4 mark-kinds.ps _<_ μ-mark t) mark.Pre
 
 abbrev claims : ℕ → mark-lts.Claims
 claims t = (

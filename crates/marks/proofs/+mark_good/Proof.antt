@@ -14,14 +14,14 @@ use Rattle.marks.proofs.mark_many.Reads as mark-many-reads
 use Rattle.marks.proofs.+mark_good.{statement}
 use Rattle.marks.proofs.+mark_good.Tie.{close}
 
-abbrev μ-mark-good : Measures 4 mark-good-kinds.ps ℕ
+abbrev μ-mark-good : Measures 5 mark-good-kinds.ps ℕ
 μ-mark-good κs a = a .1 .1 .1 .0 - a .1 .1 .1 .1 .0
 
-abbrev mark-good-at : ℕ → In 4 mark-good-kinds.ps
-mark-good-at t = and 4 mark-good-kinds.ps (is 4 mark-good-kinds.ps μ-mark-good t) mark-good.Pre
+abbrev mark-good-at : ℕ → In 5 mark-good-kinds.ps
+mark-good-at t = and 5 mark-good-kinds.ps (is 5 mark-good-kinds.ps μ-mark-good t) mark-good.Pre
 
-abbrev mark-good-below : ℕ → In 4 mark-good-kinds.ps
-mark-good-below t = and 4 mark-good-kinds.ps (falls 4 mark-good-kinds.ps _<_ μ-mark-good t) mark-good.Pre
+abbrev mark-good-below : ℕ → In 5 mark-good-kinds.ps
+mark-good-below t = and 5 mark-good-kinds.ps (falls 5 mark-good-kinds.ps _<_ μ-mark-good t) mark-good.Pre
 
 abbrev claims : ℕ → mark-good-lts.Claims
 claims t = (
@@ -38,13 +38,13 @@ claims t = (
 -- there are at most 128 pieces
 more-room : (t : ℕ) → mark-good-lts.Need-mul-mark-good (claims t) (mark-good-at t) mark-good.Post
 more-room t c =
-    let known = c .before .before .before .before .before .pre .1 .0 in
+    let known = c .before .before .before .before .before .before .pre .1 .0 in
     omega (arith, known .pieces-are, known .good .few, c .if1 .taken)
 
 more-requires : (t : ℕ) → mark-good-lts.Need-mark-good-requires (claims t) (mark-good-at t) mark-good.Post
 more-requires t c κs =
     let taken = c .before in
-    let s = taken .before .before .before .before .before in
+    let s = taken .before .before .before .before .before .before in
     let some = s .pre .1 .1 .1 in (
       omega (arith, s .pre .0, some, taken .if1 .taken),
       (s .pre .1 .0, (s .pre .1 .1 .0, omega (arith, some))),
@@ -59,7 +59,7 @@ more-returns t c = c .before .before .mark-good .ensures
 few-requires : (t : ℕ) → mark-good-lts.Need-mark-few-requires (claims t) (mark-good-at t) mark-good.Post
 few-requires t c κs =
     let taken = c .before in
-    let s = taken .before .before .before .before .before .before in
+    let s = taken .before .before .before .before .before .before .before in
     (s .pre .1 .0, (s .pre .1 .1 .0, omega (arith, taken .if2 .taken, taken .before .if1 .left)))
 
 few-same-length : (t : ℕ) → mark-good-lts.Need-same-length-2 (claims t) (mark-good-at t) mark-good.Post
@@ -71,7 +71,7 @@ few-returns t c = c .before .before .mark-few .ensures
 some-requires : (t : ℕ) → mark-good-lts.Need-mark-some-requires (claims t) (mark-good-at t) mark-good.Post
 some-requires t c κs =
     let taken = c .before in
-    let s = taken .before .before .before .before .before .before .before in
+    let s = taken .before .before .before .before .before .before .before .before in
     (s .pre .1 .0, (s .pre .1 .1 .0, omega (arith, taken .if3 .taken, taken .before .before .if1 .left)))
 
 some-same-length : (t : ℕ) → mark-good-lts.Need-same-length-3 (claims t) (mark-good-at t) mark-good.Post
@@ -81,7 +81,7 @@ some-returns : (t : ℕ) → mark-good-lts.Need-returns-3 (claims t) (mark-good-
 some-returns t c = c .before .before .mark-some .ensures
 
 many-requires : (t : ℕ) → mark-good-lts.Need-mark-many-requires (claims t) (mark-good-at t) mark-good.Post
-many-requires t c κs = let s = c .before .before .before .before .before .before .before .before in
+many-requires t c κs = let s = c .before .before .before .before .before .before .before .before .before in
     (s .pre .1 .0, s .pre .1 .1 .0)
 
 many-same-length : (t : ℕ) → mark-good-lts.Need-same-length-4 (claims t) (mark-good-at t) mark-good.Post

@@ -2,12 +2,8 @@
 -- promise is that of `mark_good`.
 use mathlib.Core.Path.{refl}
 use native.Mathlib.Omega.{arith}
-use Rattle.marks.specs.Promise.{
-  start-not-good,
-  start-too-few-classes,
-  step-not-good,
-  step-too-few-classes,
-}
+use Rattle.marks.specs.Promise.{start-not-good, start-too-few-classes}
+use Rattle.marks.specs.Along.{each-not-good, each-too-few-classes}
 use Rattle.marks.proofs.Told.{told-good, told-classed, told-too-few-classes, told-not-good}
 use borrow.Author.Needs.{needs}
 use Rattle.marks.proofs.mark_by.Statement.{statement}
@@ -15,13 +11,13 @@ use Rattle.marks.proofs.mark_by.Tie as tie
 
 -- where the call began, and where the list was decided on
 abbrev entry : tie.After-decide-with → tie.Start
-entry c = c .before .before .before .before .before .before
+entry c = c .before .before .before .before .before .before .before
 
 abbrev decision : tie.After-slice-known3 → tie.After-decide-with
 decision c = c .before .before
 
 decide-with-requires : tie.Need-decide-with-requires
-decide-with-requires c κs = c .before .before .before .before .before .pre
+decide-with-requires c κs = c .before .before .before .before .before .before .pre
 
 enum-known-decided : tie.Need-enum-known-decided
 enum-known-decided c = search needs
@@ -36,7 +32,7 @@ returns : tie.Need-returns
 returns c =
     let why = told-not-good _ (c .before .match .keys2) (decision (c .before .before) .decide-with .ensures .0) in (
       λ starting. start-not-good (record { because = why; refuses = refl; unchanged = refl }),
-      λ stepping. step-not-good (record { because = why; refuses = refl; unchanged = refl }),
+      λ stepping. each-not-good (record { because = why; refuses = refl; unchanged = refl }) _,
     )
 
 same-length-2 : tie.Need-same-length-2
@@ -49,7 +45,7 @@ returns-2 c =
     let why = told-too-few-classes (entry decided .args .classes .now) (known .decided .given .1)
     (decided .decide-with .ensures .0) (omega (arith, c .if1 .taken)) in (
       λ starting. start-too-few-classes (record { because = why; refuses = refl; unchanged = refl }),
-      λ stepping. step-too-few-classes (record { because = why; refuses = refl; unchanged = refl }),
+      λ stepping. each-too-few-classes (record { because = why; refuses = refl; unchanged = refl }) _,
     )
 
 mark-good-requires : tie.Need-mark-good-requires

@@ -7,21 +7,15 @@ use native.Mathlib.Omega.{arith}
 use borrow.Author.Tests.{not-true, not-false}
 use borrow.Author.Needs.{needs}
 use Rattle.stepping.specs.Hold.{Marks-of}
-use Rattle.marks.specs.Promise.{
-  Too-few,
-  start-too-few,
-  started,
-  step-too-few,
-  step-not-marks,
-  stepped,
-}
+use Rattle.marks.specs.Promise.{Too-few, start-too-few, started}
+use Rattle.marks.specs.Along.{each-too-few, each-not-marks}
 use Rattle.stepping.specs.Inner.{prepared-checkable, prepared-told}
 use Rattle.marks.proofs.mark_in.Statement.{statement}
 use Rattle.marks.proofs.mark_in.Tie as tie
 use Rattle.marks.proofs.mark_in.Reads as reads
 use Rattle.marks.proofs.mark_in.Lts as lts
 use Rattle.stepping.proofs.agree.agreeing.Reads as agreeing-reads
-use Rattle.stepping.proofs.inner.advance.Reads as advance-reads
+use Rattle.marks.proofs.along.advance_along.Reads as advance-along-reads
 use Rattle.stepping.proofs.inner.begin.Reads as begin-reads
 use Rattle.stepping.proofs.inner.prepare.Reads as prepare-reads
 
@@ -30,13 +24,13 @@ abbrev tables-made : tie.After-slice-known5 → tie.After-prepare
 tables-made c = c .before .before .before .before
 
 abbrev entry : tie.After-prepare → tie.Start
-entry c = c .before .before .before .before .before .before .before .before .before .before .before .before
+entry c = c .before .before .before .before .before .before .before .before .before .before .before .before .before
 
 -- there are words enough: before the marks are looked at, before the step, and before the start
 abbrev enough-to-look : tie.After-agreeing-arg7 → tie.Else1
 enough-to-look c = c .before .before .before .before .before .before .before .before
 
-abbrev looked-at : tie.After-advance-arg6 → tie.Else3
+abbrev looked-at : tie.After-advance-along-arg6 → tie.Else3
 looked-at c = c .before .before .before .before .before .before
 
 abbrev enough-to-start : tie.After-begin-arg6 → tie.Else1
@@ -58,7 +52,7 @@ returns c =
     let few : Too-few (entry made .args .list .now) (entry made .args .classes .now) (entry made .args .words .now) =
     (known .some, known .good, classed, omega (arith, prepared .counted, c .if1 .taken)) in (
       λ starting. start-too-few (record { because = few; refuses = refl; unchanged = refl }),
-      λ stepping. step-too-few (record { because = few; refuses = refl; unchanged = refl }),
+      λ stepping. each-too-few (record { because = few; refuses = refl; unchanged = refl }) _,
     )
 
 agreeing-requires : tie.Need-agreeing-requires
@@ -77,7 +71,7 @@ returns-2 c =
     let prepared = made .prepare .ensures .1 (known .some) (known .good) in
     let told = prepared-told prepared (entry made .args .words .now) (c .before .agreeing .ensures) in (
       λ starting. not-both (c .before .before .before .before .before .before .before .before .before .if2 .taken) starting,
-      λ stepping. step-not-marks (record {
+      λ stepping. each-not-marks (record {
         because = (
           known .some,
           known .good,
@@ -87,21 +81,22 @@ returns-2 c =
         );
         refuses = refl;
         unchanged = refl;
-      }),
+      }) _,
     )
 
-advance-requires : tie.Need-advance-requires
-advance-requires c κs =
+advance-along-requires : tie.Need-advance-along-requires
+advance-along-requires c κs =
     let looked = looked-at c in
     let enough = enough-to-look (looked .before .before) in
     let made = tables-made (enough .before) in
     let known = entry made .pre .0 in
     let prepared = made .prepare .ensures .1 (known .some) (known .good) in
-    let both = prepared-told prepared (entry made .args .words .now) (looked .before .agreeing .ensures) in
+    let both = prepared-told prepared (entry made .args .words .now) (looked .before .agreeing .ensures)
+    .holds (not-false _ (looked .if3 .left)) in
     record {
       ready = record { roomy = made .prepare .ensures .0; of-tree = (known .some, prepared) };
       enough = omega (arith, enough .if1 .left);
-      clean = both .holds (not-false _ (looked .if3 .left)) .0;
+      marks = record { clean = both .0; agreeing = both .1 };
     }
 
 returns-3 : tie.Need-returns-3
@@ -112,24 +107,14 @@ returns-3 c =
     let made = tables-made (enough .before) in
     let known = entry made .pre .0 in
     let prepared = made .prepare .ensures .1 (known .some) (known .good) in
-    let told = prepared-told prepared (entry made .args .words .now) (looked .before .agreeing .ensures) in
-    let both = told .holds (not-false _ (looked .if3 .left)) in
-    let marks : Marks-of (known .some) (entry made .args .words .now) =
-    record { clean = both .0; agreeing = both .1 } in
-    let on = advanced .advance .ensures (known .some) prepared marks in (
+    let both = prepared-told prepared (entry made .args .words .now) (looked .before .agreeing .ensures)
+    .holds (not-false _ (looked .if3 .left)) in (
       λ starting. not-both (looked .before .before .before .before .before .before .before .before .before .if2 .taken) starting,
-      λ stepping. stepped (record {
-        made = record {
-          t = known .some;
-          good = known .good;
-          classed = entry made .pre .1 .0 (known .some) (known .good);
-          enough = omega (arith, prepared .counted, enough .if1 .left);
-          hold = on .hold;
-          marks = refl;
-          answer = on .answer;
-          left = on .left;
-        };
-        from-marks = marks;
+      λ stepping. advanced .advance-along .ensures (entry made .args .list .now) (known .some) prepared (record {
+        good = known .good;
+        classed = entry made .pre .1 .0 (known .some) (known .good);
+        enough = omega (arith, prepared .counted, enough .if1 .left);
+        marks = record { clean = both .0; agreeing = both .1 };
       }),
     )
 
@@ -212,7 +197,7 @@ mark-in-spec =
     same-length-4
     same-length-5
     returns-2
-    advance-requires
+    advance-along-requires
     same-length-6
     same-length-7
     same-length-8

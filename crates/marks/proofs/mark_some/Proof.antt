@@ -13,7 +13,7 @@ slice-aggregate-mark-in-2 c = search needs
 mark-in-requires : tie.Need-mark-in-requires
 mark-in-requires c κs =
     let made = c .before .before .before .before .before .before in
-    let s = made .before .before .before .before in
+    let s = made .before .before .before .before .before in
     let known = s .pre .0 in (
       known,
       (

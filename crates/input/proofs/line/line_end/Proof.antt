@@ -1,12 +1,16 @@
--- `input::line::line_end` meets its contract: no byte passed begins an end. The measure is what is left of the input.
+-- `input::line::line_end` meets its contract: no byte passed begins an end, those above 13 with no test of an end. The
+-- measure is what is left of the input.
 use Prim.Native.Nat.{ℕ, _+_, _≤_, _<_, _-_}
-use mathlib.Core.Path.{_≡_, subst}
+use mathlib.Core.Path.{_≡_, sym, subst}
+use mathlib.Core.Logic.{⊎-elim}
 use mathlib.Core.List.{List}
 use native.Mathlib.Decide.{decLt}
 use native.Mathlib.Omega.{arith}
 use borrow.Author.Needs.{needs}
+use borrow.Author.Tests.{ltb-true, ltb-false}
 use lib.ListN.{length, drop}
 use Rattle.input.specs.Ends.{end-size}
+use Rattle.input.specs.EndLaws.{size-other}
 use Rattle.input.proofs.line.line_end.Statement.{statement}
 use Rattle.input.proofs.line.line_end.Tie as tie
 
@@ -30,6 +34,9 @@ abbrev μ-loop : tie.MeasureT-loop
 loop-holds : tie.Need-loop-holds Inv-loop μ-loop
 loop-holds c = search needs
 
+shared-slice-read-if1 : tie.Need-shared-slice-read-if1 Inv-loop μ-loop
+shared-slice-read-if1 c = search needs
+
 end-size-requires : tie.Need-end-size-requires Inv-loop μ-loop
 end-size-requires c κs = search needs
 
@@ -40,12 +47,16 @@ loop-less : tie.Need-loop-less Inv-loop μ-loop
 loop-less c = search needs
 
 loop-again : tie.Need-loop-again Inv-loop μ-loop
-loop-again c = (
-  search needs,
-  search needs,
-  unbroken-next (c .before .before .before .before .before .args .input .now) _ _
-      (c .before .before .before .loop .inv .2) (omega (arith, c .before .end-size .ensures)),
-)
+loop-again c =
+    let input = c .before .before .before .before .before .args .input .now in
+    let end = c .before .before .before .loop .end in
+    let none : end-size (drop end input) ≡ 0 =
+    ⊎-elim
+    (λ w. omega (arith, w .1 .ensures, ltb-false 0 (w .1 .result) (w .2 .left)))
+    (λ w. sym (size-other input end (λ ten. omega (arith, w .left, ten))
+    (λ thirteen ten. omega (arith, w .left, thirteen))))
+    (c .if1 .came) in
+    (search needs, search needs, unbroken-next input _ _ (c .before .before .before .loop .inv .2) none)
 
 returns : tie.Need-returns Inv-loop μ-loop
 returns c = record {
@@ -61,8 +72,9 @@ returns-2 c =
     record {
       ordered = search needs;
       inside = search needs;
-      unbroken = c .before .before .before .loop .inv .2;
-      stops = λ h. omega (arith, c .before .end-size .ensures);
+      unbroken = c .before .before .before .before .before .loop .inv .2;
+      stops =
+          λ h. omega (arith, c .before .end-size .ensures, ltb-true 0 (c .before .end-size .result) (c .if2 .taken));
     }
 
 pub line-end-spec : {M : Type 1} → statement M
@@ -72,6 +84,7 @@ line-end-spec =
     Inv-loop
     μ-loop
     loop-holds
+    shared-slice-read-if1
     end-size-requires
     add-end
     loop-less
