@@ -1,0 +1,2 @@
+-- Proofs of the functions, and what they share.
+pub mod Flags
