@@ -57,6 +57,9 @@ same-length-2 c = search needs
 returns-2 : tie.Need-returns-2
 returns-2 c = search needs
 
+tell-refusal-requires : tie.Need-tell-refusal-requires
+tell-refusal-requires c κs = search needs
+
 same-length-3 : tie.Need-same-length-3
 same-length-3 c = search needs
 
@@ -79,5 +82,6 @@ write-output-spec =
     fail-requires
     same-length-2
     returns-2
+    tell-refusal-requires
     same-length-3
     returns-3)

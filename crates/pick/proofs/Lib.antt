@@ -1,0 +1,2 @@
+-- What a check's answer says, by its cases.
+pub mod Told
