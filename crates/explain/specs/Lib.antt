@@ -1,0 +1,3 @@
+-- What the program's own functions ask and promise.
+pub mod Space
+pub mod ReadWithin
