@@ -2,18 +2,21 @@
  *
  * Every function takes slices as a pointer and a length, ends and answers on all bytes and words that it can be
  * handed, and keeps nothing between calls. It allocates nothing; what it needs it takes from the stack: 24 KB in
- * foam_check and foam_check2, 25 KB in foam_read and foam_read2, 62 KB in foam_match, foam_search, foam_start and
- * foam_step, 81 KB in foam_pick, as measured; foam_widen was not measured: it holds 23 KB beside what deciding takes.
+ * foam_check and foam_check2, 26 KB in foam_read and foam_read2, 62 KB in foam_match, foam_search, foam_start,
+ * foam_step, foam_steps and foam_lines, 59 KB in foam_table, 163 KB in foam_pick (97 KB where its texts have fewer than
+ * 4,000 bytes), 49 KB in foam_widen, as measured by bench/run.
  *
  * What a caller must see to, since it cannot be checked: no pointer is null, also where its length is 0; each points to
- * as many bytes or words as its length says, words aligned as uint64_t; what is written through overlaps nothing else
- * that is lent to the same call. The archive libfoamlattice.a is for x86-64 (Linux, System V calling convention).
+ * as many bytes, entries or words as its length says, words aligned as uint64_t and entries as uint16_t; what is written
+ * through overlaps nothing else that is lent to the same call. The archive libfoamlattice.a is for x86-64 (Linux, System
+ * V calling convention).
  *
  * Each function answers one number:
  *   bits  0 to  7  the refusal's number, 0 where nothing is refused
  *   bits  8 to 15  a flag
  *   bits 16 to 39  x
  *   bits 40 to 63  y
+ * foam_number, foam_flag, foam_x and foam_y below take it apart.
  *
  *   call          flag                                      x                            y
  *   foam_read     0                                         records; of a refusal        pieces; 0 of a refusal
@@ -26,8 +29,14 @@
  *   foam_start    1 where the accepting state is marked     0; of a refusal its place    0
  *   foam_step     1 where the accepting state is marked     1 where nothing is left,     0
  *                                                           else 0
+ *   foam_steps    as foam_step after the last byte          as foam_step                 0
+ *   foam_lines    0                                         lines; 0 of a refusal        yes lines
+ *   foam_lines_table  as foam_lines
  *   foam_widen    0                                         records; 0 of a refusal      0
  *   foam_pick     1 written, 0 too short a buffer           bytes written                0
+ *   foam_table    1 made, 0 does not fit                    states                       entries
+ *   foam_match_table
+ *                 1 yes, 0 no                               0                            0
  *
  * A refusal changes no byte and no word that was lent.
  *
@@ -51,9 +60,85 @@
 #define FOAM_MOST_CLASS_BYTES 30720
 #define FOAM_MOST_WORDS 128
 
+/* The longest expression, text and input of foam_pick, in bytes: a buffer for one needs no more. Bytes of a record of the
+ * layout that foam_widen takes. */
+#define FOAM_MOST_EXPRESSION 1024
+#define FOAM_MOST_TEXT 65536
+#define FOAM_MOST_INPUT 65536
+#define FOAM_OLD_RECORD_SIZE 8
+
+/* The fewest entries that a table of steps can have, and the most. */
+#define FOAM_TABLE_HEADING 257
+#define FOAM_MOST_ENTRIES 65536
+
 #ifdef __cplusplus
 extern "C" {
 #endif
+
+/* The refusals by their numbers, which never change. docs/REFERENCE.md, section 3, says when each is given, and where. */
+enum foam_refusal {
+    FOAM_REFUSAL_NONE = 0,
+    FOAM_REFUSAL_EMPTY = 1,
+    FOAM_REFUSAL_TOO_LONG = 2,
+    FOAM_REFUSAL_OPERAND_DUE = 3,
+    FOAM_REFUSAL_GROUP_OPEN = 4,
+    FOAM_REFUSAL_NO_GROUP = 5,
+    FOAM_REFUSAL_TOO_DEEP = 6,
+    FOAM_REFUSAL_ESCAPE = 7,
+    FOAM_REFUSAL_TOO_MANY_PIECES = 8,
+    FOAM_REFUSAL_BUFFER_SHORT = 9,
+    FOAM_REFUSAL_LIST = 10,
+    FOAM_REFUSAL_TEXT_TOO_LONG = 11,
+    FOAM_REFUSAL_WORDS_SHORT = 12,
+    FOAM_REFUSAL_MARKS = 13,
+    FOAM_REFUSAL_CLASS = 14,
+    FOAM_REFUSAL_CLASSES_SHORT = 15,
+    FOAM_REFUSAL_COUNT = 16,
+    FOAM_REFUSAL_TOO_MANY_NODES = 17,
+    FOAM_REFUSAL_TABLE_SHORT = 28
+};
+
+/* The refusal of an answer, 0 where nothing is refused. */
+static inline unsigned foam_number(uint64_t answer) { return (unsigned)(answer & 0xff); }
+
+/* The flag of an answer: whether it is 1. */
+static inline int foam_flag(uint64_t answer) { return (answer >> 8 & 0xff) == 1; }
+
+/* x of an answer: of a refusal its place. */
+static inline size_t foam_x(uint64_t answer) { return (size_t)(answer >> 16 & 0xffffff); }
+
+/* y of an answer. */
+static inline size_t foam_y(uint64_t answer) { return (size_t)(answer >> 40); }
+
+/* The pieces and the classes that y of a reading or a check holds. */
+static inline size_t foam_pieces(uint64_t answer) { return foam_y(answer) % 256; }
+static inline size_t foam_classes(uint64_t answer) { return foam_y(answer) / 256; }
+
+/* A refusal in words, as `pick` has them: a string that is there for good, for any number. */
+static inline const char *foam_refusal_text(unsigned number) {
+    switch (number) {
+    case FOAM_REFUSAL_NONE: return "nothing is refused";
+    case FOAM_REFUSAL_EMPTY: return "the expression is empty";
+    case FOAM_REFUSAL_TOO_LONG: return "the expression has more than 1,024 bytes";
+    case FOAM_REFUSAL_OPERAND_DUE: return "a character, a class or a group has to begin here";
+    case FOAM_REFUSAL_GROUP_OPEN: return "this group is not closed";
+    case FOAM_REFUSAL_NO_GROUP: return "no group is open for this ) to close";
+    case FOAM_REFUSAL_TOO_DEEP: return "more than 32 groups stand one inside the other";
+    case FOAM_REFUSAL_ESCAPE: return "a \\ has to stand before a sign";
+    case FOAM_REFUSAL_TOO_MANY_PIECES: return "too large: the tree has more than 128 pieces";
+    case FOAM_REFUSAL_BUFFER_SHORT: return "the buffer is too short";
+    case FOAM_REFUSAL_LIST: return "the list of records is not a good one";
+    case FOAM_REFUSAL_TEXT_TOO_LONG: return "the text has more than 65,536 bytes";
+    case FOAM_REFUSAL_WORDS_SHORT: return "fewer words are lent than the list has pieces";
+    case FOAM_REFUSAL_MARKS: return "the words are no marks of this list";
+    case FOAM_REFUSAL_CLASS: return "this is no class of the form [a-z] or [^a-z]";
+    case FOAM_REFUSAL_CLASSES_SHORT: return "the buffer for the classes is too short";
+    case FOAM_REFUSAL_COUNT: return "this is no count of the form {2,4}";
+    case FOAM_REFUSAL_TOO_MANY_NODES: return "too large: the tree has more than 2,047 nodes";
+    case FOAM_REFUSAL_TABLE_SHORT: return "the table has fewer than 257 entries";
+    default: return "no such refusal";
+    }
+}
 
 /* Checks an expression of the first syntax: every refusal of foam_read but 9, and the counts, which say how much room the
  * records need. Nothing is lent but the expression. Where it refuses nothing foam_read refuses nothing but 9. */
@@ -101,6 +186,25 @@ uint64_t foam_start(const uint8_t *records, size_t records_length, const uint8_t
 uint64_t foam_step(const uint8_t *records, size_t records_length, const uint8_t *classes, size_t classes_length,
                    uint64_t *words, size_t words_length, uint8_t byte);
 
+/* Turns the marks into those after each of the bytes, one after the other: the words and the answer are what as many calls of
+ * foam_step leave and give, and the list is decided on and its tables are made once. Where nothing is left, the rest of the
+ * bytes is not read: it could mark nothing. With no byte the words stay as they are, the flag is 1 where they mark the accepting
+ * state, and x is 1 where they mark nothing. Refusals as foam_step, with no byte too. */
+uint64_t foam_steps(const uint8_t *records, size_t records_length, const uint8_t *classes, size_t classes_length,
+                    uint64_t *words, size_t words_length, const uint8_t *bytes, size_t bytes_length);
+
+/* Matches every line of a text: byte i of the answers is 1 where line i is in the language of the list's tree, and 0 where it
+ * is not, as foam_match says of that line. A line ends at byte 10, or at 13 and 10; last bytes without an end are a line too,
+ * and a text of no bytes has none. The list is decided on and its tables are made once for all lines. Bytes past the answers
+ * are not written. Refusals: 10, 15 and 11 as foam_match of the whole text; 9 fewer answers are lent than there are lines. */
+uint64_t foam_lines(const uint8_t *records, size_t records_length, const uint8_t *classes, size_t classes_length,
+                    const uint8_t *text, size_t text_length, uint8_t *answers, size_t answers_length);
+
+/* The same by a table of steps: byte i of the answers is 1 where the table accepts line i, and 0 where it does not. Refusals:
+ * 28 a table of fewer than 257 entries; 11 a text of more than 65,536 bytes; 9 as foam_lines. */
+uint64_t foam_lines_table(const uint16_t *table, size_t table_length, const uint8_t *text, size_t text_length, uint8_t *answers,
+                          size_t answers_length);
+
 /* Writes what the program `pick` prints for an input of any length: its first line is an expression of the first syntax,
  * each later one a text, and a line ends at byte 10, or at 13 and 10. For each text stand its number, `yes` and its rank
  * among the yes lines or `no -`, and in the last line the counts; for an expression that is refused only `refused N at P`,
@@ -113,6 +217,24 @@ uint64_t foam_pick(const uint8_t *input, size_t input_length, uint8_t *output, s
  * the place 0 in every record; its class records stay as they are. Refusals: 10 not a good list of that layout; 9 the
  * record buffer is shorter than 12 bytes for each record. Bytes past the records are not written. */
 uint64_t foam_widen(const uint8_t *old, size_t old_length, uint8_t *records, size_t records_length);
+
+/* Makes a table of steps of the list's tree, in the table that is lent, with room lent for finding its states: so many
+ * entries from the first on; those past them are not written. By it foam_match_table answers what foam_match answers by the
+ * list, in two loads a byte. With k columns (one for all bytes that no leaf tells apart), s states (state 0, where nothing
+ * is left, among them) and p pieces it has 257 + (k + 1) * s entries and takes (1 + p + k) * (s - 1) words of room. The
+ * flag is 0, and x and y are 0, where it does not fit: it would have more than 65,536 entries, or the table or the room is
+ * too short; then no entry of the table differs. In both cases every word of the room is 0 afterwards. It tries fewer than
+ * 65,279 steps before it gives up. Sizes to lend: 1,024 entries and 1,024 words are enough for most rules, such as dates,
+ * addresses or the first line of a request (docs/REFERENCE.md, section 7, has figures); FOAM_MOST_ENTRIES entries for any.
+ * Refusals, which change nothing: 10 not a good list; 15 as foam_match. */
+uint64_t foam_table(const uint8_t *records, size_t records_length, const uint8_t *classes, size_t classes_length,
+                    uint16_t *table, size_t table_length, uint64_t *room, size_t room_length);
+
+/* Whether a table of steps accepts the whole text, of any length. Any entries are a table: entry b, for each byte b, says
+ * where the column of b begins, entry 256 where that of accepting does; a column has an entry for each state; the run
+ * starts in state 1, ends with no at state 0, and an entry past the table's length counts as 0. Nothing outside of what is
+ * lent is read, whatever the entries are. Refusal: 28 a table of fewer than 257 entries. */
+uint64_t foam_match_table(const uint16_t *table, size_t table_length, const uint8_t *text, size_t text_length);
 
 #ifdef __cplusplus
 }

@@ -5,7 +5,7 @@ use mathlib.Core.List.{List, [], _∷_}
 use native.Mathlib.Omega.{arith}
 use lib.ListN.{getD}
 use denote.Enum.Declared.{tagOf}
-use Rattle.tree.specs.RefusalNumbers.{list-not-good, buffer-too-short}
+use Rattle.tree.specs.RefusalNumbers.{list-not-good, buffer-too-short, text-too-long, class-buffer-too-short}
 use Rattle.reader.specs.Answer.{refusing}
 use Rattle.checker.specs.Checked.{refusing-counts}
 use Rattle.picker.specs.declared.Picked.{Picked}
@@ -14,8 +14,28 @@ use Rattle.picker.proofs.Picked.{the-type as picked-type}
 use Rattle.widen.specs.declared.Widened.{Widened}
 use Rattle.widen.specs.declared.Widened.the-variants.{Written as Wide-written, NotGood, NoRoom as Wide-too-long}
 use Rattle.widen.proofs.Widened.{the-type as widened-type}
+use Rattle.lines.specs.Answer.{numbers, counting}
+use Rattle.lines.specs.declared.LinesAnswer.{LinesAnswer}
+use Rattle.lines.specs.declared.LinesAnswer.the-variants.{
+  Answered,
+  NotGood as Lines-not-good,
+  TooFewClasses as Lines-too-few-classes,
+  TooLong as Lines-too-long,
+  NoRoom as Lines-no-room,
+}
+use Rattle.lines.proofs.LinesAnswer.{the-type as lines-type}
+use Rattle.tree.specs.RefusalNumbers.{table-too-short}
+use Rattle.table_lines.specs.Promise.{table-lines-numbers}
+use Rattle.table_lines.specs.declared.TableLines.{TableLines}
+use Rattle.table_lines.specs.declared.TableLines.the-variants.{
+  Answered as Table-answered,
+  TooShort as Table-short,
+  TooLong as Table-text-long,
+  NoRoom as Table-no-room,
+}
+use Rattle.table_lines.proofs.TableLines.{the-type as table-lines-type}
 use Rattle.foamlattice.specs.Packed.{packed}
-use Rattle.foamlattice.specs.Promise.{read-packed, second-packed, pick-packed, widen-packed}
+use Rattle.foamlattice.specs.Promise.{read-packed, second-packed, pick-packed, widen-packed, lines-packed}
 
 -- the numbers of a picking: that of an output written is its own
 abbrev pub pick-numbers : Picked → List ℕ
@@ -41,6 +61,46 @@ widen-number-at Wide-too-long = refl
 pub told-widen : (answer : Widened) (tag : ℕ) → tagOf widened-type answer ≡ tag
     → widen-packed answer ≡ getD (widen-numbers answer) tag 0
 told-widen answer tag e = widen-number-at answer ∙ ap (λ (k : ℕ). getD (widen-numbers answer) k 0) e
+
+-- the numbers of matching the lines of a text: that of lines answered is its own
+abbrev pub lines-numbers : LinesAnswer → List ℕ
+lines-numbers answer =
+    lines-packed (numbers answer) ∷ packed list-not-good 0 0 0 ∷ packed class-buffer-too-short 0 0 0
+    ∷ packed text-too-long 0 0 0 ∷ packed buffer-too-short 0 0 0 ∷ []
+
+lines-number-at : (answer : LinesAnswer) → lines-packed (numbers answer)
+    ≡ getD (lines-numbers answer) (tagOf lines-type answer) 0
+lines-number-at (Answered line-count yes-lines) = refl
+lines-number-at Lines-not-good = refl
+lines-number-at Lines-too-few-classes = refl
+lines-number-at Lines-too-long = refl
+lines-number-at Lines-no-room = refl
+
+pub told-lines : (answer : LinesAnswer) (tag : ℕ) → tagOf lines-type answer ≡ tag
+    → lines-packed (numbers answer) ≡ getD (lines-numbers answer) tag 0
+told-lines answer tag e = lines-number-at answer ∙ ap (λ (k : ℕ). getD (lines-numbers answer) k 0) e
+
+-- the same by a table of steps
+abbrev pub table-lines-list : TableLines → List ℕ
+table-lines-list answer =
+    lines-packed (table-lines-numbers answer) ∷ packed table-too-short 0 0 0 ∷ packed text-too-long 0 0 0
+    ∷ packed buffer-too-short 0 0 0 ∷ []
+
+table-lines-at : (answer : TableLines) → lines-packed (table-lines-numbers answer)
+    ≡ getD (table-lines-list answer) (tagOf table-lines-type answer) 0
+table-lines-at (Table-answered line-count yes-lines) = refl
+table-lines-at Table-short = refl
+table-lines-at Table-text-long = refl
+table-lines-at Table-no-room = refl
+
+pub told-table-lines : (answer : TableLines) (tag : ℕ) → tagOf table-lines-type answer ≡ tag
+    → lines-packed (table-lines-numbers answer) ≡ getD (table-lines-list answer) tag 0
+told-table-lines answer tag e = table-lines-at answer ∙ ap (λ (k : ℕ). getD (table-lines-list answer) k 0) e
+
+-- where lines are answered, the place is 0
+pub lines-number : (line-count yes-lines : ℕ) → packed 0 0 line-count yes-lines
+    ≡ lines-packed (counting line-count yes-lines)
+lines-number line-count yes-lines = omega arith
 
 -- of a reading's place and count of records one is 0, so that x is the other
 pub read-number : (records pieces : ℕ) → packed 0 0 records pieces

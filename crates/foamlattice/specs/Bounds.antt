@@ -31,6 +31,16 @@ use Rattle.reader.specs.SecondAnswer.{
   second-answered,
 }
 use Rattle.marks.specs.declared.numbers.Numbers.{Numbers as Marks-numbers}
+use Rattle.marks.specs.StepsEach.{
+  stay-not-good,
+  stay-too-few-classes,
+  stay-too-few,
+  stay-not-marks,
+  stayed,
+  Steps-each,
+  no-byte,
+  one-more,
+}
 use Rattle.marks.specs.Promise.{
   Refused,
   Made,
@@ -78,6 +88,7 @@ use Rattle.foamlattice.specs.Promise.{
   Searching,
   Starting,
   Stepping,
+  Stepping-each,
   Picking,
 }
 
@@ -299,6 +310,15 @@ step-ranges (step-too-few r) = refused-marks (omega arith) r
 step-ranges (step-not-marks r) = refused-marks (omega arith) r
 step-ranges (stepped s) = made-marks (s .made)
 
+pub steps-ranges : {list classes before bytes after : List ℕ} {n : Marks-numbers}
+    → Steps-each list classes before bytes after n → Marks-ranges n
+steps-ranges (no-byte (stay-not-good r)) = refused-marks (omega arith) r
+steps-ranges (no-byte (stay-too-few-classes r)) = refused-marks (omega arith) r
+steps-ranges (no-byte (stay-too-few r)) = refused-marks (omega arith) r
+steps-ranges (no-byte (stay-not-marks r)) = refused-marks (omega arith) r
+steps-ranges (no-byte (stayed s)) = made-marks (s .made)
+steps-ranges (one-more each s) = step-ranges s
+
 -- an output has at most 1,048,575 bytes
 pub pick-length-small : (input before after : List ℕ) (answer : Picked) → Picks input before after answer
     → pick-length answer ≤ most-output
@@ -314,7 +334,7 @@ pub record Small-case (number flag : ℕ) : Type 0 where
 small : (number flag : ℕ) → number ≤ too-many-nodes → flag ≤ 1 → Small-case number flag
 small number flag n f = record { number-small = n; flag-small = f }
 
-flag-small : (flag : Bool) → cond flag 1 0 ≤ 1
+pub flag-small : (flag : Bool) → cond flag 1 0 ≤ 1
 flag-small true = omega arith
 flag-small false = omega arith
 
@@ -406,6 +426,13 @@ pub stepping-unpacks : (list classes : List ℕ) (byte : ℕ) (before after : Li
     (m .numbers .place + cond (m .numbers .nothing) 1 0) 0
 stepping-unpacks list classes byte before after r m =
     marks-unpacks r (m .numbers) (step-ranges (m .right)) (m .as-number)
+
+pub stepping-each-unpacks : (list classes before bytes after : List ℕ) (r : ℕ)
+    (m : Stepping-each list classes before bytes after r)
+    → Unpacks r (m .numbers .refusal) (cond (m .numbers .accepting) 1 0)
+    (m .numbers .place + cond (m .numbers .nothing) 1 0) 0
+stepping-each-unpacks list classes before bytes after r m =
+    marks-unpacks r (m .numbers) (steps-ranges (m .right)) (m .as-number)
 
 pub picking-unpacks : (input before after : List ℕ) (r : ℕ) (m : Picking input before after r)
     → Unpacks r 0 (pick-flag (m .answer)) (pick-length (m .answer)) 0

@@ -4,4 +4,6 @@ pub mod Promise
 pub mod Bounds
 pub mod Unique
 pub mod WideningLaws
+pub mod LinesLaws
+pub mod TablingLaws
 pub mod Calls

@@ -8,14 +8,21 @@ use Rattle.reader.specs.Answer.{Numbers}
 use Rattle.checker.specs.Checked.{Counted-numbers}
 use Rattle.marks.specs.declared.numbers.Numbers.{Numbers as Marks-numbers}
 use Rattle.marks.specs.Promise.{Starts, Steps}
+use Rattle.marks.specs.StepsEach.{Steps-each}
 use Rattle.finder.specs.declared.numbers.Numbers.{Numbers as Found-numbers}
 use Rattle.finder.specs.Promise.{Match-answers, Search-answers}
+use Rattle.lines.specs.Answer.{Numbers as Lines-numbers}
+use Rattle.lines.specs.Promise.{Lines-answers}
+use Rattle.table_lines.specs.Promise.{Table-lines-answers}
 use Rattle.picker.specs.declared.Picked.{Picked}
 use Rattle.picker.specs.declared.Picked.the-variants.{Written, NoRoom}
 use Rattle.picker.specs.Promise.{Picks}
 use Rattle.widen.specs.declared.Widened.{Widened}
 use Rattle.widen.specs.declared.Widened.the-variants.{Written as Wide-written, NotGood, NoRoom as Wide-too-long}
 use Rattle.widen.specs.Promise.{Widens, widen-refusal}
+use Rattle.running.specs.declared.numbers.Numbers.{Numbers as Table-numbers}
+use Rattle.making.specs.declared.numbers.Numbers.{Numbers as Made-numbers}
+use Rattle.making.specs.Promise.{Makes}
 use Rattle.foamlattice.specs.Packed.{packed}
 
 -- read: x is the count of records, or the place of a refusal, the other of which is 0; y is the count of pieces
@@ -35,6 +42,10 @@ found-packed n = packed (n .refusal) (cond (n .matched) 1 0) (n .place + n .star
 -- of a refusal
 abbrev pub marks-packed : Marks-numbers → ℕ
 marks-packed n = packed (n .refusal) (cond (n .accepting) 1 0) (n .place + cond (n .nothing) 1 0) 0
+
+-- lines: x is the count of lines, or the place of a refusal; y is the count of yes lines
+abbrev pub lines-packed : Lines-numbers → ℕ
+lines-packed n = packed (n .refusal) 0 (n .place + n .line-count) (n .yes-lines)
 
 -- pick: the flag is 1 where the output was written; x is its length
 abbrev pub pick-flag : Picked → ℕ
@@ -56,6 +67,14 @@ widen-count Wide-too-long = 0
 
 abbrev pub widen-packed : Widened → ℕ
 widen-packed answer = packed (widen-refusal answer) 0 (widen-count answer) 0
+
+-- table: the flag is 1 where the table was made; x is the count of its states, y that of its entries
+abbrev pub made-packed : Made-numbers → ℕ
+made-packed n = packed (n .refusal) (cond (n .made) 1 0) (n .states) (n .entries)
+
+-- match by table: the flag is 1 for yes
+abbrev pub table-packed : Table-numbers → ℕ
+table-packed n = packed (n .refusal) (cond (n .matched) 1 0) 0 0
 
 -- the number r packs right numbers of a match
 pub record Matching (list classes text : List ℕ) (r : ℕ) : Type 0 where
@@ -81,6 +100,24 @@ pub record Stepping (list classes : List ℕ) (byte : ℕ) (before after : List 
   pub right : Steps list classes byte before after numbers
   pub as-number : r ≡ marks-packed numbers
 
+-- the words afterwards and the number r are those of right steps, one for each byte
+pub record Stepping-each (list classes before bytes after : List ℕ) (r : ℕ) : Type 0 where
+  pub numbers : Marks-numbers
+  pub right : Steps-each list classes before bytes after numbers
+  pub as-number : r ≡ marks-packed numbers
+
+-- the buffer afterwards and the number r are those of right answers for the lines of a text
+pub record Answering-lines (list classes text before after : List ℕ) (r : ℕ) : Type 0 where
+  pub numbers : Lines-numbers
+  pub right : Lines-answers list classes text before after numbers
+  pub as-number : r ≡ lines-packed numbers
+
+-- the buffer afterwards and the number r are those of right answers for the lines of a text by a table of steps
+pub record Answering-by-table (table text before after : List ℕ) (r : ℕ) : Type 0 where
+  pub numbers : Lines-numbers
+  pub right : Table-lines-answers table text before after numbers
+  pub as-number : r ≡ lines-packed numbers
+
 -- the buffer afterwards and the number r are those of a right picking
 pub record Picking (input before after : List ℕ) (r : ℕ) : Type 0 where
   pub answer : Picked
@@ -92,3 +129,9 @@ pub record Widening (old before after : List ℕ) (r : ℕ) : Type 0 where
   pub answer : Widened
   pub right : Widens old before after answer
   pub as-number : r ≡ widen-packed answer
+
+-- the table and the room afterwards and the number r are those of a right making of a table
+pub record Tabling (list classes table after room cleared : List ℕ) (r : ℕ) : Type 0 where
+  pub numbers : Made-numbers
+  pub right : Makes list classes table after room cleared numbers
+  pub as-number : r ≡ made-packed numbers

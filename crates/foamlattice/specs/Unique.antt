@@ -4,6 +4,7 @@ use Prim.Native.Nat.{ℕ}
 use mathlib.Core.Path.{_≡_, ap, sym, _∙_}
 use mathlib.Core.List.{List}
 use Rattle.marks.specs.Unique.{starts-unique, steps-unique}
+use Rattle.marks.specs.StepsEachLaws.{steps-each-unique}
 use Rattle.finder.specs.Unique.{match-unique, search-unique-numbers}
 use Rattle.picker.specs.Unique.{picks-unique}
 use Rattle.foamlattice.specs.Promise.{
@@ -14,6 +15,7 @@ use Rattle.foamlattice.specs.Promise.{
   Searching,
   Starting,
   Stepping,
+  Stepping-each,
   Picking,
 }
 
@@ -45,6 +47,13 @@ pub stepping-unique : (list classes : List ℕ) (byte : ℕ) (before after after
     × (after ≡ after')
 stepping-unique list classes byte before after after' r s m n =
     let same = steps-unique (m .right) (n .right) in
+    (same-number marks-packed r s _ _ (m .as-number) (n .as-number) (same .0), same .1)
+
+pub stepping-each-unique : (list classes before bytes after after' : List ℕ) (r s : ℕ)
+    → Stepping-each list classes before bytes after r → Stepping-each list classes before bytes after' s → (r ≡ s)
+    × (after ≡ after')
+stepping-each-unique list classes before bytes after after' r s m n =
+    let same = steps-each-unique (m .right) (n .right) in
     (same-number marks-packed r s _ _ (m .as-number) (n .as-number) (same .0), same .1)
 
 pub picking-unique : (input before after after' : List ℕ) (r s : ℕ) → Picking input before after r

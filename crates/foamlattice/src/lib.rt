@@ -1,5 +1,5 @@
-// The outside interface: reading, matching, searching, starting, stepping and picking for callers in C and Rust, each
-// of which answers one number.
+// The outside interface: reading, matching, searching, starting, stepping, picking and tables of steps for callers in C
+// and Rust, each of which answers one number.
 mod pack;
 
 use checker::CountedAnswer;
@@ -10,17 +10,27 @@ use finder::numbers::Numbers;
 use finder::numbers::match_numbers;
 use finder::numbers::search_numbers;
 use finder::search;
+use lines::LinesAnswer;
+use lines::lines;
+use making::make_table;
 use marks::numbers::numbers_of;
 use marks::start;
 use marks::step;
+use marks::steps;
 use pack::pack;
 use picker::Picked;
 use picker::pick;
 use reader::ReadAnswer;
 use reader::read;
 use reader::read_second;
+use running::match_table;
+use table_lines::TableLines;
+use table_lines::lines_by_table;
 use tree::refusal_numbers::BUFFER_TOO_SHORT;
+use tree::refusal_numbers::CLASS_BUFFER_TOO_SHORT;
 use tree::refusal_numbers::LIST_NOT_GOOD;
+use tree::refusal_numbers::TABLE_TOO_SHORT;
+use tree::refusal_numbers::TEXT_TOO_LONG;
 use widen::Widened;
 use widen::widen;
 ghost use mathlib.Core.Path.{_≡_};
@@ -29,18 +39,27 @@ ghost use Rattle.reader.specs.Answer.{answered, records-after};
 ghost use Rattle.checker.specs.Checked.{counted-numbers, checked};
 ghost use Rattle.reader.specs.SecondAnswer.{second-answered, second-records-after, second-classes-after};
 ghost use Rattle.operands.specs.Bytes.{first, second};
+ghost use Rattle.lines.specs.Answer.{numbers};
+ghost use Rattle.running.specs.Answer.{answered as table-answered};
 ghost use Rattle.foamlattice.specs.Bounds.{Second-ranges, Found-ranges, Marks-ranges};
+ghost use Rattle.foamlattice.specs.LinesLaws.{Lines-ranges};
 ghost use Rattle.foamlattice.specs.Promise.{
   read-packed,
   second-packed,
   found-packed,
   marks-packed,
+  table-packed,
   Matching,
   Searching,
   Starting,
   Stepping,
+  Stepping-each,
+  lines-packed,
+  Answering-lines,
+  Answering-by-table,
   Picking,
   Widening,
+  Tabling,
 };
 
 // Reads an expression of the first syntax into tree records.
@@ -175,6 +194,56 @@ pub extern "C" fn foam_step(records: &[u8], classes: &[u8], words: &mut [u64], b
     pack_marked(numbers)
 }
 
+// Turns the marks into those after each byte, one after the other.
+#[no_mangle]
+pub extern "C" fn foam_steps(records: &[u8], classes: &[u8], words: &mut [u64], bytes: &[u8]) -> u64
+    ensures { λ r. ⌜ Stepping-each (now (records .entry)) (now (classes .entry)) (now (words .entry))
+        (now (bytes .entry)) (now (words .exit)) r ⌝ }
+{
+    let answer = steps(records, classes, words, bytes);
+    let numbers = numbers_of(answer);
+    pack_marked(numbers)
+}
+
+// What matching the lines of a text gives back, packed.
+fn pack_lines(answer: LinesAnswer) -> u64
+    requires { ⌜ Lines-ranges (numbers answer) ⌝ }
+    ensures { λ r. ⌜ r ≡ lines-packed (numbers answer) ⌝ }
+{
+    match answer {
+        LinesAnswer::Answered { lines, yes } => pack(0, false, lines, yes),
+        LinesAnswer::NotGood => pack(LIST_NOT_GOOD, false, 0, 0),
+        LinesAnswer::TooFewClasses => pack(CLASS_BUFFER_TOO_SHORT, false, 0, 0),
+        LinesAnswer::TooLong => pack(TEXT_TOO_LONG, false, 0, 0),
+        LinesAnswer::NoRoom => pack(BUFFER_TOO_SHORT, false, 0, 0),
+    }
+}
+
+// Writes a byte for each line of the text: 1 where the line is in the language of the list's tree, 0 where it is not.
+#[no_mangle]
+pub extern "C" fn foam_lines(records: &[u8], classes: &[u8], text: &[u8], answers: &mut [u8]) -> u64
+    ensures { λ r. ⌜ Answering-lines (now (records .entry)) (now (classes .entry)) (now (text .entry))
+        (now (answers .entry)) (now (answers .exit)) r ⌝ }
+{
+    let answer = lines(records, classes, text, answers);
+    pack_lines(answer)
+}
+
+// Writes a byte for each line of the text: 1 where the table of steps accepts the line, 0 where it does not.
+#[no_mangle]
+pub extern "C" fn foam_lines_table(table: &[u16], text: &[u8], answers: &mut [u8]) -> u64
+    ensures { λ r. ⌜ Answering-by-table (now (table .entry)) (now (text .entry)) (now (answers .entry))
+        (now (answers .exit)) r ⌝ }
+{
+    let answer = lines_by_table(table, text, answers);
+    match answer {
+        TableLines::Answered { lines, yes } => pack(0, false, lines, yes),
+        TableLines::TooShort => pack(TABLE_TOO_SHORT, false, 0, 0),
+        TableLines::TooLong => pack(TEXT_TOO_LONG, false, 0, 0),
+        TableLines::NoRoom => pack(BUFFER_TOO_SHORT, false, 0, 0),
+    }
+}
+
 // Turns a good list of the old layout, of eight bytes a record, into one of today with the place 0 in every record.
 #[no_mangle]
 pub extern "C" fn foam_widen(old: &[u8], records: &mut [u8]) -> u64
@@ -199,4 +268,35 @@ pub extern "C" fn foam_pick(input: &[u8], output: &mut [u8]) -> u64
         Picked::Written { length } => pack(0, true, length, 0),
         Picked::NoRoom => pack(0, false, 0, 0),
     }
+}
+
+// Makes a table of steps of the list's tree, in the table that is lent, with room lent for finding its states.
+#[no_mangle]
+pub extern "C" fn foam_table(
+    records: &[u8],
+    classes: &[u8],
+    table: &mut [u16],
+    room: &mut [u64],
+) -> u64
+    ensures { λ r. ⌜ Tabling (now (records .entry)) (now (classes .entry)) (now (table .entry)) (now (table .exit))
+        (now (room .entry)) (now (room .exit)) r ⌝ }
+{
+    let answer = make_table(records, classes, table, room);
+    let numbers = making::numbers::numbers_of(answer);
+    pack(
+        numbers.refusal,
+        numbers.made,
+        numbers.states,
+        numbers.entries,
+    )
+}
+
+// Whether a table of steps accepts the whole text.
+#[no_mangle]
+pub extern "C" fn foam_match_table(table: &[u16], text: &[u8]) -> u64
+    ensures { λ r. ⌜ r ≡ table-packed (table-answered (now (table .entry)) (now (text .entry))) ⌝ }
+{
+    let answer = match_table(table, text);
+    let numbers = running::numbers::numbers_of(answer);
+    pack(numbers.refusal, numbers.matched, 0, 0)
 }
