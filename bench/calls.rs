@@ -1,8 +1,8 @@
 //! What a call costs by itself, on a few bytes: a match, a search, a start and a step; and what checking and reading cost, up
 //! to the largest trees that counts stand for.
 
-use crate::foamlattice::{self, MOST_CLASS_BYTES, MOST_RECORD_BYTES, MOST_WORDS};
 use crate::{expected, quickest, workloads, ROUNDS};
+use foamlattice::slices::{self, MOST_CLASS_BYTES, MOST_RECORD_BYTES, MOST_WORDS};
 
 /// How often a call is made for one figure: a clock is too coarse for a single one.
 const REPEATS: usize = 1_000;
@@ -19,15 +19,15 @@ fn nanoseconds(mut call: impl FnMut() -> bool) -> f64 {
 fn print_row(name: &str, expression: &[u8], text: &[u8]) {
     let list = expected::records(&expected::read(expression).expect("a good expression"));
     let mut first = vec![0; MOST_WORDS];
-    foamlattice::start(&list, &[], &mut first).expect("a good list");
+    slices::start(&list, &[], &mut first).expect("a good list");
     let mut words = first.clone();
     let figures = [
-        nanoseconds(|| foamlattice::is_match(&list, &[], text).is_ok_and(|yes| yes)),
-        nanoseconds(|| foamlattice::find(&list, &[], text).is_ok_and(|part| part.is_some())),
-        nanoseconds(|| foamlattice::start(&list, &[], &mut words).is_ok()),
+        nanoseconds(|| slices::is_full_match(&list, &[], text).is_ok_and(|yes| yes)),
+        nanoseconds(|| slices::find(&list, &[], text).is_ok_and(|part| part.is_some())),
+        nanoseconds(|| slices::start(&list, &[], &mut words).is_ok()),
         nanoseconds(|| {
             words.copy_from_slice(&first);
-            foamlattice::step(&list, &[], &mut words, text[0]).is_ok()
+            slices::step(&list, &[], &mut words, text[0]).is_ok()
         }),
     ];
     let cells: String = figures.iter().map(|figure| format!("{figure:>10.0}")).collect();
@@ -38,13 +38,13 @@ fn print_row(name: &str, expression: &[u8], text: &[u8]) {
 fn print_reading(name: &str, expression: &[u8]) {
     let mut records = vec![0; MOST_RECORD_BYTES];
     let mut classes = vec![0; MOST_CLASS_BYTES];
-    let answer = match foamlattice::check_second(expression) {
+    let answer = match slices::check2(expression) {
         Ok(counts) => format!("{} records, {} pieces", counts.records, counts.pieces),
-        Err(refusal) => format!("refused by {}", refusal.number),
+        Err(refusal) => format!("refused by {}", refusal.number()),
     };
     let figures = [
-        nanoseconds(|| foamlattice::check_second(expression).is_ok()),
-        nanoseconds(|| foamlattice::read_second(expression, &mut records, &mut classes).is_ok()),
+        nanoseconds(|| slices::check2(expression).is_ok()),
+        nanoseconds(|| slices::read2(expression, &mut records, &mut classes).is_ok()),
     ];
     println!("  {name:<44}{answer:>28}{:>10.0}{:>10.0}", figures[0], figures[1]);
 }

@@ -1,8 +1,8 @@
 //! The matchers that are measured, behind one form. Each is prepared once for an expression, outside the measured time.
 
-use crate::foamlattice::Expression;
 use crate::plain::Plain;
 use crate::workloads::Syntax;
+use foamlattice::Expression;
 use std::ffi::{c_char, c_int, c_void, CString};
 
 /// A matcher with one expression. `None` where it gives up on a text.
@@ -19,7 +19,7 @@ pub struct Engine {
 /// The library keeps nothing between calls: each call is lent the list, and checks it, again.
 impl Matcher for Expression {
     fn is_match(&mut self, text: &[u8]) -> Option<bool> {
-        Expression::is_match(self, text).ok()
+        Some(Expression::is_full_match(self, text))
     }
     fn find(&mut self, text: &[u8]) -> Option<Option<(usize, usize)>> {
         let found = Expression::find(self, text).ok()?;
@@ -155,10 +155,10 @@ extern "C" {
     fn pcre2_part(compiled: *mut c_void, text: *const c_char, length: usize, start: *mut usize, end: *mut usize) -> c_int;
 }
 
-fn read(expression: &[u8], syntax: Syntax) -> Option<Expression> {
+pub fn read(expression: &[u8], syntax: Syntax) -> Option<Expression> {
     match syntax {
-        Syntax::First => Expression::first(expression).ok(),
-        Syntax::Second => Expression::second(expression).ok(),
+        Syntax::First => Expression::plain(expression).ok(),
+        Syntax::Second => Expression::new(expression).ok(),
     }
 }
 

@@ -6,22 +6,21 @@ mod engines;
 #[path = "../tests/compare/expected.rs"]
 #[allow(dead_code)]
 mod expected;
-#[allow(dead_code)]
-#[path = "../rust/foamlattice.rs"]
-mod foamlattice;
 #[path = "../tests/compare/generate.rs"]
 #[allow(dead_code)]
 mod generate;
 mod plain;
 mod sizes;
 mod stack;
+mod tables;
 mod workloads;
 #[path = "../tests/compare/written.rs"]
 #[allow(dead_code)]
 mod written;
 
 use engines::{Engine, Matcher};
-use foamlattice::MOST_OUTPUT;
+use foamlattice::slices::{self, MOST_OUTPUT};
+use foamlattice::Expression;
 use std::time::{Duration, Instant};
 use workloads::Workload;
 
@@ -95,7 +94,7 @@ fn measure(engine: &Engine, load: &Workload, run: Run) -> Measured {
 
 /// How many lines are yes in each of so many equal parts of an input, by the last line of its output: `total T yes Y no N`.
 fn pick_all(input: &[u8], parts: usize, output: &mut [u8]) -> Answers {
-    let printed = std::str::from_utf8(foamlattice::pick(input, output)?).ok()?;
+    let printed = std::str::from_utf8(slices::pick(input, output)?).ok()?;
     let yes: usize = printed.lines().next_back()?.split(' ').nth(3)?.parse().ok()?;
     (yes % parts == 0).then_some((yes / parts, 0, 0))
 }
@@ -110,6 +109,51 @@ fn measure_pick(load: &Workload) -> Measured {
     let mut output = vec![0; MOST_OUTPUT];
     let (answers, time) = quickest(|| pick_all(&input, parts, &mut output));
     Measured { answers, nanoseconds_per_byte: time.as_nanos() as f64 / bytes as f64 }
+}
+
+/// The texts as the lines of as few blocks as take them, each of at most 65,536 bytes.
+fn blocks(texts: &[Vec<u8>]) -> Vec<Vec<u8>> {
+    let mut blocks = vec![vec![]];
+    for text in texts {
+        if blocks[blocks.len() - 1].len() + text.len() + 1 > 65_536 {
+            blocks.push(vec![]);
+        }
+        let last = blocks.len() - 1;
+        blocks[last].extend([text, &b"\n"[..]].concat());
+    }
+    blocks
+}
+
+/// How many lines of a block are yes, by a list or by a table.
+type YesLines<L> = fn(&L, &[u8], &mut [u8]) -> Option<usize>;
+
+/// All texts as lines, one call for each expression and block: for each byte of the texts.
+fn measure_lines<L>(load: &Workload, lists: Option<Vec<L>>, yes_lines: YesLines<L>) -> Measured {
+    let Some(lists) = lists else { return Measured { answers: None, nanoseconds_per_byte: f64::NAN } };
+    let blocks = blocks(&load.texts);
+    let bytes = lists.len() * load.texts.iter().map(Vec::len).sum::<usize>();
+    let mut answers = vec![0; 65_536];
+    let (answers, time) = quickest(|| {
+        let pairs = lists.iter().flat_map(|list| blocks.iter().map(move |block| (list, block)));
+        let yes: Option<usize> = pairs.map(|(list, block)| yes_lines(list, block, &mut answers)).sum();
+        Some((yes?, 0, 0))
+    });
+    Measured { answers, nanoseconds_per_byte: time.as_nanos() as f64 / bytes as f64 }
+}
+
+fn lines_by_marks(load: &Workload) -> Measured {
+    let lists = load.expressions.iter().map(|e| engines::read(e, load.syntax)).collect();
+    let yes_lines: YesLines<Expression> =
+        |list, block, answers| slices::lines(list.records(), list.classes(), block, answers).ok().map(|counts| counts.yes);
+    measure_lines(load, lists, yes_lines)
+}
+
+/// By tables that are made outside the measured time.
+fn lines_by_table(load: &Workload) -> Measured {
+    let tables = load.expressions.iter().map(|e| tables::made(e, load.syntax)).collect();
+    let yes_lines: YesLines<Vec<u16>> =
+        |table, block, answers| slices::lines_by_table(table, block, answers).ok().map(|counts| counts.yes);
+    measure_lines(load, tables, yes_lines)
 }
 
 struct Row {
@@ -143,8 +187,17 @@ fn measure_all(load: &Workload) -> Vec<Row> {
     let mut rows: Vec<Row> = engines::all().into_iter().map(measured).collect();
     // A landing that had no classes yet has no row where there are some.
     rows.retain(|row| row.name != "before" || row.whole.answers.is_some());
+    let by_table = Engine { name: "foamlattice table", prepare: tables::prepare };
+    let whole = measure(&by_table, load, match_all);
+    if whole.answers.is_some() {
+        rows.insert(2, Row { name: by_table.name, whole, part: None });
+    }
+    let after_library = rows.iter().position(|row| row.name == "plain, made anew").expect("it is there");
+    if load.texts.len() > 1 {
+        rows.insert(after_library, Row { name: "foamlattice lines by table", whole: lines_by_table(load), part: None });
+        rows.insert(after_library, Row { name: "foamlattice lines", whole: lines_by_marks(load), part: None });
+    }
     if load.as_lines {
-        let after_library = rows.iter().position(|row| row.name == "plain, made anew").expect("it is there");
         rows.insert(after_library, Row { name: "foamlattice pick", whole: measure_pick(load), part: None });
     }
     rows
@@ -161,7 +214,7 @@ fn compare(load: &Workload) {
     println!("{}", load.name);
     for Row { name, whole, part } in &rows {
         let searched = part.as_ref().map_or(format!("{:>12}", "-"), |part| cell(part, plain_search));
-        println!("  {name:<16}{} {searched}", cell(whole, plain_match));
+        println!("  {name:<26}{} {searched}", cell(whole, plain_match));
         let same = whole.answers == plain_match.answers && part.as_ref().is_none_or(|part| part.answers == plain_search.answers);
         assert!(same || !name.starts_with("foamlattice"), "the library's answers are not those of the plain simulation");
     }
@@ -169,10 +222,11 @@ fn compare(load: &Workload) {
 
 fn main() {
     println!("ns/byte, and the ratio to the plain lists; ! where the answers are not those of the plain lists");
-    println!("{:<18}{:>12} {:>9} {:>13} {:>9}", "", "match", "ratio", "search", "ratio");
+    println!("{:<28}{:>12} {:>9} {:>13} {:>9}", "", "match", "ratio", "search", "ratio");
     for load in workloads::all() {
         compare(&load);
     }
+    tables::print();
     calls::print();
     sizes::print();
     stack::print();

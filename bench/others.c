@@ -4,7 +4,9 @@
 
 #include "others.h"
 
-struct glibc { regex_t whole, part; };
+struct glibc {
+    regex_t whole, part;
+};
 
 void *glibc_new(const char *whole, const char *part) {
     struct glibc *g = malloc(sizeof *g);
@@ -31,7 +33,11 @@ int glibc_part(void *compiled, const char *text, size_t length, size_t *start, s
 #define PCRE2_CODE_UNIT_WIDTH 8
 #include <pcre2.h>
 
-struct pcre2 { pcre2_code *whole, *part; pcre2_match_data *data; pcre2_match_context *context; };
+struct pcre2 {
+    pcre2_code *whole, *part;
+    pcre2_match_data *data;
+    pcre2_match_context *context;
+};
 
 static pcre2_code *compiled_pcre2(const char *expression) {
     int error;

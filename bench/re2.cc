@@ -21,12 +21,14 @@ extern "C" void *re2_new(const char *whole, const char *part) {
 }
 
 extern "C" int re2_whole(void *compiled, const char *text, size_t length) {
-    return static_cast<Compiled *>(compiled)->whole.Match(re2::StringPiece(text, length), 0, length, RE2::ANCHOR_BOTH, nullptr, 0);
+    return static_cast<Compiled *>(compiled)->whole.Match(re2::StringPiece(text, length), 0, length, RE2::ANCHOR_BOTH, nullptr,
+                                                          0);
 }
 
 extern "C" int re2_part(void *compiled, const char *text, size_t length, size_t *start, size_t *end) {
     re2::StringPiece part;
-    if (!static_cast<Compiled *>(compiled)->part.Match(re2::StringPiece(text, length), 0, length, RE2::UNANCHORED, &part, 1)) return 0;
+    if (!static_cast<Compiled *>(compiled)->part.Match(re2::StringPiece(text, length), 0, length, RE2::UNANCHORED, &part, 1))
+        return 0;
     *start = part.data() - text;
     *end = *start + part.size();
     return 1;

@@ -1,9 +1,9 @@
 //! How the cost of a byte grows: not with the text, and with the pieces of the expression as their number does.
 
 use crate::expected::{self, Kind, Tree};
-use crate::foamlattice;
 use crate::generate::Random;
 use crate::{quickest, workloads, ROUNDS};
+use foamlattice::slices;
 
 /// A list, the number of its pieces, and a text in its language.
 struct Size {
@@ -58,8 +58,8 @@ fn busy_groups(groups: usize) -> Size {
 
 /// Nanoseconds for each byte of the text, in one call for a match and in one for a search. Both have to take the whole text.
 fn measure(list: &[u8], text: &[u8]) -> [f64; 2] {
-    let whole = quickest(|| foamlattice::is_match(list, &[], text).ok()?.then_some((1, 0, text.len())));
-    let part = quickest(|| foamlattice::find(list, &[], text).ok()?.map(|part| (1, part.start, part.end)));
+    let whole = quickest(|| slices::is_full_match(list, &[], text).ok()?.then_some((1, 0, text.len())));
+    let part = quickest(|| slices::find(list, &[], text).ok()?.map(|part| (1, part.start, part.end)));
     [whole, part].map(|(answers, time)| {
         assert_eq!(answers, Some((1, 0, text.len())), "the whole text is in the language");
         time.as_nanos() as f64 / text.len() as f64

@@ -7,7 +7,10 @@
 
 enum { SIZE = 8 << 20, FILL = 0xa5 };
 
-struct job { void (*call)(void *); void *argument; };
+struct job {
+    void (*call)(void *);
+    void *argument;
+};
 
 static void *run(void *given) {
     struct job *job = given;

@@ -1,8 +1,8 @@
 //! The stack that each call of the library needs: the most over expressions that are large or deep, and over short lists.
 
-use crate::foamlattice::{self, MOST_CLASS_BYTES, MOST_OUTPUT, MOST_RECORD_BYTES, MOST_WORDS, RECORD_SIZE};
 use crate::generate::{self, Random};
 use crate::{expected, workloads, written};
+use foamlattice::slices::{self, MOST_CLASS_BYTES, MOST_OUTPUT, MOST_RECORD_BYTES, MOST_TABLE, MOST_WORDS, RECORD_SIZE};
 use std::ffi::c_void;
 
 extern "C" {
@@ -64,17 +64,41 @@ fn short_lists() -> Vec<(Vec<u8>, Vec<u8>)> {
 
 fn ignore<T>(_: T) {}
 
+/// How many bytes a record of the old layout has: the first of today's.
+const OLD_RECORD_SIZE: usize = 8;
+
+/// A list in the layout that had no places.
+fn old(list: &[u8]) -> Vec<u8> {
+    list.chunks(RECORD_SIZE).flat_map(|record| &record[..OLD_RECORD_SIZE]).copied().collect()
+}
+
 const TEXT: &[u8] = b"02-29 and a longer text aaaaaaaaaaaaaaaa";
 
 /// The most that each call over a list needs.
-fn of_lists(lists: &[(Vec<u8>, Vec<u8>)]) -> [(&'static str, usize); 4] {
+fn of_lists(lists: &[(Vec<u8>, Vec<u8>)]) -> [(&'static str, usize); 10] {
     let mut words = vec![0; MOST_WORDS];
+    let mut records = vec![0; MOST_RECORD_BYTES];
+    let mut answers = vec![0; TEXT.len()];
+    let mut table = vec![0; MOST_TABLE];
+    let mut room = vec![0; 1 << 20];
+    let widens = lists.iter().map(|(list, _)| old(list)).map(|old| used(|| ignore(slices::widen(&old, &mut records)))).max();
     let most = |call: &mut dyn FnMut(&[u8], &[u8])| lists.iter().map(|(l, c)| used(|| call(l, c))).max().unwrap_or(0);
     [
-        ("match", most(&mut |list, classes| ignore(foamlattice::is_match(list, classes, TEXT)))),
-        ("search", most(&mut |list, classes| ignore(foamlattice::find(list, classes, TEXT)))),
-        ("start", most(&mut |list, classes| ignore(foamlattice::start(list, classes, &mut words)))),
-        ("step", most(&mut |list, classes| ignore(foamlattice::step(list, classes, &mut words, b'a')))),
+        ("match", most(&mut |list, classes| ignore(slices::is_full_match(list, classes, TEXT)))),
+        ("search", most(&mut |list, classes| ignore(slices::find(list, classes, TEXT)))),
+        ("start", most(&mut |list, classes| ignore(slices::start(list, classes, &mut words)))),
+        ("step", most(&mut |list, classes| ignore(slices::step(list, classes, &mut words, b'a')))),
+        (
+            "steps",
+            most(&mut |list, classes| {
+                ignore((slices::start(list, classes, &mut words), slices::steps(list, classes, &mut words, TEXT)))
+            }),
+        ),
+        ("lines", most(&mut |list, classes| ignore(slices::lines(list, classes, TEXT, &mut answers)))),
+        ("table", most(&mut |list, classes| ignore(slices::table(list, classes, &mut table, &mut room)))),
+        ("match by table", used(|| ignore(slices::is_full_match_by_table(&table, TEXT)))),
+        ("lines by table", used(|| ignore(slices::lines_by_table(&table, TEXT, &mut answers)))),
+        ("widen", widens.unwrap_or(0)),
     ]
 }
 
@@ -88,19 +112,28 @@ fn print_rows(name: &str, rows: &[(&str, usize)]) {
 pub fn print() {
     let mut buffer = vec![0; MOST_RECORD_BYTES];
     let mut class_buffer = vec![0; MOST_CLASS_BYTES];
-    let reads = expressions().iter().map(|e| used(|| ignore(foamlattice::read(e, &mut buffer)))).max();
-    let mut second = |e: &[u8]| used(|| ignore(foamlattice::read_second(e, &mut buffer, &mut class_buffer)));
+    let reads = expressions().iter().map(|e| used(|| ignore(slices::read(e, &mut buffer)))).max();
+    let mut second = |e: &[u8]| used(|| ignore(slices::read2(e, &mut buffer, &mut class_buffer)));
     let second_reads = expressions_with_classes().iter().map(|e| second(e)).max();
-    let checks = expressions().iter().map(|e| used(|| ignore(foamlattice::check(e)))).max();
-    let second_checks = expressions_with_classes().iter().map(|e| used(|| ignore(foamlattice::check_second(e)))).max();
+    let checks = expressions().iter().map(|e| used(|| ignore(slices::check(e)))).max();
+    let second_checks = expressions_with_classes().iter().map(|e| used(|| ignore(slices::check2(e)))).max();
     let mut output = vec![0; MOST_OUTPUT];
-    let mut pick = |e: &[u8]| {
-        let input = [e, b"\n", TEXT].concat();
-        used(|| ignore(foamlattice::pick(&input, &mut output)))
+    let mut pick = |e: &[u8], texts: &[u8]| {
+        let input = [e, b"\n", texts].concat();
+        used(|| ignore(slices::pick(&input, &mut output)))
     };
-    let picks = expressions().iter().map(|e| pick(e)).max();
-    let reading = [("read", reads), ("read2", second_reads), ("check", checks), ("check2", second_checks), ("pick", picks)]
-        .map(|(name, most)| (name, most.unwrap_or(0)));
+    let picks = expressions().iter().map(|e| pick(e, TEXT)).max();
+    let long_texts = [TEXT, b"\n"].concat().repeat(1_000);
+    let long_picks = expressions().iter().map(|e| pick(e, &long_texts)).max();
+    let reading = [
+        ("read", reads),
+        ("read2", second_reads),
+        ("check", checks),
+        ("check2", second_checks),
+        ("pick", picks),
+        ("pick, long texts", long_picks),
+    ]
+    .map(|(name, most)| (name, most.unwrap_or(0)));
     print_rows("large and deep lists", &[&reading[..], &of_lists(&lists())[..]].concat());
     print_rows("lists of up to 120 records", &of_lists(&short_lists()));
 }

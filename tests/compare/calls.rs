@@ -1,8 +1,11 @@
 //! One call of the library, held against what is expected: its answer, and every byte and word that was lent to it.
 
 use crate::expected::{self, Automaton, Tree, CLASS_SIZE, RECORD_SIZE};
-use crate::wrapper::foamlattice::MOST_OUTPUT;
+use crate::lines;
+use crate::tables::{self, Table, HEADING};
 use crate::written::{self, LaidOut, Written, MOST_NODES};
+use foamlattice::slices::MOST_OUTPUT;
+use std::cell::OnceCell;
 use std::fmt::Debug;
 
 // SAFETY of every call below: each pointer and length is that of one whole slice, and what is written to is lent alone.
@@ -51,11 +54,51 @@ unsafe extern "C" {
         words_length: usize,
         byte: u8,
     ) -> u64;
+    fn foam_steps(
+        records: *const u8,
+        records_length: usize,
+        classes: *const u8,
+        classes_length: usize,
+        words: *mut u64,
+        words_length: usize,
+        bytes: *const u8,
+        bytes_length: usize,
+    ) -> u64;
+    fn foam_lines(
+        records: *const u8,
+        records_length: usize,
+        classes: *const u8,
+        classes_length: usize,
+        text: *const u8,
+        text_length: usize,
+        answers: *mut u8,
+        answers_length: usize,
+    ) -> u64;
+    fn foam_lines_table(
+        table: *const u16,
+        table_length: usize,
+        text: *const u8,
+        text_length: usize,
+        answers: *mut u8,
+        answers_length: usize,
+    ) -> u64;
     fn foam_widen(old: *const u8, old_length: usize, records: *mut u8, records_length: usize) -> u64;
     fn foam_pick(input: *const u8, input_length: usize, output: *mut u8, output_length: usize) -> u64;
+    fn foam_table(
+        records: *const u8,
+        records_length: usize,
+        classes: *const u8,
+        classes_length: usize,
+        table: *mut u16,
+        table_length: usize,
+        room: *mut u64,
+        room_length: usize,
+    ) -> u64;
+    fn foam_match_table(table: *const u16, table_length: usize, text: *const u8, text_length: usize) -> u64;
 }
 
 const FILL: u8 = 0xa5;
+const FILL_ENTRY: u16 = 0xa5a5;
 const FILL_WORD: u64 = 0xa5a5_a5a5_a5a5_a5a5;
 
 /// All 64 bits of an answer.
@@ -86,6 +129,9 @@ impl Answer {
     }
     fn found(part: Option<std::ops::Range<usize>>) -> Answer {
         part.map_or(Answer::yes_or_no(false), |part| Answer { refusal: 0, flag: 1, x: part.start, y: part.end })
+    }
+    fn made(table: &Table) -> Answer {
+        Answer { refusal: 0, flag: 1, x: table.states, y: table.entries.len() }
     }
     fn written(length: usize) -> Answer {
         Answer { refusal: 0, flag: 1, x: length, y: 0 }
@@ -248,6 +294,43 @@ pub fn pick(input: &[u8], room: usize, output: &[u8]) {
     hold("the first byte changed past the output", shown, past.iter().position(|&b| b != FILL), None);
 }
 
+/// Matches a text by any table.
+pub fn match_table(table: &[u16], text: &[u8]) {
+    let input = || format!("the table {table:?} and the text \"{}\"", text.escape_ascii());
+    // SAFETY: as above.
+    let answer = Answer::of(unsafe { foam_match_table(table.as_ptr(), table.len(), text.as_ptr(), text.len()) });
+    let expected = match table.len() {
+        HEADING.. => Answer::yes_or_no(tables::accepts(table, text)),
+        _ => Answer::refused(28, 0),
+    };
+    hold("matching by a table", input, answer, expected);
+}
+
+/// Answers all lines of a text by a table of steps, in a buffer of `room` bytes.
+pub fn lines_by_table(table: &[u16], text: &[u8], room: usize) {
+    let input = || format!("the table {table:x?}, the lines of \"{}\" and {room} bytes", text.escape_ascii());
+    let mut answers = vec![FILL; room];
+    let mut after = answers.clone();
+    // SAFETY: as above.
+    let answer = unsafe {
+        let (start, count) = (answers.as_mut_ptr(), answers.len());
+        foam_lines_table(table.as_ptr(), table.len(), text.as_ptr(), text.len(), start, count)
+    };
+    let lines = lines::lines(text);
+    let expected = match room < lines.len() {
+        _ if table.len() < HEADING => Answer::refused(28, 0),
+        _ if text.len() > 65_536 => Answer::refused(11, 0),
+        true => Answer::refused(9, 0),
+        false => {
+            let bytes: Vec<u8> = lines.iter().map(|line| tables::accepts(table, line) as u8).collect();
+            after[..bytes.len()].copy_from_slice(&bytes);
+            Answer { refusal: 0, flag: 0, x: lines.len(), y: bytes.iter().filter(|&&byte| byte == 1).count() }
+        }
+    };
+    hold("answering lines by a table", input, Answer::of(answer), expected);
+    hold("the answers by a table", input, &answers, &after);
+}
+
 /// A record list and the class records lent with it, with what the list holds if it is good.
 pub struct List {
     pub bytes: Vec<u8>,
@@ -255,7 +338,13 @@ pub struct List {
     good: Option<(Tree, Automaton)>,
     /// What it was read from, where that is known: its language is then taken from there.
     written: Option<Written>,
+    /// Its table of steps, once it is asked for, where it is small.
+    table: OnceCell<Option<Vec<u16>>>,
 }
+
+/// The table and the room that a list is given where its texts are also matched by a table.
+const SMALL_TABLE: usize = 1_500;
+const SMALL_ROOM: usize = 4_000;
 
 impl List {
     pub fn new(bytes: Vec<u8>, classes: Vec<u8>) -> List {
@@ -264,7 +353,7 @@ impl List {
             let automaton = expected::automaton(&tree, sets);
             (tree, automaton)
         });
-        List { bytes, classes, good, written: None }
+        List { bytes, classes, good, written: None, table: OnceCell::new() }
     }
     pub fn written(&self) -> &Written {
         self.written.as_ref().expect("only asked of a list that was read in the second syntax")
@@ -324,6 +413,32 @@ impl List {
         hold("matching", input, Answer::of(answer), matched);
         let answer = unsafe { foam_search(list, length, classes, classes_length, text.as_ptr(), text.len()) };
         hold("searching", input, Answer::of(answer), found);
+        if let (true, Some(table)) = (text.len() <= 65_536, self.table.get_or_init(|| self.compare_table(SMALL_TABLE, SMALL_ROOM))) {
+            // SAFETY: as above.
+            let answer = unsafe { foam_match_table(table.as_ptr(), table.len(), text.as_ptr(), text.len()) };
+            hold("matching by a table", input, Answer::of(answer), matched);
+        }
+    }
+
+    /// Makes a table in buffers of these lengths, held against its answer, every entry and every word. The table, if it is made.
+    pub fn compare_table(&self, length: usize, room: usize) -> Option<Vec<u16>> {
+        let input = || format!("the list {}, a table of {length} entries and {room} words of room", self.show());
+        let mut entries = vec![FILL_ENTRY; length];
+        let mut words = vec![FILL_WORD; room];
+        let (mut entries_after, mut words_after) = (entries.clone(), words.clone());
+        let (list, list_length, classes, classes_length) = self.slices();
+        let (table, scratch) = (entries.as_mut_ptr(), words.as_mut_ptr());
+        // SAFETY: as above.
+        let answer = unsafe { foam_table(list, list_length, classes, classes_length, table, length, scratch, room) };
+        let expected = self.usable().map(|(_, automaton)| {
+            words_after.fill(0);
+            tables::table(automaton, length, room).inspect(|table| entries_after[..table.entries.len()].copy_from_slice(&table.entries))
+        });
+        let expected = expected.map(|table| table.map_or(Answer::yes_or_no(false), |table| Answer::made(&table)));
+        hold("making a table", input, Answer::of(answer), expected.unwrap_or_else(|refused| refused));
+        hold("the table", input, &entries, &entries_after);
+        hold("the room", input, &words, &words_after);
+        (expected.is_ok_and(|answer| answer.flag == 1)).then_some(entries)
     }
 
     /// Starts in `room` words; gives back what they hold afterwards.
@@ -369,6 +484,59 @@ impl List {
         hold("stepping", input, Answer::of(answer), expected);
         hold("the words after a step", input, &words, &after);
         words
+    }
+
+    /// Steps along all bytes in one call, held against one step after the other, and against the words as they are where there
+    /// is no byte.
+    pub fn compare_steps(&self, before: &[u64], bytes: &[u8]) {
+        let input = || format!("the list {}, the words {before:x?} and the bytes \"{}\"", self.show(), bytes.escape_ascii());
+        let mut words = before.to_vec();
+        let mut after = before.to_vec();
+        let (list, length, classes, classes_length) = self.slices();
+        let (start, count) = (words.as_mut_ptr(), words.len());
+        // SAFETY: as above.
+        let answer = unsafe { foam_steps(list, length, classes, classes_length, start, count, bytes.as_ptr(), bytes.len()) };
+        let expected = match self.usable() {
+            Err(refused) => refused,
+            Ok(_) if before.len() < self.pieces() => Answer::refused(12, 0),
+            Ok((_, automaton)) => match automaton.marks(before) {
+                None => Answer::refused(13, 0),
+                Some(marks) => {
+                    let marks = bytes.iter().fold(marks, |marks, &byte| automaton.step(&marks, byte));
+                    after[..self.pieces()].copy_from_slice(&automaton.words(&marks));
+                    Answer::marked(&marks)
+                }
+            },
+        };
+        hold("stepping along bytes", input, Answer::of(answer), expected);
+        hold("the words after steps along bytes", input, &words, &after);
+        let mut single = before.to_vec();
+        bytes.iter().for_each(|&byte| single = self.compare_step(&single, byte));
+        hold("the words after one step for each byte", input, &words, &single);
+    }
+
+    /// Answers all lines of a text in one call, in a buffer of `room` bytes.
+    pub fn compare_lines(&self, text: &[u8], room: usize) {
+        let input = || format!("the list {}, the lines of \"{}\" and {room} bytes", self.show(), text.escape_ascii());
+        let mut answers = vec![FILL; room];
+        let mut after = answers.clone();
+        let (list, length, classes, classes_length) = self.slices();
+        let (start, count) = (answers.as_mut_ptr(), answers.len());
+        // SAFETY: as above.
+        let answer = unsafe { foam_lines(list, length, classes, classes_length, text.as_ptr(), text.len(), start, count) };
+        let lines = lines::lines(text);
+        let expected = match self.usable() {
+            Err(refused) => refused,
+            Ok(_) if text.len() > 65_536 => Answer::refused(11, 0),
+            Ok(_) if room < lines.len() => Answer::refused(9, 0),
+            Ok(_) => {
+                let bytes: Vec<u8> = lines.iter().map(|line| self.expected_answers(line).0.flag).collect();
+                after[..bytes.len()].copy_from_slice(&bytes);
+                Answer { refusal: 0, flag: 0, x: lines.len(), y: bytes.iter().filter(|&&byte| byte == 1).count() }
+            }
+        };
+        hold("answering lines", input, Answer::of(answer), expected);
+        hold("the answers", input, &answers, &after);
     }
 
     fn slices(&self) -> (*const u8, usize, *const u8, usize) {

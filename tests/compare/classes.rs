@@ -4,9 +4,9 @@
 use crate::calls::{self, List};
 use crate::expected::{self, CLASS_SIZE, RECORD_SIZE};
 use crate::generate::{self, Random};
-use crate::wrapper::foamlattice::{MOST_CLASS_BYTES, MOST_RECORD_BYTES};
 use crate::written::{self, MOST_NODES};
 use crate::{all_rows, compare_list, growing, steps};
+use foamlattice::slices::{MOST_CLASS_BYTES, MOST_RECORD_BYTES};
 
 /// Buffers that are long enough for every expression.
 pub const ENOUGH: [usize; 2] = [MOST_RECORD_BYTES, MOST_CLASS_BYTES];

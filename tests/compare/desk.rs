@@ -3,7 +3,7 @@
 
 use crate::calls;
 use crate::expected::{self, Automaton, Tree};
-use crate::wrapper::foamlattice::{MOST_OUTPUT, MOST_RECORD_BYTES};
+use foamlattice::slices::{MOST_OUTPUT, MOST_RECORD_BYTES};
 
 const EXPRESSIONS: &str = include_str!("../../crates/desk/stdin");
 const LEAP_DAY: &str = "02-29";

@@ -437,6 +437,15 @@ fn number(t: &Tree, piece: &[usize], root: usize, a: &mut Automaton) {
 }
 
 impl Automaton {
+    /// The starts of the leaves that may take a byte.
+    pub fn leaf_starts(&self) -> impl Iterator<Item = usize> + '_ {
+        let leaf = |kind: &Kind| matches!(kind, Kind::Character(_) | Kind::Class(_));
+        self.kinds.iter().enumerate().filter(move |(_, kind)| leaf(kind)).map(|(i, _)| 2 * i)
+    }
+    /// Which nodes take a byte.
+    pub fn taken_by(&self, byte: u8) -> Vec<bool> {
+        self.kinds.iter().map(|kind| takes(kind, &self.sets, byte)).collect()
+    }
     fn close(&self, marks: &mut [bool]) {
         let mut todo: Vec<usize> = (0..marks.len()).filter(|&s| marks[s]).collect();
         while let Some(s) = todo.pop() {

@@ -1,28 +1,30 @@
 //! Compares the proved library, through its C interface, with an independent implementation: on all short expressions, all
 //! bytes, all lists with one byte changed, and on inputs from a fixed seed, the small ones first. Prints how many inputs of
-//! each kind agreed; the first difference ends the run with status 1, and so do fewer inputs than 2,300,000.
+//! each kind agreed; the first difference ends the run with status 1, and so do fewer inputs than 2,400,000.
 
 mod calls;
 mod classes;
 mod desk;
 mod expected;
 mod generate;
+mod lines;
 mod pick;
 mod places;
 mod program;
 mod signs;
-mod wrapper;
+mod tables;
 mod written;
 
 use calls::List;
 use expected::RECORD_SIZE;
+use foamlattice::slices::{MOST_RECORD_BYTES, MOST_WORDS};
 use generate::Random;
-use wrapper::foamlattice::{MOST_RECORD_BYTES, MOST_WORDS};
+use std::sync::atomic::{AtomicUsize, Ordering::Relaxed};
 
 const SIGNS: &[u8] = b"ab()|*\\";
 
 /// A run that compares fewer inputs fails: something was left out.
-const FEWEST_INPUTS: usize = 2_300_000;
+const FEWEST_INPUTS: usize = 2_400_000;
 
 /// The bytes that an expression's records need; some number for one that is refused.
 fn need(e: &[u8]) -> usize {
@@ -288,14 +290,33 @@ fn long_texts(_: &mut Random) -> usize {
 /// Compares inputs of one kind, and says how many.
 type Compare = fn(&mut Random) -> usize;
 
+/// Compares all kinds, as many at a time as there are processors, each from a seed of its own. How many inputs there were.
+fn compare_all(kinds: &[(&str, Compare)]) -> usize {
+    let (next, total) = (AtomicUsize::new(0), AtomicUsize::new(0));
+    let work = || {
+        while let Some((seed, (what, compare))) = kinds.iter().enumerate().nth(next.fetch_add(1, Relaxed)) {
+            let count = compare(&mut Random::new(0x2902_2028_0301_0366 + seed as u64));
+            println!("{count} {what} agree");
+            total.fetch_add(count, Relaxed);
+        }
+    };
+    let workers = std::thread::available_parallelism().map_or(1, |count| count.get());
+    std::thread::scope(|scope| (0..workers).for_each(|_| drop(scope.spawn(work))));
+    total.into_inner()
+}
+
 fn main() {
-    let kinds: [(&str, Compare); 49] = [
-        ("edges through the Rust wrapper", |_| wrapper::compare()),
+    let kinds: [(&str, Compare); 57] = [
         ("short expressions", short_expressions),
         ("pairs of bytes", all_bytes),
         ("random expressions", random_expressions),
         ("matches and searches", matches),
         ("runs of starts and steps", runs_of_steps),
+        ("lines of short texts", lines::short_texts),
+        ("lines of random texts", lines::random_lines),
+        ("lines of long texts", lines::long_texts),
+        ("lines by tables", lines::by_tables),
+        ("steps along rows of bytes", lines::steps_along),
         ("lists with one byte changed", changed_lists),
         ("damaged lists", damaged_lists),
         ("dates", |_| desk::compare()),
@@ -336,17 +357,15 @@ fn main() {
         ("old lists of expressions and trees", places::old_lists),
         ("old lists with one byte changed", places::changed_old_lists),
         ("damaged old lists", places::damaged_old_lists),
+        ("sizes of tables", tables::sizes),
+        ("tables that grow", tables::growing),
+        ("tables of any numbers", tables::any_tables),
+        ("damaged tables", tables::damaged_tables),
         ("runs of pick", pick::compare_runs),
         ("runs of pick in parts", pick::compare_runs_in_parts),
         ("calls of pick", pick::compare_calls),
     ];
-    let mut r = Random::new(0x2902_2028_0301_0366);
-    let mut total = 0;
-    for (what, compare) in kinds {
-        let count = compare(&mut r);
-        println!("{count} {what} agree");
-        total += count;
-    }
+    let total = compare_all(&kinds);
     if total < FEWEST_INPUTS {
         println!("only {total} inputs compared, fewer than {FEWEST_INPUTS}");
         std::process::exit(1);

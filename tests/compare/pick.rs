@@ -1,8 +1,8 @@
 //! The program `pick` and the library's call of it, against the output as docs/REFERENCE.md describes it.
 
 use crate::generate::{self, Random};
-use crate::wrapper::foamlattice::MOST_OUTPUT;
 use crate::{calls, expected, growing, program};
+use foamlattice::slices::MOST_OUTPUT;
 use std::process::Output;
 use std::time::Duration;
 
@@ -45,11 +45,16 @@ fn expected_output(input: &[u8]) -> String {
     out + &format!("total {} yes {yes} no {}\n", texts.len(), texts.len() - yes)
 }
 
-/// Holds what the program printed against what it should print for all parts of its input together.
-fn hold(parts: &[&[u8]], output: Output) {
+/// The exit status of the script for an output: 1 where the expression or the whole input is refused.
+fn script_status(output: &str) -> i32 {
+    i32::from(output.starts_with("refused") || output == "input too long\n")
+}
+
+/// Holds what was printed, and the exit status, against what they should be for all parts of the input together.
+fn hold(parts: &[&[u8]], output: Output, status: fn(&str) -> i32) {
     let input = parts.concat();
     let expected = expected_output(&input);
-    if output.stdout != expected.as_bytes() || !output.status.success() {
+    if output.stdout != expected.as_bytes() || output.status.code() != Some(status(&expected)) {
         let sent: Vec<usize> = parts.iter().map(|part| part.len()).collect();
         println!("pick differs on \"{}\", sent in parts of {sent:?} bytes", input.escape_ascii());
         println!(
@@ -63,7 +68,7 @@ fn hold(parts: &[&[u8]], output: Output) {
 }
 
 fn compare_parts(parts: &[&[u8]], pause: Duration) {
-    hold(parts, program::run_in_parts(parts, pause));
+    hold(parts, program::run_in_parts(parts, pause), script_status);
 }
 
 fn compare_run(input: &[u8]) {
@@ -215,7 +220,8 @@ pub fn compare_runs_in_parts(r: &mut Random) -> usize {
         for pause in [0, 1, 20] {
             compare_parts(&bytes, Duration::from_millis(pause));
         }
-        hold(&bytes, program::run_interrupted(&bytes));
+        // The program itself has no exit status but 0.
+        hold(&bytes, program::run_interrupted(&bytes), |_| 0);
         count += 4;
     }
     for length in [4_095, 4_096, 4_097, 8_192, 65_535, 65_536, 65_537] {
@@ -231,12 +237,33 @@ pub fn compare_runs_in_parts(r: &mut Random) -> usize {
     count
 }
 
+/// An expression and lines over its letters, with so many bytes of texts.
+fn input_of_texts(r: &mut Random, e: &[u8], bytes: usize) -> Vec<u8> {
+    let mut texts = vec![];
+    while texts.len() < bytes {
+        texts.extend(if r.one_in(2) { generate::text(r, e, 40) } else { r.bytes(20, b"ab") });
+        texts.push(b'\n');
+    }
+    [e, b"\n", &texts[..bytes]].concat()
+}
+
+/// Inputs on both sides of the 4,000 and 8,000 bytes of texts from which on there is room for a table of steps: of
+/// expressions with 2 to the n + 1 states, for n = 8 too many for the small room, from n = 9 on for the large one, of one with
+/// too many pieces for both, and of random ones.
+fn inputs_for_tables(r: &mut Random) -> Vec<Vec<u8>> {
+    let growing = [1, 4, 8, 9, 12].map(|n| ["(a|b)*a", &"(a|b)".repeat(n)].concat().into_bytes());
+    let mut expressions = [&growing[..], &[vec![b'a'; 897], b"(a|\0|\xff)*b".to_vec()]].concat();
+    expressions.extend((0..20).map(|_| random_expression(r, 30, b"ab\xff")));
+    let sizes = [3_999, 4_000, 7_999, 8_000, 20_000];
+    expressions.iter().flat_map(|e| sizes.map(|bytes| input_of_texts(r, e, bytes))).collect()
+}
+
 fn compare_call(input: &[u8], room: usize) {
     calls::pick(input, room, expected_output(input).as_bytes());
 }
 
 /// The library's call on the edges and all beginnings of the short ones, on random inputs over a few bytes and over all, and
-/// on long ones; in buffers that just fit, have bytes to spare, or are too short.
+/// on long ones, with and without a table of steps; in buffers that just fit, have bytes to spare, or are too short.
 pub fn compare_calls(r: &mut Random) -> usize {
     let mut count = 0;
     for input in edges() {
@@ -257,9 +284,8 @@ pub fn compare_calls(r: &mut Random) -> usize {
         let input = random_input(r, size, letters);
         compare_call(&input, if r.one_in(8) { MOST_OUTPUT - 1 - r.below(2_000) } else { MOST_OUTPUT + r.below(3) });
     }
-    let lengths = [60_000, 65_535, 65_536, 65_536, 65_536, 65_537];
-    for length in lengths {
-        compare_call(&long_input(r, length), MOST_OUTPUT);
-    }
-    count + rounds + lengths.len()
+    let mut long = inputs_for_tables(r);
+    long.extend([60_000, 65_535, 65_536, 65_536, 65_536, 65_537].map(|length| long_input(r, length)));
+    long.iter().for_each(|input| compare_call(input, MOST_OUTPUT));
+    count + rounds + long.len()
 }

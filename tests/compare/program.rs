@@ -1,5 +1,5 @@
-//! The program `pick` as a process, started through the script at the top: its standard input sent in parts, with pauses or
-//! interrupted by a signal; standard input or output that fails.
+//! `pick` as a process, started through the script at the top, or as the program itself where a signal has to reach it: its
+//! standard input sent in parts, with pauses or interrupted by a signal; standard input or output that fails.
 
 use std::fs::File;
 use std::io::Write;
@@ -26,10 +26,14 @@ const SHORT: Duration = Duration::from_millis(2);
 /// Nothing that is waited for takes as long in a program that reads on.
 const LONG: Duration = Duration::from_secs(2);
 
-fn pick() -> Command {
-    let mut pick = Command::new("./pick");
+fn piped(name: &str) -> Command {
+    let mut pick = Command::new(name);
     pick.stdin(Stdio::piped()).stdout(Stdio::piped()).stderr(Stdio::piped());
     pick
+}
+
+fn pick() -> Command {
+    piped("./pick")
 }
 
 fn wait_until(holds: impl Fn() -> bool) {
@@ -81,13 +85,14 @@ fn stop_and_continue(process: u32) {
     unsafe { kill(process as i32, SIGCONT) };
 }
 
-/// What the program prints where each of its reads but the first is interrupted. A read of a socket that has a time limit
-/// fails with EINTR when the process was stopped and goes on, without any handler.
+/// What the program prints where each of its reads but the first is interrupted: the program itself, since it is the process
+/// that is stopped. A read of a socket that has a time limit fails with EINTR when the process was stopped and goes on,
+/// without any handler.
 pub fn run_interrupted(parts: &[&[u8]]) -> Output {
     let (mut ours, theirs) = UnixStream::pair().expect("a pair of sockets");
     theirs.set_read_timeout(Some(60 * LONG)).expect("a time limit");
     let seen = theirs.try_clone().expect("the same socket");
-    let run = pick().stdin(Stdio::from(OwnedFd::from(theirs))).spawn().expect("./pick runs");
+    let run = piped("target/bin/pick").stdin(Stdio::from(OwnedFd::from(theirs))).spawn().expect("the program runs");
     for part in parts {
         ours.write_all(part).expect("the program reads on");
         wait_until_read(&seen);
@@ -95,29 +100,30 @@ pub fn run_interrupted(parts: &[&[u8]]) -> Output {
         stop_and_continue(run.id());
     }
     drop(ours);
-    run.wait_with_output().expect("./pick ends")
+    run.wait_with_output().expect("the program ends")
 }
 
 fn ends_with(mut pick: Command, what: &str, stdout: &str, stderr: &str) {
     let run = pick.output().expect("./pick runs");
     let printed = (String::from_utf8_lossy(&run.stdout), String::from_utf8_lossy(&run.stderr));
     assert_eq!(printed, (stdout.into(), stderr.into()), "{what}: what is printed differs");
-    assert!(run.status.success(), "{what}: {}", run.status);
+    assert_eq!(run.status.code(), Some(2), "{what}: {}", run.status);
 }
 
-/// A failed read or write is told on standard error, and nothing is printed; a pipe that nobody reads ends the program.
+/// A failed read or write is told on standard error, and nothing is printed; a pipe that nobody reads ends the program, and
+/// the script as the program.
 /// Answers how many of these were tried.
 pub fn compare_failures() -> usize {
     let sample = || Stdio::from(File::open("samples/february.txt").expect("the sample"));
     let mut directory = pick();
     directory.stdin(File::open(".").expect("a directory"));
-    ends_with(directory, "a directory as input", "", "standard input: Is a directory\n");
+    ends_with(directory, "a directory as input", "", "pick: standard input: Is a directory\n");
     let mut full = pick();
     full.stdin(sample()).stdout(File::create("/dev/full").expect("the full device"));
-    ends_with(full, "a full device as output", "", "standard output: No space left on device\n");
+    ends_with(full, "a full device as output", "", "pick: standard output: No space left on device\n");
     let mut closed = Command::new("sh");
     closed.args(["-c", "./pick samples/february.txt >&-"]);
-    ends_with(closed, "a closed output", "", "standard output: Bad file descriptor\n");
+    ends_with(closed, "a closed output", "", "pick: standard output: Bad file descriptor\n");
     let mut run = pick().spawn().expect("./pick runs");
     drop(run.stdout.take());
     run.stdin.take().expect("it was piped").write_all(b"a\na\n").expect("the program reads");

@@ -5,9 +5,9 @@ use crate::calls::{self, List};
 use crate::classes::{compare_rooms, need, ENOUGH};
 use crate::expected;
 use crate::generate::{self, Random};
-use crate::wrapper::foamlattice::MOST_RECORD_BYTES;
 use crate::written::{self, MOST_NODES};
 use crate::{all_rows, compare_list, growing, steps};
+use foamlattice::slices::MOST_RECORD_BYTES;
 
 fn count(fewest: usize, most: usize) -> Vec<u8> {
     format!("{{{fewest},{most}}}").into_bytes()
@@ -318,8 +318,7 @@ pub fn largest(_: &mut Random) -> usize {
     let full = b"((a{16,16}){16,16}){4,4}";
     let nodes = |e: &[u8]| written::read(e).map_or(0, |written| written.nodes());
     assert_eq!(nodes(full), MOST_NODES);
-    let behind: [&[u8]; 12] =
-        [b"", b"*", b"+", b"?", b"b", b"{1,1}", b"{0,1}", b"|b", b")", b"{", b"*{1,1}", b"{1,1}{1,1}{1,1}"];
+    let behind: [&[u8]; 12] = [b"", b"*", b"+", b"?", b"b", b"{1,1}", b"{0,1}", b"|b", b")", b"{", b"*{1,1}", b"{1,1}{1,1}{1,1}"];
     for more in behind {
         calls::read_second(&[&full[..], more].concat(), ENOUGH);
         calls::read_second(&[b"(", &full[..], more, b")"].concat(), ENOUGH);

@@ -16,14 +16,20 @@ const BEGIN: &str = "<!-- made by tests/definitions/run -->\n";
 const END: &str = "<!-- end -->\n";
 
 /// The functions that make up the product, by their source files.
-const ENTRY_POINTS: [(&str, &[&str]); 8] = [
+const ENTRY_POINTS: [(&str, &[&str]); 14] = [
     ("deciding/src/good.rt", &["decide"]),
     ("widen/src/lib.rt", &["widen"]),
     ("checker/src/lib.rt", &["check", "check_second"]),
     ("reader/src/lib.rt", &["read", "read_second"]),
-    ("marks/src/lib.rt", &["start", "step"]),
+    ("marks/src/lib.rt", &["start", "step", "steps"]),
     ("finder/src/lib.rt", &["is_match", "search"]),
+    ("lines/src/lib.rt", &["lines"]),
+    ("running/src/lib.rt", &["match_table"]),
+    ("table_lines/src/lib.rt", &["lines_by_table"]),
+    ("making/src/lib.rt", &["make_table"]),
     ("picker/src/lib.rt", &["pick"]),
+    ("showing/src/lib.rt", &["refusal"]),
+    ("explaining/src/lib.rt", &["explain"]),
     (
         "foamlattice/src/lib.rt",
         &[
@@ -35,6 +41,11 @@ const ENTRY_POINTS: [(&str, &[&str]); 8] = [
             "foam_search",
             "foam_start",
             "foam_step",
+            "foam_steps",
+            "foam_lines",
+            "foam_lines_table",
+            "foam_table",
+            "foam_match_table",
             "foam_widen",
             "foam_pick",
         ],

@@ -1,11 +1,8 @@
 //! Tries the examples of docs/REFERENCE.md on the library: each row of a table whose head is known here. Prints how many
 //! examples were tried; one that the library answers otherwise, or fewer than 280 of them, ends the run with status 1.
 
-#[allow(dead_code)]
-#[path = "../../rust/foamlattice.rs"]
-mod foamlattice;
-
-use foamlattice::{Counts, Expression, Refusal, MOST_CLASS_BYTES, MOST_OUTPUT, MOST_RECORD_BYTES};
+use foamlattice::slices::{self, Counts, MOST_CLASS_BYTES, MOST_RECORD_BYTES, RECORD_SIZE};
+use foamlattice::{Expression, Reason, Refusal};
 use std::fs;
 use std::process::exit;
 
@@ -56,22 +53,22 @@ fn expression(example: &str) -> Vec<u8> {
 /// What reading an example answers, into a buffer of the length that it names.
 fn read(example: &str) -> Result<Counts, Refusal> {
     let mut records = vec![0; after(example, " into ").unwrap_or(MOST_RECORD_BYTES)];
-    foamlattice::read(&expression(example), &mut records)
+    slices::read(&expression(example), &mut records)
 }
 
 /// What reading an example in the second syntax answers, into a class buffer of the length that it names.
 fn read_second(example: &str) -> Result<Counts, Refusal> {
     let mut records = vec![0; MOST_RECORD_BYTES];
     let mut classes = vec![0; after(example, " into ").unwrap_or(MOST_CLASS_BYTES)];
-    foamlattice::read_second(&expression(example), &mut records, &mut classes)
+    slices::read2(&expression(example), &mut records, &mut classes)
 }
 
 /// What a match with an example's list answers, with as many bytes of its classes, or more, as it names.
 fn match_with_classes(example: &str, length: usize) -> Result<bool, Refusal> {
-    let read = Expression::second(&expression(example)).expect("an expression that is read");
+    let read = Expression::new(&expression(example)).expect("an expression that is read");
     let mut classes = read.classes().to_vec();
     classes.resize(length, 0);
-    foamlattice::is_match(read.records(), &classes, b"a")
+    slices::is_full_match(read.records(), &classes, b"a")
 }
 
 /// The bytes that an example writes in hexadecimal.
@@ -82,13 +79,13 @@ fn hexadecimal(example: &str) -> Vec<u8> {
 
 /// Whether the bytes that an example writes in hexadecimal are a good list.
 fn good(example: &str) -> bool {
-    foamlattice::is_match(&hexadecimal(example), b"", b"") != Err(Refusal { number: 10, place: 0 })
+    slices::is_full_match(&hexadecimal(example), b"", b"").err().is_none_or(|refusal| refusal.reason() != Reason::List)
 }
 
 /// What an example's expression is read as: in the second syntax where it says so.
 fn list(example: &str) -> Expression {
     let second = example.contains("of the second syntax");
-    let read = if second { Expression::second } else { Expression::first };
+    let read = if second { Expression::new } else { Expression::plain };
     read(&expression(example)).expect("an expression that is read")
 }
 
@@ -103,27 +100,24 @@ fn words(example: &str) -> Vec<u64> {
 fn refusal(example: &str) -> u8 {
     let list = list(example);
     let answer = match after(example, " on ") {
-        Some(length) => list.is_match(&vec![b'a'; length]).err(),
-        None if example.contains(" from ") => list.step(&mut words(example), b'a').err(),
-        None => list.start(&mut words(example)).err(),
+        Some(length) => slices::is_full_match(list.records(), list.classes(), &vec![b'a'; length]).err(),
+        None if example.contains(" from ") => slices::step(list.records(), list.classes(), &mut words(example), b'a').err(),
+        None => slices::start(list.records(), list.classes(), &mut words(example)).err(),
     };
-    answer.map_or(0, |refused| refused.number)
+    answer.map_or(0, |refused| refused.number())
 }
 
 /// The words and the flag after a start and a step for each byte of a text.
-fn marks(list: &Expression, text: &str, pieces: usize) -> (Vec<usize>, bool) {
-    let mut words = vec![0; pieces];
-    let start = list.start(&mut words);
-    let flag = text.bytes().fold(start, |_, byte| list.step(&mut words, byte));
-    (words.iter().map(|w| *w as usize).collect(), flag.is_ok_and(|told| told.accepting))
+fn marks(list: &Expression, text: &str) -> (Vec<usize>, bool) {
+    let mut marks = list.marks();
+    marks.steps(text.as_bytes());
+    (marks.words().iter().map(|w| *w as usize).collect(), marks.is_full_match())
 }
 
 /// What `pick` prints for an example's input.
 fn picked(example: &str) -> String {
     let input = quoted(example).first().map_or(String::new(), |q| q.replace('⏎', "\n").replace('␍', "\r"));
-    let mut output = vec![0; MOST_OUTPUT];
-    let printed = foamlattice::pick(input.as_bytes(), &mut output).expect("the buffer is long enough");
-    String::from_utf8_lossy(printed).into_owned()
+    String::from_utf8_lossy(&foamlattice::pick(&input)).into_owned()
 }
 
 /// Whether an example that is read has the counts that it names.
@@ -133,12 +127,17 @@ fn counts_fit(example: &str, answer: Result<Counts, Refusal>) -> bool {
     answer.is_ok_and(|c| named("record").is_none_or(|n| n == c.records) && named("piece").is_none_or(|n| n == c.pieces))
 }
 
+/// The number and the place of a refusal.
+fn fault<T>(answer: Result<T, Refusal>) -> Option<(u8, usize)> {
+    answer.err().map(|refusal| (refusal.number(), refusal.place()))
+}
+
 /// Whether an example of the refusal `no` is answered so; one of writing in both syntaxes.
 fn refused(no: u8, example: &str) -> bool {
-    let refusal_there = Refusal { number: no, place: after(example, " at ").unwrap_or(0) };
+    let there = Some((no, after(example, " at ").unwrap_or(0)));
     match no {
-        1..=8 => read(example) == Err(refusal_there) && read_second(example) == Err(refusal_there),
-        9 => read(example) == Err(refusal_there),
+        1..=8 => fault(read(example)) == there && fault(read_second(example)) == there,
+        9 => fault(read(example)) == there,
         10 => !good(example),
         _ => refusal(example) == no,
     }
@@ -156,10 +155,10 @@ fn taken(no: u8, example: &str) -> bool {
 
 /// The refusal, if any, that an example of the second syntax is answered with: by reading or, where bytes of classes are
 /// lent with its list, by a match.
-fn answered_second(example: &str) -> Option<Refusal> {
+fn answered_second(example: &str) -> Option<(u8, usize)> {
     match after(example, " with ") {
-        Some(length) => match_with_classes(example, length).err(),
-        None => read_second(example).err(),
+        Some(length) => fault(match_with_classes(example, length)),
+        None => fault(read_second(example)),
     }
 }
 
@@ -170,8 +169,8 @@ fn try_row(above: &str, head: &[String], row: &[String]) -> Vec<(String, bool)> 
     let mut note = |example: &str, fits: bool| tried.push((example.to_string(), fits));
     if let (Some(no), Some(gives), Some(nearest)) = (column("No."), column("Gives it in the second"), column("Nearest")) {
         let number = number(no).expect("a refusal's number") as u8;
-        let refusal = |example| Refusal { number, place: after(example, " at ").unwrap_or(0) };
-        examples(gives).for_each(|example| note(example, answered_second(example) == Some(refusal(example))));
+        let there = |example| (number, after(example, " at ").unwrap_or(0));
+        examples(gives).for_each(|example| note(example, answered_second(example) == Some(there(example))));
         examples(nearest).for_each(|example| note(example, answered_second(example).is_none()));
     } else if let (Some(example), Some(nodes), Some(classes)) = (column("Expression of the"), column("Nodes"), column("Classes"))
     {
@@ -188,13 +187,13 @@ fn try_row(above: &str, head: &[String], row: &[String]) -> Vec<(String, bool)> 
     } else if let Some(list) = column("List that is not good") {
         examples(list).filter(|e| e.starts_with('`')).for_each(|example| note(example, !good(example)));
     } else if let (Some(record), Some(bytes)) = (column("Record"), column("Bytes")) {
-        let at = number(record).expect("a record's number") * foamlattice::RECORD_SIZE;
-        note(bytes, list(above).records()[at..at + foamlattice::RECORD_SIZE] == hexadecimal(bytes));
+        let at = number(record).expect("a record's number") * RECORD_SIZE;
+        note(bytes, list(above).records()[at..at + RECORD_SIZE] == hexadecimal(bytes));
     } else if let (Some(text), Some(accepting)) = (column("After"), column("Accepting")) {
         let words = head.iter().zip(row).filter(|(h, _)| h.starts_with("Word")).filter_map(|(_, w)| number(w));
         let words: Vec<usize> = words.collect();
         let text = quoted(text).first().copied().unwrap_or("");
-        note(text, marks(&list(above), text, words.len()) == (words, accepting == "yes"));
+        note(text, marks(&list(above), text) == (words, accepting == "yes"));
     } else if let (Some(inputs), Some(printed)) = (column("Input, with"), column("Printed")) {
         let lines: String = quoted(printed).iter().map(|line| format!("{line}\n")).collect();
         examples(inputs).for_each(|example| note(example, picked(example) == lines));
