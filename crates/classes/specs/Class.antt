@@ -79,41 +79,41 @@ pub data Inside : Type 0 where
   last-escaped : (first : ℕ) → Inside
 
 -- what one byte makes of it: the reading goes on, the class is whole, or it is not of the form
-pub data Step : Type 0 where
-  goes-on : Class → Inside → Step
-  whole : Class → Step
-  faulty : Step
+pub data Class-step : Type 0 where
+  goes-on : Class → Inside → Class-step
+  whole : Class → Class-step
+  faulty : Class-step
 
 -- where an item is due: it begins, or the `]` ends the class
-abbrev pub due-step : Class-sign → ℕ → Class → Step
-due-step slash b class = goes-on class item-escaped
-due-step ending b class = cond (items-fit (class .items)) (whole class) faulty
-due-step caret b class = faulty
-due-step dash b class = faulty
-due-step ordinary b class = goes-on class (byte-read b)
+abbrev pub item-due-step : Class-sign → ℕ → Class → Class-step
+item-due-step slash b class = goes-on class item-escaped
+item-due-step ending b class = cond (items-fit (class .items)) (whole class) faulty
+item-due-step caret b class = faulty
+item-due-step dash b class = faulty
+item-due-step ordinary b class = goes-on class (byte-read b)
 
 -- right after the `[` a `^` may stand
-abbrev pub opened-step : Class-sign → ℕ → Class → Step
+abbrev pub opened-step : Class-sign → ℕ → Class → Class-step
 opened-step caret b class = goes-on (record { all-but = true; items = class .items }) item-due
-opened-step slash b class = due-step slash b class
-opened-step ending b class = due-step ending b class
-opened-step dash b class = due-step dash b class
-opened-step ordinary b class = due-step ordinary b class
+opened-step slash b class = item-due-step slash b class
+opened-step ending b class = item-due-step ending b class
+opened-step dash b class = item-due-step dash b class
+opened-step ordinary b class = item-due-step ordinary b class
 
 -- after a byte, a `-` makes a range of it; else it is an item of its own
-abbrev pub byte-step : Class-sign → ℕ → Class → (first : ℕ) → Step
+abbrev pub byte-step : Class-sign → ℕ → Class → (first : ℕ) → Class-step
 byte-step dash b class first = goes-on class (last-due first)
-byte-step slash b class first = due-step slash b (with-item class (from-to first first))
-byte-step ending b class first = due-step ending b (with-item class (from-to first first))
-byte-step caret b class first = due-step caret b (with-item class (from-to first first))
-byte-step ordinary b class first = due-step ordinary b (with-item class (from-to first first))
+byte-step slash b class first = item-due-step slash b (with-item class (from-to first first))
+byte-step ending b class first = item-due-step ending b (with-item class (from-to first first))
+byte-step caret b class first = item-due-step caret b (with-item class (from-to first first))
+byte-step ordinary b class first = item-due-step ordinary b (with-item class (from-to first first))
 
 -- a range ends with this byte, which its first byte must not be above
-abbrev pub range-step : (last : ℕ) → Class → (first : ℕ) → Step
+abbrev pub range-step : (last : ℕ) → Class → (first : ℕ) → Class-step
 range-step last class first = cond (ltb last first) faulty (goes-on (with-item class (from-to first last)) item-due)
 
 -- where the last byte of a range is due
-abbrev pub last-step : Class-sign → ℕ → Class → (first : ℕ) → Step
+abbrev pub last-step : Class-sign → ℕ → Class → (first : ℕ) → Class-step
 last-step slash b class first = goes-on class (last-escaped first)
 last-step ending b class first = faulty
 last-step caret b class first = faulty
@@ -121,9 +121,9 @@ last-step dash b class first = faulty
 last-step ordinary b class first = range-step b class first
 
 -- one byte, by where the reading stands
-abbrev pub class-step : ℕ → Class → Inside → Step
+abbrev pub class-step : ℕ → Class → Inside → Class-step
 class-step b class opened = opened-step (class-sign b) b class
-class-step b class item-due = due-step (class-sign b) b class
+class-step b class item-due = item-due-step (class-sign b) b class
 class-step b class (byte-read first) = byte-step (class-sign b) b class first
 class-step b class (last-due first) = last-step (class-sign b) b class first
 class-step b class item-escaped = cond (needs-slash (class-sign b)) (goes-on class (byte-read b)) faulty

@@ -6,14 +6,14 @@ use mathlib.Core.List.{List}
 use lib.ListN.{length, drop, getD}
 use lib.Dec.{eqb}
 use Rattle.classes.specs.Class.{Class, the-dot, unread, opened}
-use Rattle.classes.specs.ClassRun.{Ran, found, failed, run}
+use Rattle.classes.specs.ClassRun.{Class-ran, found, failed, class-run}
 
 -- the reading of the class whose `[` stands at a place
-unfoldable pub run-at : List ℕ → (at : ℕ) → Ran
-run-at bytes at = run (drop (at + 1) bytes) (at + 1) unread opened
+unfoldable pub run-at : List ℕ → (at : ℕ) → Class-ran
+run-at bytes at = class-run (drop (at + 1) bytes) (at + 1) unread opened
 
 -- the class that was found
-abbrev pub class-of-run : Ran → Class
+abbrev pub class-of-run : Class-ran → Class
 class-of-run (found class rest next) = class
 class-of-run failed = unread
 

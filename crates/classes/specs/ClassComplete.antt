@@ -27,7 +27,7 @@ use Rattle.classes.specs.Class.{
   item-due,
   byte-read,
   last-due,
-  due-step,
+  item-due-step,
   opened-step,
   byte-step,
 }
@@ -45,7 +45,7 @@ use Rattle.classes.specs.ClassGrammar.{
   these,
   all-but-these,
 }
-use Rattle.classes.specs.ClassRun.{found, ran-on, run}
+use Rattle.classes.specs.ClassRun.{found, class-ran-on, class-run}
 
 -- a byte that needs no `\` is none of the four
 pub no-slash : (s : Class-sign) → needs-slash s ≡ false → s ≡ ordinary
@@ -56,26 +56,27 @@ no-slash caret e = cc
 no-slash dash e = cc
 
 -- the reading goes on over these bytes, up to the place that many bytes further
-pub record Runs-on (bytes rest : List ℕ) (place : ℕ) (class : Class) (inside : Inside) (later : Class)
+pub record Class-runs-on (bytes rest : List ℕ) (place : ℕ) (class : Class) (inside : Inside) (later : Class)
     (further : Inside)
     : Type 0 where
   pub next : ℕ
   pub counted : next + length rest ≡ place + length bytes
-  pub same : run bytes place class inside ≡ run rest next later further
+  pub same : class-run bytes place class inside ≡ class-run rest next later further
 
 -- a byte where an item is due
 pub byte-passes : {bytes rest : List ℕ} {b : ℕ} → Spells-byte bytes rest b → (place : ℕ) (class : Class)
-    → Runs-on bytes rest place class item-due class (byte-read b)
-unfolding run
+    → Class-runs-on bytes rest place class item-due class (byte-read b)
+unfolding class-run
 byte-passes (bare {b} p) place class =
     record { next = place + 1; counted = omega arith; same = rw (no-slash (class-sign b) p) }
 byte-passes (slashed p) place class = record { next = place + 1 + 1; counted = omega arith; same = rw p }
 
 -- a byte where the last one of a range is due
 pub last-passes : {bytes rest : List ℕ} {last : ℕ} → Spells-byte bytes rest last → (place : ℕ) (class : Class)
-    (first : ℕ) → first ≤ last → Runs-on bytes rest place class (last-due first) (with-item class (from-to first last))
+    (first : ℕ) → first ≤ last → Class-runs-on bytes rest place class (last-due first)
+    (with-item class (from-to first last))
     item-due
-unfolding run
+unfolding class-run
 last-passes (bare {b} p) place class first h =
     record {
       next = place + 1;
@@ -97,14 +98,16 @@ No-caret (b ∷ rest) = class-sign b ≡ caret → ⊥
 
 -- a byte that no `-` follows is an item
 pub byte-done : (rest : List ℕ) (place : ℕ) (class : Class) (first : ℕ) → No-dash rest
-    → run rest place class (byte-read first) ≡ run rest place (with-item class (from-to first first)) item-due
-unfolding run
+    → class-run rest place class (byte-read first)
+    ≡ class-run rest place (with-item class (from-to first first)) item-due
+unfolding class-run
 byte-done [] place class first h = refl
 byte-done (b ∷ rest) place class first h = go (class-sign b) h
   where
     go : (s : Class-sign) → (s ≡ dash → ⊥)
-        → ran-on (byte-step s b class first) rest (place + 1) (run rest (place + 1))
-        ≡ ran-on (due-step s b (with-item class (from-to first first))) rest (place + 1) (run rest (place + 1))
+        → class-ran-on (byte-step s b class first) rest (place + 1) (class-run rest (place + 1))
+        ≡ class-ran-on (item-due-step s b (with-item class (from-to first first))) rest (place + 1)
+        (class-run rest (place + 1))
     go dash k = absurd (k refl)
     go slash k = refl
     go ending k = refl
@@ -113,13 +116,14 @@ byte-done (b ∷ rest) place class first h = go (class-sign b) h
 
 -- right after the `[`, where no `^` stands, an item is due
 pub opened-due : (rest : List ℕ) (place : ℕ) (class : Class) → No-caret rest
-    → run rest place class opened ≡ run rest place class item-due
-unfolding run
+    → class-run rest place class opened ≡ class-run rest place class item-due
+unfolding class-run
 opened-due [] place class h = refl
 opened-due (b ∷ rest) place class h = go (class-sign b) h
   where
-    go : (s : Class-sign) → (s ≡ caret → ⊥) → ran-on (opened-step s b class) rest (place + 1) (run rest (place + 1))
-        ≡ ran-on (due-step s b class) rest (place + 1) (run rest (place + 1))
+    go : (s : Class-sign) → (s ≡ caret → ⊥)
+        → class-ran-on (opened-step s b class) rest (place + 1) (class-run rest (place + 1))
+        ≡ class-ran-on (item-due-step s b class) rest (place + 1) (class-run rest (place + 1))
     go caret k = absurd (k refl)
     go slash k = refl
     go ending k = refl
@@ -156,8 +160,8 @@ items-no-caret (next-item r q) = items-no-caret r
 
 -- an item that no `-` follows
 item-passes : {bytes rest : List ℕ} {item : Item} → Spells-item bytes rest item → No-dash rest
-    → (place : ℕ) (class : Class) → Runs-on bytes rest place class item-due (with-item class item) item-due
-unfolding run
+    → (place : ℕ) (class : Class) → Class-runs-on bytes rest place class item-due (with-item class item) item-due
+unfolding class-run
 item-passes {rest = rest} (single {b} r) h place class =
     let on = byte-passes r place class in
     record {
@@ -171,17 +175,17 @@ item-passes (range {first} {last} r q below) h place class =
     record { next = off .next; counted = omega (arith, on .counted, off .counted); same = on .same ∙ off .same }
 
 -- a class with these items
-abbrev pub gathered : Bool → List Item → Class
-gathered all-but items = record { all-but = all-but; items = items }
+abbrev pub class-of-items : Bool → List Item → Class
+class-of-items all-but items = record { all-but = all-but; items = items }
 
 -- items that no `-` follows
 items-pass : {bytes rest : List ℕ} {items : List Item} → Spells-items bytes rest items → No-dash rest
     → (place : ℕ) (all-but : Bool)
-    → Runs-on bytes rest place (gathered all-but []) item-due (gathered all-but items) item-due
-items-pass (one-item r) h place all-but = item-passes r h place (gathered all-but [])
+    → Class-runs-on bytes rest place (class-of-items all-but []) item-due (class-of-items all-but items) item-due
+items-pass (one-item r) h place all-but = item-passes r h place (class-of-items all-but [])
 items-pass (next-item {items = items} r q) h place all-but =
     let on = items-pass r (item-no-dash q) place all-but in
-    let off = item-passes q h (on .next) (gathered all-but items) in
+    let off = item-passes q h (on .next) (class-of-items all-but items) in
     record { next = off .next; counted = omega (arith, on .counted, off .counted); same = on .same ∙ off .same }
 
 -- there is an item, and there are 16 at most
@@ -191,14 +195,14 @@ fit (one-item r) h = refl
 fit (next-item {items = items} r q) h = rw (le-ltb most-items (length (_ ∷ items)) h)
 
 -- the reading finds the class
-pub record Finds (bytes rest : List ℕ) (place : ℕ) (class : Class) : Type 0 where
+pub record Finds-class (bytes rest : List ℕ) (place : ℕ) (class : Class) : Type 0 where
   pub next : ℕ
   pub counted : next + length rest ≡ place + length bytes
-  pub same : run bytes place unread opened ≡ found class rest next
+  pub same : class-run bytes place unread opened ≡ found class rest next
 
 pub class-found : {bytes rest : List ℕ} {class : Class} → Spells-class bytes rest class → (place : ℕ)
-    → Finds bytes rest place class
-unfolding run
+    → Finds-class bytes rest place class
+unfolding class-run
 class-found {bytes} (these r h) place =
     let on = items-pass r (λ e. let z : _≡_ {A = ℕ} 0 1 = cc in omega arith) place false in
     record {

@@ -7,10 +7,10 @@ use mathlib.Core.List.{List, [], _∷_}
 use native.Mathlib.Omega.{arith}
 use lib.ListN.{length, drop, getD}
 use Rattle.classes.specs.Class.{Item, from-to, Class, the-dot, unread, opened, item-due}
-use Rattle.classes.specs.ClassRun.{Ran, found, failed}
-use Rattle.classes.specs.ClassComplete.{gathered}
+use Rattle.classes.specs.ClassRun.{Class-ran, found, failed}
+use Rattle.classes.specs.ClassComplete.{class-of-items}
 use Rattle.classes.specs.ClassReading.{
-  run-from,
+  class-run-from,
   Item-here,
   Bad-item,
   count-fits,
@@ -22,12 +22,12 @@ use Rattle.classes.specs.ClassReading.{
   runs-out,
 }
 use Rattle.classes.specs.ClassAt.{run-at, class-at, Class-here, dot-here, bracket-here}
-use Rattle.classes.specs.Members.{Members, Filled, Put, item-value, filled-members, put-members, value-count}
+use Rattle.classes.specs.Members.{Members, Every-value, Put, item-value, filled-members, put-members, value-count}
 use Rattle.classes.specs.declared.part.ClassPart.{ClassPart}
 use Rattle.classes.specs.declared.part.ClassPart.the-variants.{Read, Faulty}
 
 -- a reading of a class finds one that ends at `next`, and these are its values
-pub record Class-found (bytes : List ℕ) (at next : ℕ) (ran : Ran) (members : List ℕ) : Type 0 where
+pub record Class-found (bytes : List ℕ) (at next : ℕ) (ran : Class-ran) (members : List ℕ) : Type 0 where
   pub class : Class
   pub finds : ran ≡ found class (drop next bytes) next
   pub told : Members class members
@@ -35,11 +35,11 @@ pub record Class-found (bytes : List ℕ) (at next : ℕ) (ran : Ran) (members :
   pub within : next ≤ length bytes
 
 -- it finds none
-pub record Class-lost (ran : Ran) : Type 0 where
+pub record Class-lost (ran : Class-ran) : Type 0 where
   pub fails : ran ≡ failed
 
 -- what a reader of a class from `at` on answers, for the reading that it does
-abbrev pub Class-answer : (bytes : List ℕ) (at : ℕ) → Ran → (members : List ℕ) → ClassPart → Type 0
+abbrev pub Class-answer : (bytes : List ℕ) (at : ℕ) → Class-ran → (members : List ℕ) → ClassPart → Type 0
 Class-answer bytes at ran members (Read next) = Class-found bytes at next ran members
 Class-answer bytes at ran members Faulty = Class-lost ran
 
@@ -47,14 +47,15 @@ Class-answer bytes at ran members Faulty = Class-lost ran
 pub record Items-so-far (bytes : List ℕ) (at : ℕ) (all-but : Bool) (place count : ℕ) (members : List ℕ) : Type 0 where
   pub items : List Item
   pub counted : length items ≡ count
-  pub on : run-from bytes at (gathered all-but []) item-due ≡ run-from bytes place (gathered all-but items) item-due
-  pub told : Members (gathered all-but items) members
+  pub on : class-run-from bytes at (class-of-items all-but []) item-due
+      ≡ class-run-from bytes place (class-of-items all-but items) item-due
+  pub told : Members (class-of-items all-but items) members
   pub onward : at + count ≤ place
   pub within : place ≤ length bytes
 
 module _ {bytes : List ℕ} {at : ℕ} {all-but : Bool} where
   -- none yet
-  pub no-items : {members : List ℕ} → Members (gathered all-but []) members → at ≤ length bytes
+  pub no-items : {members : List ℕ} → Members (class-of-items all-but []) members → at ≤ length bytes
       → Items-so-far bytes at all-but at 0 members
   no-items m h =
       record { items = []; counted = refl; on = refl; told = m; onward = omega arith; within = h }
@@ -68,8 +69,8 @@ module _ {bytes : List ℕ} {at : ℕ} {all-but : Bool} where
       record {
         items = from-to first last ∷ s .items;
         counted = omega (arith, s .counted);
-        on = s .on ∙ item .on (gathered all-but (s .items));
-        told = put-members (gathered all-but (s .items)) before after first last (s .told) long put;
+        on = s .on ∙ item .on (class-of-items all-but (s .items));
+        told = put-members (class-of-items all-but (s .items)) before after first last (s .told) long put;
         onward = omega (arith, s .onward, item .further);
         within = item .within;
       }
@@ -77,11 +78,11 @@ module _ {bytes : List ℕ} {at : ℕ} {all-but : Bool} where
   module _ {place count : ℕ} {members : List ℕ} (s : Items-so-far bytes at all-but place count members) where
     -- the `]` ends the class
     pub items-ended : place < length bytes → getD bytes place 0 ≡ 93 → count-fits count ≡ true
-        → Class-found bytes at (place + 1) (run-from bytes at (gathered all-but []) item-due) members
+        → Class-found bytes at (place + 1) (class-run-from bytes at (class-of-items all-but []) item-due) members
     items-ended h e fits =
         record {
-          class = gathered all-but (s .items);
-          finds = s .on ∙ ends-whole bytes place h (gathered all-but (s .items)) e
+          class = class-of-items all-but (s .items);
+          finds = s .on ∙ ends-whole bytes place h (class-of-items all-but (s .items)) e
               (items-fit-count (s .items) ∙ ap count-fits (s .counted) ∙ fits);
           told = s .told;
           further = omega (arith, s .onward);
@@ -90,39 +91,39 @@ module _ {bytes : List ℕ} {at : ℕ} {all-but : Bool} where
 
     -- with no item, or more than 16
     pub items-unfit : place < length bytes → getD bytes place 0 ≡ 93 → count-fits count ≡ false
-        → Class-lost (run-from bytes at (gathered all-but []) item-due)
+        → Class-lost (class-run-from bytes at (class-of-items all-but []) item-due)
     items-unfit h e fits =
         record {
-          fails = s .on ∙ ends-faulty bytes place h (gathered all-but (s .items)) e
+          fails = s .on ∙ ends-faulty bytes place h (class-of-items all-but (s .items)) e
               (items-fit-count (s .items) ∙ ap count-fits (s .counted) ∙ fits);
         }
 
     -- no item follows
-    pub items-broken : Bad-item bytes place → Class-lost (run-from bytes at (gathered all-but []) item-due)
-    items-broken bad = record { fails = s .on ∙ bad .fails (gathered all-but (s .items)) }
+    pub items-broken : Bad-item bytes place → Class-lost (class-run-from bytes at (class-of-items all-but []) item-due)
+    items-broken bad = record { fails = s .on ∙ bad .fails (class-of-items all-but (s .items)) }
 
     -- the end comes
-    pub items-cut : place ≡ length bytes → Class-lost (run-from bytes at (gathered all-but []) item-due)
-    items-cut e = record { fails = s .on ∙ runs-out bytes place (gathered all-but (s .items)) item-due e }
+    pub items-cut : place ≡ length bytes → Class-lost (class-run-from bytes at (class-of-items all-but []) item-due)
+    items-cut e = record { fails = s .on ∙ runs-out bytes place (class-of-items all-but (s .items)) item-due e }
 
 -- the same without the values: items that are passed over, whether all but those are taken or not
-pub record Class-ended (bytes : List ℕ) (at next : ℕ) (ran : Ran) : Type 0 where
+pub record Class-ended (bytes : List ℕ) (at next : ℕ) (ran : Class-ran) : Type 0 where
   pub class : Class
   pub finds : ran ≡ found class (drop next bytes) next
   pub further : at < next
   pub within : next ≤ length bytes
 
 -- what passing over a class answers, for the reading that it does
-abbrev pub End-answer : (bytes : List ℕ) (at : ℕ) → Ran → ClassPart → Type 0
+abbrev pub End-answer : (bytes : List ℕ) (at : ℕ) → Class-ran → ClassPart → Type 0
 End-answer bytes at ran (Read next) = Class-ended bytes at next ran
 End-answer bytes at ran Faulty = Class-lost ran
 
 -- for both senses of the items
 pub record Items-ended (bytes : List ℕ) (at next : ℕ) : Type 0 where
-  pub both : (all-but : Bool) → Class-ended bytes at next (run-from bytes at (gathered all-but []) item-due)
+  pub both : (all-but : Bool) → Class-ended bytes at next (class-run-from bytes at (class-of-items all-but []) item-due)
 
 pub record Items-lost (bytes : List ℕ) (at : ℕ) : Type 0 where
-  pub both : (all-but : Bool) → Class-lost (run-from bytes at (gathered all-but []) item-due)
+  pub both : (all-but : Bool) → Class-lost (class-run-from bytes at (class-of-items all-but []) item-due)
 
 abbrev pub Items-end-answer : (bytes : List ℕ) (at : ℕ) → ClassPart → Type 0
 Items-end-answer bytes at (Read next) = Items-ended bytes at next
@@ -136,8 +137,8 @@ Class-end-answer bytes at r = End-answer bytes at (run-at bytes at) r
 pub record Items-passed (bytes : List ℕ) (at place count : ℕ) : Type 0 where
   pub items : List Item
   pub counted : length items ≡ count
-  pub on : (all-but : Bool) → run-from bytes at (gathered all-but []) item-due
-      ≡ run-from bytes place (gathered all-but items) item-due
+  pub on : (all-but : Bool) → class-run-from bytes at (class-of-items all-but []) item-due
+      ≡ class-run-from bytes place (class-of-items all-but items) item-due
   pub onward : at + count ≤ place
   pub within : place ≤ length bytes
 
@@ -151,7 +152,7 @@ one-more-passed {first = begin} {last = end} s item =
     record {
       items = from-to begin end ∷ s .items;
       counted = omega (arith, s .counted);
-      on = λ all-but. s .on all-but ∙ item .on (gathered all-but (s .items));
+      on = λ all-but. s .on all-but ∙ item .on (class-of-items all-but (s .items));
       onward = omega (arith, s .onward, item .further);
       within = item .within;
     }
@@ -162,8 +163,8 @@ module _ {bytes : List ℕ} {at place count : ℕ} (s : Items-passed bytes at pl
   passed-ended h e fits =
       record {
         both = λ all-but. record {
-          class = gathered all-but (s .items);
-          finds = s .on all-but ∙ ends-whole bytes place h (gathered all-but (s .items)) e
+          class = class-of-items all-but (s .items);
+          finds = s .on all-but ∙ ends-whole bytes place h (class-of-items all-but (s .items)) e
               (items-fit-count (s .items) ∙ ap count-fits (s .counted) ∙ fits);
           further = omega (arith, s .onward);
           within = omega arith;
@@ -174,30 +175,30 @@ module _ {bytes : List ℕ} {at place count : ℕ} (s : Items-passed bytes at pl
   passed-unfit h e fits =
       record {
         both = λ all-but. record {
-          fails = s .on all-but ∙ ends-faulty bytes place h (gathered all-but (s .items)) e
+          fails = s .on all-but ∙ ends-faulty bytes place h (class-of-items all-but (s .items)) e
               (items-fit-count (s .items) ∙ ap count-fits (s .counted) ∙ fits);
         };
       }
 
   pub passed-broken : Bad-item bytes place → Items-lost bytes at
   passed-broken bad =
-      record { both = λ all-but. record { fails = s .on all-but ∙ bad .fails (gathered all-but (s .items)) } }
+      record { both = λ all-but. record { fails = s .on all-but ∙ bad .fails (class-of-items all-but (s .items)) } }
 
   pub passed-cut : place ≡ length bytes → Items-lost bytes at
   passed-cut e =
       record {
         both = λ all-but. record {
-          fails = s .on all-but ∙ runs-out bytes place (gathered all-but (s .items)) item-due e;
+          fails = s .on all-but ∙ runs-out bytes place (class-of-items all-but (s .items)) item-due e;
         };
       }
 
 -- the reading from after a `[` is that of the items
-from-bracket : (bytes : List ℕ) (at : ℕ) → run-at bytes at ≡ run-from bytes (at + 1) unread opened
-unfolding run-at run-from
+from-bracket : (bytes : List ℕ) (at : ℕ) → run-at bytes at ≡ class-run-from bytes (at + 1) unread opened
+unfolding run-at class-run-from
 from-bracket bytes at = refl
 
 -- an answer about one reading is one about another that is the same
-class-answer-of : (bytes : List ℕ) (at at′ : ℕ) (ran ran′ : Ran) (members : List ℕ) (r : ClassPart) → ran′ ≡ ran
+class-answer-of : (bytes : List ℕ) (at at′ : ℕ) (ran ran′ : Class-ran) (members : List ℕ) (r : ClassPart) → ran′ ≡ ran
     → at′ ≤ at → Class-answer bytes at ran members r → Class-answer bytes at′ ran′ members r
 class-answer-of bytes at at′ ran ran′ members (Read next) e h a =
     record {
@@ -212,25 +213,25 @@ class-answer-of bytes at at′ ran ran′ members Faulty e h a = record { fails 
 module _ (bytes : List ℕ) (at : ℕ) (members : List ℕ) (r : ClassPart) where
   -- a class with a `^`
   pub class-but : at + 1 < length bytes → getD bytes (at + 1) 0 ≡ 94
-      → Class-answer bytes (at + 2) (run-from bytes (at + 2) (gathered true []) item-due) members r
+      → Class-answer bytes (at + 2) (class-run-from bytes (at + 2) (class-of-items true []) item-due) members r
       → Class-answer bytes at (run-at bytes at) members r
   class-but h e a =
       let further : at + 1 + 1 ≡ at + 2 = omega arith in
       class-answer-of bytes (at + 2) at _ (run-at bytes at) members r
       (from-bracket bytes at ∙ opened-caret bytes (at + 1) h unread e
-      ∙ ap (λ (n : ℕ). run-from bytes n (gathered true []) item-due) further) (omega arith) a
+      ∙ ap (λ (n : ℕ). class-run-from bytes n (class-of-items true []) item-due) further) (omega arith) a
 
   -- a class with none
   pub class-only : at + 1 ≤ length bytes → ((at + 1 < length bytes) × (getD bytes (at + 1) 0 ≡ 94) → ⊥)
-      → Class-answer bytes (at + 1) (run-from bytes (at + 1) (gathered false []) item-due) members r
+      → Class-answer bytes (at + 1) (class-run-from bytes (at + 1) (class-of-items false []) item-due) members r
       → Class-answer bytes at (run-at bytes at) members r
   class-only h no-caret a =
       class-answer-of bytes (at + 1) at _ (run-at bytes at) members r
       (from-bracket bytes at ∙ opened-plainly bytes (at + 1) unread h no-caret) (omega arith) a
 
 -- passing over the items passes over the class
-end-answer-of : (bytes : List ℕ) (at at′ : ℕ) (all-but : Bool) (ran′ : Ran) (r : ClassPart)
-    → ran′ ≡ run-from bytes at (gathered all-but []) item-due → at′ ≤ at → Items-end-answer bytes at r
+end-answer-of : (bytes : List ℕ) (at at′ : ℕ) (all-but : Bool) (ran′ : Class-ran) (r : ClassPart)
+    → ran′ ≡ class-run-from bytes at (class-of-items all-but []) item-due → at′ ≤ at → Items-end-answer bytes at r
     → End-answer bytes at′ ran′ r
 end-answer-of bytes at at′ all-but ran′ (Read next) e h a =
     let b = a .both all-but in
@@ -244,7 +245,7 @@ module _ (bytes : List ℕ) (at : ℕ) (r : ClassPart) where
       let further : at + 1 + 1 ≡ at + 2 = omega arith in
       end-answer-of bytes (at + 2) at true (run-at bytes at) r
       (from-bracket bytes at ∙ opened-caret bytes (at + 1) h unread e
-      ∙ ap (λ (n : ℕ). run-from bytes n (gathered true []) item-due) further) (omega arith) a
+      ∙ ap (λ (n : ℕ). class-run-from bytes n (class-of-items true []) item-due) further) (omega arith) a
 
   pub end-only : at + 1 ≤ length bytes → ((at + 1 < length bytes) × (getD bytes (at + 1) 0 ≡ 94) → ⊥)
       → Items-end-answer bytes (at + 1) r → Class-end-answer bytes at r
@@ -263,7 +264,7 @@ unfolding class-at
 found-at bytes at class rest next e f = rw (e, f)
 
 -- no class is found where none is lost
-lost-none : {class : Class} {rest : List ℕ} {next : ℕ} {A : Type 0} (ran : Ran) → ran ≡ failed
+lost-none : {class : Class} {rest : List ℕ} {next : ℕ} {A : Type 0} (ran : Class-ran) → ran ≡ failed
     → ran ≡ found class rest next → A
 lost-none ran e f = let z : _≡_ {A = ℕ} 0 1 = cc in absurd (omega arith)
 
@@ -281,7 +282,7 @@ inside-at bytes at (dot-here h e) = h
 inside-at bytes at (bracket-here h e f) = h
 
 -- the values of the dot
-pub dot-members : (filled after : List ℕ) → length filled ≡ value-count → Filled filled 1
+pub dot-members : (filled after : List ℕ) → length filled ≡ value-count → Every-value filled 1
     → length after ≡ length filled → Put filled after 10 11 0 → Members the-dot after
 dot-members filled after long f same put =
-    put-members (gathered true []) filled after 10 10 (filled-members true filled long f) same put
+    put-members (class-of-items true []) filled after 10 10 (filled-members true filled long f) same put

@@ -30,15 +30,15 @@ use Rattle.classes.specs.Class.{
   item-due,
   byte-read,
   last-due,
-  due-step,
+  item-due-step,
   last-step,
 }
 use Rattle.classes.specs.ClassGrammar.{Spells-byte, bare, slashed}
-use Rattle.classes.specs.ClassRun.{Ran, found, failed, ran-on, run}
+use Rattle.classes.specs.ClassRun.{Class-ran, found, failed, class-ran-on, class-run}
 use Rattle.classes.specs.ClassComplete.{
   No-dash,
   No-caret,
-  gathered,
+  class-of-items,
   byte-passes,
   last-passes,
   byte-done,
@@ -52,8 +52,8 @@ use Rattle.classes.specs.declared.part.ItemPart.{ItemPart}
 use Rattle.classes.specs.declared.part.ItemPart.the-variants.{Read as Item-found, Faulty as No-item}
 
 -- the reading of a class from a place on, where this much was read of it
-unfoldable pub run-from : List ℕ → ℕ → Class → Inside → Ran
-run-from bytes at class inside = run (drop at bytes) at class inside
+unfoldable pub class-run-from : List ℕ → ℕ → Class → Inside → Class-ran
+class-run-from bytes at class inside = class-run (drop at bytes) at class inside
 
 -- a byte is written from `at` up to `next`
 pub record Byte-here (bytes : List ℕ) (at b next : ℕ) : Type 0 where
@@ -76,15 +76,15 @@ Byte-answer bytes at No-byte = Bad-byte (drop at bytes)
 
 -- an item from `at` up to `next`, whatever was read of the class before it
 pub record Item-here (bytes : List ℕ) (at first last next : ℕ) : Type 0 where
-  pub on : (class : Class) → run-from bytes at class item-due
-      ≡ run-from bytes next (with-item class (from-to first last)) item-due
+  pub on : (class : Class) → class-run-from bytes at class item-due
+      ≡ class-run-from bytes next (with-item class (from-to first last)) item-due
   pub ordered : first ≤ last
   pub further : at < next
   pub within : next ≤ length bytes
 
 -- no item is written there
 pub record Bad-item (bytes : List ℕ) (at : ℕ) : Type 0 where
-  pub fails : (class : Class) → run-from bytes at class item-due ≡ failed
+  pub fails : (class : Class) → class-run-from bytes at class item-due ≡ failed
 
 -- what the reader of an item answers
 abbrev pub Item-answer : (bytes : List ℕ) (at : ℕ) → ItemPart → Type 0
@@ -94,15 +94,15 @@ Item-answer bytes at No-item = Bad-item bytes at
 -- a range with this first byte, whose last byte is written from `at` up to `next`
 pub record Range-here (bytes : List ℕ) (first at first′ last next : ℕ) : Type 0 where
   pub same : first′ ≡ first
-  pub on : (class : Class) → run-from bytes at class (last-due first)
-      ≡ run-from bytes next (with-item class (from-to first last)) item-due
+  pub on : (class : Class) → class-run-from bytes at class (last-due first)
+      ≡ class-run-from bytes next (with-item class (from-to first last)) item-due
   pub ordered : first ≤ last
   pub further : at < next
   pub within : next ≤ length bytes
 
 -- no range with this first byte
 pub record Bad-range (bytes : List ℕ) (first at : ℕ) : Type 0 where
-  pub fails : (class : Class) → run-from bytes at class (last-due first) ≡ failed
+  pub fails : (class : Class) → class-run-from bytes at class (last-due first) ≡ failed
 
 -- what the reader of a range's last byte answers
 abbrev pub Range-answer : (bytes : List ℕ) (first at : ℕ) → ItemPart → Type 0
@@ -155,32 +155,33 @@ same-place bytes at next there h k e = omega (arith, e, length-drop at bytes, le
 
 -- a byte where an item is due, and where a range's last byte is due
 pub byte-on : {bytes : List ℕ} {at b next : ℕ} → Byte-here bytes at b next → (class : Class)
-    → run-from bytes at class item-due ≡ run-from bytes next class (byte-read b)
-unfolding run-from
+    → class-run-from bytes at class item-due ≡ class-run-from bytes next class (byte-read b)
+unfolding class-run-from
 byte-on {bytes} {at} {b} {next} r class =
     let on = byte-passes (r .spelled) at class in
-    on .same ∙ ap (λ (n : ℕ). run (drop next bytes) n class (byte-read b))
+    on .same ∙ ap (λ (n : ℕ). class-run (drop next bytes) n class (byte-read b))
     (same-place bytes at next (on .next) (omega (arith, r .further, r .within)) (r .within) (on .counted))
 
 pub last-on : {bytes : List ℕ} {at last next : ℕ} → Byte-here bytes at last next → (first : ℕ) → first ≤ last
     → (class : Class)
-    → run-from bytes at class (last-due first) ≡ run-from bytes next (with-item class (from-to first last)) item-due
-unfolding run-from
+    → class-run-from bytes at class (last-due first)
+    ≡ class-run-from bytes next (with-item class (from-to first last)) item-due
+unfolding class-run-from
 last-on {bytes} {at} {last} {next} r first h class =
     let on = last-passes (r .spelled) at class first h in
-    on .same ∙ ap (λ (n : ℕ). run (drop next bytes) n (with-item class (from-to first last)) item-due)
+    on .same ∙ ap (λ (n : ℕ). class-run (drop next bytes) n (with-item class (from-to first last)) item-due)
     (same-place bytes at next (on .next) (omega (arith, r .further, r .within)) (r .within) (on .counted))
 
 -- a range whose first byte is above its last
 above-fails : {bytes rest : List ℕ} {last : ℕ} → Spells-byte bytes rest last → (place : ℕ) (class : Class) (first : ℕ)
-    → last < first → run bytes place class (last-due first) ≡ failed
-unfolding run
+    → last < first → class-run bytes place class (last-due first) ≡ failed
+unfolding class-run
 above-fails (bare {b} p) place class first h = rw (no-slash (class-sign b) p, lt-ltb b first h)
 above-fails (slashed {b} p) place class first h = rw (p, lt-ltb b first h)
 
 pub above-bad : {bytes : List ℕ} {at last next : ℕ} → Byte-here bytes at last next → (first : ℕ) → last < first
     → Bad-range bytes first at
-unfolding run-from
+unfolding class-run-from
 above-bad {at = at} r first h = record { fails = λ class. above-fails (r .spelled) at class first h }
 
 -- no `]` stands first
@@ -189,8 +190,9 @@ No-ending [] = Unit {0}
 No-ending (b ∷ rest) = class-sign b ≡ ending → ⊥
 
 -- a sign that needs a `\` is faulty where an item is due, but for the `\` and the `]`
-due-faulty : (s : Class-sign) (b : ℕ) (class : Class) (rest : List ℕ) (next : ℕ) (on : Class → Inside → Ran)
-    → needs-slash s ≡ true → (s ≡ slash → ⊥) → (s ≡ ending → ⊥) → ran-on (due-step s b class) rest next on ≡ failed
+due-faulty : (s : Class-sign) (b : ℕ) (class : Class) (rest : List ℕ) (next : ℕ) (on : Class → Inside → Class-ran)
+    → needs-slash s ≡ true → (s ≡ slash → ⊥) → (s ≡ ending → ⊥)
+    → class-ran-on (item-due-step s b class) rest next on ≡ failed
 due-faulty caret b class rest next on p k l = refl
 due-faulty dash b class rest next on p k l = refl
 due-faulty slash b class rest next on p k l = absurd (k refl)
@@ -198,8 +200,8 @@ due-faulty ending b class rest next on p k l = absurd (l refl)
 due-faulty ordinary b class rest next on p k l = cc
 
 last-faulty : (s : Class-sign) (b : ℕ) (class : Class) (first : ℕ) (rest : List ℕ) (next : ℕ)
-    (on : Class → Inside → Ran) → needs-slash s ≡ true → (s ≡ slash → ⊥)
-    → ran-on (last-step s b class first) rest next on ≡ failed
+    (on : Class → Inside → Class-ran) → needs-slash s ≡ true → (s ≡ slash → ⊥)
+    → class-ran-on (last-step s b class first) rest next on ≡ failed
 last-faulty caret b class first rest next on p k = refl
 last-faulty dash b class first rest next on p k = refl
 last-faulty ending b class first rest next on p k = refl
@@ -216,8 +218,8 @@ sign-slash b ordinary m k e = let z : _≡_ {A = ℕ} 0 1 = cc in omega arith
 
 -- where no byte is written, the class is not of the form
 bad-due : {bytes : List ℕ} → Bad-byte bytes → No-ending bytes → (place : ℕ) (class : Class)
-    → run bytes place class item-due ≡ failed
-unfolding run
+    → class-run bytes place class item-due ≡ failed
+unfolding class-run
 bad-due at-end l place class = refl
 bad-due (bare-sign {b} p k) l place class =
     due-faulty (class-sign b) b class _ _ _ p (sign-slash b (class-sign b) (class-sign-means b) k) l
@@ -225,8 +227,8 @@ bad-due last-slash l place class = refl
 bad-due (wrong-slash p) l place class = rw p
 
 bad-last-byte : {bytes : List ℕ} → Bad-byte bytes → (place : ℕ) (class : Class) (first : ℕ)
-    → run bytes place class (last-due first) ≡ failed
-unfolding run
+    → class-run bytes place class (last-due first) ≡ failed
+unfolding class-run
 bad-last-byte at-end place class first = refl
 bad-last-byte (bare-sign {b} p k) place class first =
     last-faulty (class-sign b) b class first _ _ _ p (sign-slash b (class-sign b) (class-sign-means b) k)
@@ -265,15 +267,15 @@ left-holds P bytes at within none some = elim (decLt at (length bytes)) [
 
 -- after a byte a `-` begins a range
 dash-on : (bytes : List ℕ) (next : ℕ) → next < length bytes → getD bytes next 0 ≡ 45 → (class : Class) (first : ℕ)
-    → run-from bytes next class (byte-read first) ≡ run-from bytes (next + 1) class (last-due first)
-unfolding run-from run
+    → class-run-from bytes next class (byte-read first) ≡ class-run-from bytes (next + 1) class (last-due first)
+unfolding class-run-from class-run
 dash-on bytes next h e class first = rw (left-at bytes next h, e)
 
 module _ {bytes : List ℕ} {at : ℕ} where
   -- an item of one byte: no `-` follows it
   pub item-single : {b next : ℕ} → Byte-here bytes at b next
       → ((next < length bytes) × (getD bytes next 0 ≡ 45) → ⊥) → Item-here bytes at b b next
-  unfolding run-from
+  unfolding class-run-from
   item-single {b} {next} r no-dash =
       let alone : No-dash (drop next bytes) =
       left-holds No-dash bytes next (r .within) tt
@@ -291,7 +293,7 @@ module _ {bytes : List ℕ} {at : ℕ} where
   item-range {first} {first′} {last} {between} {next} r h e q =
       record {
         on = λ class. byte-on r class ∙ dash-on bytes between h e class first ∙ q .on class
-            ∙ ap (λ (f : ℕ). run-from bytes next (with-item class (from-to f last)) item-due) (sym (q .same));
+            ∙ ap (λ (f : ℕ). class-run-from bytes next (with-item class (from-to f last)) item-due) (sym (q .same));
         ordered = omega (arith, q .same, q .ordered);
         further = omega (arith, r .further, q .further);
         within = q .within;
@@ -304,7 +306,7 @@ module _ {bytes : List ℕ} {at : ℕ} where
 
   -- no byte where an item begins
   pub bad-byte-item : at < length bytes → (getD bytes at 0 ≡ 93 → ⊥) → Bad-byte (drop at bytes) → Bad-item bytes at
-  unfolding run-from
+  unfolding class-run-from
   bad-byte-item h no-end bad =
       let open-end : No-ending (drop at bytes) =
       left-holds No-ending bytes at (omega arith) tt
@@ -312,7 +314,7 @@ module _ {bytes : List ℕ} {at : ℕ} where
       record { fails = λ class. bad-due bad open-end at class }
 
   pub bad-byte-range : (first : ℕ) → Bad-byte (drop at bytes) → Bad-range bytes first at
-  unfolding run-from
+  unfolding class-run-from
   bad-byte-range first bad = record { fails = λ class. bad-last-byte bad at class first }
 
 -- whether there are 1 to 16 items, by their count
@@ -326,33 +328,34 @@ items-fit-count (item ∷ items) = rw (ne-eqb (length (item ∷ items)) 0 (omega
 module _ (bytes : List ℕ) (at : ℕ) (h : at < length bytes) (class : Class) where
   -- the `]` of a class with 1 to 16 items ends it
   pub ends-whole : getD bytes at 0 ≡ 93 → items-fit (class .items) ≡ true
-      → run-from bytes at class item-due ≡ found class (drop (at + 1) bytes) (at + 1)
-  unfolding run-from run
+      → class-run-from bytes at class item-due ≡ found class (drop (at + 1) bytes) (at + 1)
+  unfolding class-run-from class-run
   ends-whole e fits = rw (left-at bytes at h, e, fits)
 
   -- of another it is faulty
   pub ends-faulty : getD bytes at 0 ≡ 93 → items-fit (class .items) ≡ false
-      → run-from bytes at class item-due ≡ failed
-  unfolding run-from run
+      → class-run-from bytes at class item-due ≡ failed
+  unfolding class-run-from class-run
   ends-faulty e fits = rw (left-at bytes at h, e, fits)
 
   -- a `^` right after the `[`
   pub opened-caret : getD bytes at 0 ≡ 94
-      → run-from bytes at class opened ≡ run-from bytes (at + 1) (gathered true (class .items)) item-due
-  unfolding run-from run
+      → class-run-from bytes at class opened
+      ≡ class-run-from bytes (at + 1) (class-of-items true (class .items)) item-due
+  unfolding class-run-from class-run
   opened-caret e = rw (left-at bytes at h, e)
 
 -- the end comes in the class
 pub runs-out : (bytes : List ℕ) (at : ℕ) (class : Class) (inside : Inside) → at ≡ length bytes
-    → run-from bytes at class inside ≡ failed
-unfolding run-from run
+    → class-run-from bytes at class inside ≡ failed
+unfolding class-run-from class-run
 runs-out bytes at class inside e = rw (left-at-end bytes at e)
 
 -- no `^` right after the `[`: an item is due
 pub opened-plainly : (bytes : List ℕ) (at : ℕ) (class : Class) → at ≤ length bytes
     → ((at < length bytes) × (getD bytes at 0 ≡ 94) → ⊥)
-    → run-from bytes at class opened ≡ run-from bytes at class item-due
-unfolding run-from
+    → class-run-from bytes at class opened ≡ class-run-from bytes at class item-due
+unfolding class-run-from
 opened-plainly bytes at class within no-caret =
     opened-due (drop at bytes) at class
     (left-holds No-caret bytes at within tt

@@ -29,11 +29,11 @@ use Rattle.classes.specs.Class.{
   last-due,
   item-escaped,
   last-escaped,
-  Step,
+  Class-step,
   goes-on,
   whole,
   faulty,
-  due-step,
+  item-due-step,
   opened-step,
   byte-step,
   range-step,
@@ -54,7 +54,7 @@ use Rattle.classes.specs.ClassGrammar.{
   these,
   all-but-these,
 }
-use Rattle.classes.specs.ClassRun.{Ran, found, failed, ran-on, run}
+use Rattle.classes.specs.ClassRun.{Class-ran, found, failed, class-ran-on, class-run}
 
 -- the byte that a sign of a class belongs to
 abbrev pub Class-means : ℕ → Class-sign → Type 0
@@ -77,34 +77,37 @@ class-sign-means b =
     (picked (Class-means b) (eqb b 45) dash ordinary (eqb-true b 45) tt)))
 
 -- how the class began: with its items, or with a `^` before them
-pub data Begun : List ℕ → List ℕ → Bool → Type 0 where
-  plainly : {body : List ℕ} → Begun body body false
-  by-caret : {body : List ℕ} → Begun (94 ∷ body) body true
+pub data Class-begun : List ℕ → List ℕ → Bool → Type 0 where
+  plainly : {body : List ℕ} → Class-begun body body false
+  by-caret : {body : List ℕ} → Class-begun (94 ∷ body) body true
 
 -- the items read so far
-pub data Gathered : List ℕ → List ℕ → List Item → Type 0 where
-  no-item : {rest : List ℕ} → Gathered rest rest []
-  some-items : {body rest : List ℕ} {items : List Item} → Spells-items body rest items → Gathered body rest items
+pub data Items-read : List ℕ → List ℕ → List Item → Type 0 where
+  no-item : {rest : List ℕ} → Items-read rest rest []
+  some-items : {body rest : List ℕ} {items : List Item} → Spells-items body rest items → Items-read body rest items
 
 -- what the state says of the bytes from after the `[` up to the rest
-pub data So-far (from : List ℕ) : List ℕ → Bool → List Item → Inside → Type 0 where
-  at-opened : {rest : List ℕ} → from ≡ rest → So-far from rest false [] opened
-  at-item : {body rest : List ℕ} {all-but : Bool} {items : List Item} → Begun from body all-but
-      → Gathered body rest items → So-far from rest all-but items item-due
-  at-byte : {body between rest : List ℕ} {all-but : Bool} {items : List Item} {first : ℕ} → Begun from body all-but
-      → Gathered body between items → Spells-byte between rest first → So-far from rest all-but items (byte-read first)
-  at-last : {body between rest : List ℕ} {all-but : Bool} {items : List Item} {first : ℕ} → Begun from body all-but
-      → Gathered body between items → Spells-byte between (45 ∷ rest) first
-      → So-far from rest all-but items (last-due first)
-  at-item-escape : {body rest : List ℕ} {all-but : Bool} {items : List Item} → Begun from body all-but
-      → Gathered body (92 ∷ rest) items → So-far from rest all-but items item-escaped
+pub data Class-so-far (from : List ℕ) : List ℕ → Bool → List Item → Inside → Type 0 where
+  at-opened : {rest : List ℕ} → from ≡ rest → Class-so-far from rest false [] opened
+  at-item : {body rest : List ℕ} {all-but : Bool} {items : List Item} → Class-begun from body all-but
+      → Items-read body rest items → Class-so-far from rest all-but items item-due
+  at-byte : {body between rest : List ℕ} {all-but : Bool} {items : List Item} {first : ℕ}
+      → Class-begun from body all-but
+      → Items-read body between items → Spells-byte between rest first
+      → Class-so-far from rest all-but items (byte-read first)
+  at-last : {body between rest : List ℕ} {all-but : Bool} {items : List Item} {first : ℕ}
+      → Class-begun from body all-but
+      → Items-read body between items → Spells-byte between (45 ∷ rest) first
+      → Class-so-far from rest all-but items (last-due first)
+  at-item-escape : {body rest : List ℕ} {all-but : Bool} {items : List Item} → Class-begun from body all-but
+      → Items-read body (92 ∷ rest) items → Class-so-far from rest all-but items item-escaped
   at-last-escape : {body between rest : List ℕ} {all-but : Bool} {items : List Item} {first : ℕ}
-      → Begun from body all-but → Gathered body between items → Spells-byte between (45 ∷ 92 ∷ rest) first
-      → So-far from rest all-but items (last-escaped first)
+      → Class-begun from body all-but → Items-read body between items → Spells-byte between (45 ∷ 92 ∷ rest) first
+      → Class-so-far from rest all-but items (last-escaped first)
 
 -- one more item
-one-more : {body between rest : List ℕ} {items : List Item} {item : Item} → Gathered body between items
-    → Spells-item between rest item → Gathered body rest (item ∷ items)
+one-more : {body between rest : List ℕ} {items : List Item} {item : Item} → Items-read body between items
+    → Spells-item between rest item → Items-read body rest (item ∷ items)
 one-more no-item r = some-items (one-item r)
 one-more (some-items q) r = some-items (next-item q r)
 
@@ -119,28 +122,30 @@ few-items (item ∷ items) e = go (ltb most-items (length (item ∷ items))) ref
     go false f e = ltb-false most-items (length (item ∷ items)) f
 
 -- the class is whole
-ended : {from body rest : List ℕ} {all-but : Bool} {items : List Item} → Begun from body all-but
-    → Gathered body (93 ∷ rest) items → items-fit items ≡ true
+ended : {from body rest : List ℕ} {all-but : Bool} {items : List Item} → Class-begun from body all-but
+    → Items-read body (93 ∷ rest) items → items-fit items ≡ true
     → Spells-class from rest (record { all-but = all-but; items = items })
 ended begun no-item e = let z : _≡_ {A = ℕ} 0 1 = cc in absurd (omega arith)
 ended plainly (some-items {items = items} r) e = these r (few-items items e)
 ended by-caret (some-items {items = items} r) e = all-but-these r (few-items items e)
 
 -- what holds after one byte
-abbrev pub Kept : List ℕ → List ℕ → Step → Type 0
-Kept from rest (goes-on class inside) = So-far from rest (class .all-but) (class .items) inside
-Kept from rest (whole class) = Spells-class from rest class
-Kept from rest faulty = Unit {0}
+abbrev pub After-class-byte : List ℕ → List ℕ → Class-step → Type 0
+After-class-byte from rest (goes-on class inside) = Class-so-far from rest (class .all-but) (class .items) inside
+After-class-byte from rest (whole class) = Spells-class from rest class
+After-class-byte from rest faulty = Unit {0}
 
 module _ (from rest : List ℕ) where
-  picked-kept : (test : Bool) (s r : Step) → (test ≡ true → Kept from rest s) → (test ≡ false → Kept from rest r)
-      → Kept from rest (cond test s r)
+  picked-kept : (test : Bool) (s r : Class-step) → (test ≡ true → After-class-byte from rest s)
+      → (test ≡ false → After-class-byte from rest r)
+      → After-class-byte from rest (cond test s r)
   picked-kept true s r p q = p refl
   picked-kept false s r p q = q refl
 
   -- where an item is due
   due-kept : {body : List ℕ} (s : Class-sign) (b : ℕ) (class : Class) → class-sign b ≡ s → Class-means b s
-      → Begun from body (class .all-but) → Gathered body (b ∷ rest) (class .items) → Kept from rest (due-step s b class)
+      → Class-begun from body (class .all-but) → Items-read body (b ∷ rest) (class .items)
+      → After-class-byte from rest (item-due-step s b class)
   due-kept slash b class e m begun g = at-item-escape begun (rw m at g)
   due-kept ending b class e m begun g =
       picked-kept (items-fit (class .items)) (whole class) faulty (λ f. ended begun (rw m at g) f) (λ f. tt)
@@ -150,7 +155,7 @@ module _ (from rest : List ℕ) where
 
   -- right after the `[`
   opened-kept : (s : Class-sign) (b : ℕ) → class-sign b ≡ s → Class-means b s → from ≡ b ∷ rest
-      → Kept from rest (opened-step s b unread)
+      → After-class-byte from rest (opened-step s b unread)
   opened-kept caret b e m f = rw (f, m) (at-item by-caret no-item)
   opened-kept slash b e m f = due-kept slash b unread e m plainly (rw f no-item)
   opened-kept ending b e m f = due-kept ending b unread e m plainly (rw f no-item)
@@ -159,8 +164,8 @@ module _ (from rest : List ℕ) where
 
   -- after a byte
   byte-kept : {body between : List ℕ} (s : Class-sign) (b : ℕ) (class : Class) (first : ℕ) → class-sign b ≡ s
-      → Class-means b s → Begun from body (class .all-but) → Gathered body between (class .items)
-      → Spells-byte between (b ∷ rest) first → Kept from rest (byte-step s b class first)
+      → Class-means b s → Class-begun from body (class .all-but) → Items-read body between (class .items)
+      → Spells-byte between (b ∷ rest) first → After-class-byte from rest (byte-step s b class first)
   byte-kept dash b class first e m begun g r = at-last begun g (rw m at r)
   byte-kept slash b class first e m begun g r = due-kept slash b _ e m begun (one-more g (single r))
   byte-kept ending b class first e m begun g r = due-kept ending b _ e m begun (one-more g (single r))
@@ -168,16 +173,17 @@ module _ (from rest : List ℕ) where
   byte-kept ordinary b class first e m begun g r = due-kept ordinary b _ e m begun (one-more g (single r))
 
   -- the last byte of a range
-  range-kept : {body between after : List ℕ} (last : ℕ) (class : Class) (first : ℕ) → Begun from body (class .all-but)
-      → Gathered body between (class .items) → Spells-byte between (45 ∷ after) first → Spells-byte after rest last
-      → Kept from rest (range-step last class first)
+  range-kept : {body between after : List ℕ} (last : ℕ) (class : Class) (first : ℕ)
+      → Class-begun from body (class .all-but)
+      → Items-read body between (class .items) → Spells-byte between (45 ∷ after) first → Spells-byte after rest last
+      → After-class-byte from rest (range-step last class first)
   range-kept last class first begun g r q =
       picked-kept (ltb last first) faulty _ (λ f. tt) (λ f. at-item begun (one-more g (range r q
       (ltb-false last first f))))
 
   last-kept : {body between : List ℕ} (s : Class-sign) (b : ℕ) (class : Class) (first : ℕ) → class-sign b ≡ s
-      → Class-means b s → Begun from body (class .all-but) → Gathered body between (class .items)
-      → Spells-byte between (45 ∷ b ∷ rest) first → Kept from rest (last-step s b class first)
+      → Class-means b s → Class-begun from body (class .all-but) → Items-read body between (class .items)
+      → Spells-byte between (45 ∷ b ∷ rest) first → After-class-byte from rest (last-step s b class first)
   last-kept slash b class first e m begun g r = at-last-escape begun g (rw m at r)
   last-kept ending b class first e m begun g r = tt
   last-kept caret b class first e m begun g r = tt
@@ -186,8 +192,8 @@ module _ (from rest : List ℕ) where
 
   -- in each state
   pub step-kept : (b : ℕ) (all-but : Bool) (items : List Item) (inside : Inside)
-      → So-far from (b ∷ rest) all-but items inside
-      → Kept from rest (class-step b (record { all-but = all-but; items = items }) inside)
+      → Class-so-far from (b ∷ rest) all-but items inside
+      → After-class-byte from rest (class-step b (record { all-but = all-but; items = items }) inside)
   step-kept b all-but items opened (at-opened f) = opened-kept (class-sign b) b refl (class-sign-means b) f
   step-kept b all-but items item-due (at-item begun g) =
       due-kept (class-sign b) b _ refl (class-sign-means b) begun g
@@ -201,28 +207,29 @@ module _ (from rest : List ℕ) where
       picked-kept (needs-slash (class-sign b)) _ faulty (λ p. range-kept b _ first begun g r (slashed p)) (λ p. tt)
 
 -- what a class was read to be, its grammar reads
-abbrev Found-spelled : List ℕ → Ran → Type 0
-Found-spelled from (found class rest next) = Spells-class from rest class
-Found-spelled from failed = Unit {0}
+abbrev Class-spelled : List ℕ → Class-ran → Type 0
+Class-spelled from (found class rest next) = Spells-class from rest class
+Class-spelled from failed = Unit {0}
 
 -- by induction on the bytes that are left
 pub run-spelled : (from bytes : List ℕ) (place : ℕ) (class : Class) (inside : Inside)
-    → So-far from bytes (class .all-but) (class .items) inside → Found-spelled from (run bytes place class inside)
-unfolding run
+    → Class-so-far from bytes (class .all-but) (class .items) inside
+    → Class-spelled from (class-run bytes place class inside)
+unfolding class-run
 run-spelled from [] place class inside s = tt
 run-spelled from (b ∷ rest) place class inside s =
     go (class-step b class inside) (step-kept from rest b (class .all-but) (class .items) inside s)
     (run-spelled from rest (place + 1))
   where
-    go : (step : Step) → Kept from rest step
-        → ((class : Class) (inside : Inside) → So-far from rest (class .all-but) (class .items) inside
-        → Found-spelled from (run rest (place + 1) class inside))
-        → Found-spelled from (ran-on step rest (place + 1) (run rest (place + 1)))
+    go : (step : Class-step) → After-class-byte from rest step
+        → ((class : Class) (inside : Inside) → Class-so-far from rest (class .all-but) (class .items) inside
+        → Class-spelled from (class-run rest (place + 1) class inside))
+        → Class-spelled from (class-ran-on step rest (place + 1) (class-run rest (place + 1)))
     go (goes-on class inside) s on = on class inside s
     go (whole class) s on = s
     go faulty s on = tt
 
 -- the class that is found right after a `[` is written there
 pub class-spelled : (bytes rest : List ℕ) (place next : ℕ) (class : Class)
-    → run bytes place unread opened ≡ found class rest next → Spells-class bytes rest class
+    → class-run bytes place unread opened ≡ found class rest next → Spells-class bytes rest class
 class-spelled bytes rest place next class e = rw e at (run-spelled bytes bytes place unread opened (at-opened refl))

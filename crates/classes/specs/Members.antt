@@ -12,7 +12,7 @@ use borrow.Author.Tests.{lt-ltb, le-ltb}
 use Rattle.tree.specs.Cut.{one}
 use Rattle.tree.specs.Layout.{class-record-size}
 use Rattle.classes.specs.Class.{from-to, Class, class-takes, with-item}
-use Rattle.classes.specs.ClassComplete.{gathered}
+use Rattle.classes.specs.ClassComplete.{class-of-items}
 use Rattle.classes.specs.ClassRecord.{member-bits, class-record}
 use Rattle.classes.specs.ClassRecordLaws.{one-at-most, member-byte, record-length}
 
@@ -26,7 +26,7 @@ pub record Members (class : Class) (members : List ℕ) : Type 0 where
   pub each : (v : ℕ) → v < value-count → getD members v 0 ≡ one (class-takes class v)
 
 -- every value has this number
-pub record Filled (members : List ℕ) (value : ℕ) : Type 0 where
+pub record Every-value (members : List ℕ) (value : ℕ) : Type 0 where
   pub each : (v : ℕ) → v < value-count → getD members v 0 ≡ value
 
 -- the values from the first to before `stop` have this number, the others what they had
@@ -75,8 +75,9 @@ abbrev pub item-value : (all-but : Bool) → ℕ
 item-value all-but = one (cond all-but false true)
 
 -- a class with no item
-pub filled-members : (all-but : Bool) (members : List ℕ) → length members ≡ value-count → Filled members (one all-but)
-    → Members (gathered all-but []) members
+pub filled-members : (all-but : Bool) (members : List ℕ) → length members ≡ value-count
+    → Every-value members (one all-but)
+    → Members (class-of-items all-but []) members
 filled-members all-but members long f = record { long = long; each = λ v h. f .each v h }
 
 -- one more item

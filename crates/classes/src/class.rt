@@ -1,6 +1,6 @@
 // A class: from its `[` to its `]`, 1 to 16 items, each a byte or a range.
-use crate::members::fill;
-use crate::members::put;
+use crate::members::set_all;
+use crate::members::set_range;
 use crate::part::BytePart;
 use crate::part::ClassPart;
 use crate::part::ItemPart;
@@ -11,8 +11,8 @@ ghost use Prim.Native.Nat.{_+_, _≤_, _<_};
 ghost use lib.ListN.{length, getD};
 ghost use Rattle.tree.specs.Says.{Says};
 ghost use Rattle.classes.specs.Class.{class-sign, needs-slash, item-due};
-ghost use Rattle.classes.specs.ClassComplete.{gathered};
-ghost use Rattle.classes.specs.ClassReading.{run-from, Byte-answer, Item-answer, Range-answer, count-fits};
+ghost use Rattle.classes.specs.ClassComplete.{class-of-items};
+ghost use Rattle.classes.specs.ClassReading.{class-run-from, Byte-answer, Item-answer, Range-answer, count-fits};
 ghost use Rattle.classes.specs.ClassAt.{run-at};
 ghost use Rattle.classes.specs.Members.{Members, value-count, item-value};
 ghost use Rattle.classes.specs.ClassItems.{Class-answer, Items-end-answer, Class-end-answer};
@@ -181,8 +181,9 @@ fn item_value(all_but: bool) -> u8
 // Reads the items of a class up to its `]`. `members` tells their values: 0 for each where all but those are taken.
 fn items(expr: &[u8], at: usize, members: &mut [u8], all_but: bool) -> ClassPart
     requires within { ⌜ at ≤ length (now expr) ⌝ }
-    requires empty { ⌜ Members (gathered «all_but» []) (now members) ⌝ }
-    ensures { λ r. ⌜ Class-answer (now (expr .entry)) at (run-from (now (expr .entry)) at (gathered «all_but» [])
+    requires empty { ⌜ Members (class-of-items «all_but» []) (now members) ⌝ }
+    ensures { λ r. ⌜ Class-answer (now (expr .entry)) at
+        (class-run-from (now (expr .entry)) at (class-of-items «all_but» [])
         item-due)
         (now (members .exit)) r ⌝ }
 {
@@ -200,7 +201,7 @@ fn items(expr: &[u8], at: usize, members: &mut [u8], all_but: bool) -> ClassPart
         let ItemPart::Read { first, last, next } = part else {
             return ClassPart::Faulty;
         };
-        put(members, wide(first), wide(last), value);
+        set_range(members, wide(first), wide(last), value);
         count += 1;
         place = next;
     }
@@ -213,9 +214,9 @@ pub fn class_members(expr: &[u8], at: usize, members: &mut [u8]) -> ClassPart
     ensures { λ r. ⌜ Class-answer (now (expr .entry)) at (run-at (now (expr .entry)) at) (now (members .exit)) r ⌝ }
 {
     if stands_at(expr, at + 1, b'^') {
-        fill(members, 1);
+        set_all(members, 1);
         return items(expr, at + 2, members, true);
     }
-    fill(members, 0);
+    set_all(members, 0);
     items(expr, at + 1, members, false)
 }

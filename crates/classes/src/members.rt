@@ -3,15 +3,15 @@ ghost use mathlib.Core.Path.{_≡_};
 ghost use Prim.Native.Nat.{_+_, _≤_, _<_};
 ghost use lib.ListN.{length};
 ghost use Rattle.tree.specs.Layout.{class-record-size};
-ghost use Rattle.classes.specs.Members.{value-count, Filled, Put, Zero-or-one, eight-of, Recorded-up-to};
+ghost use Rattle.classes.specs.Members.{value-count, Every-value, Put, Zero-or-one, eight-of, Recorded-up-to};
 
 // How many values a byte has.
 pub const VALUE_COUNT: usize = 256;
 
 // Gives every value this number.
-pub fn fill(members: &mut [u8], value: u8)
+pub fn set_all(members: &mut [u8], value: u8)
     requires { ⌜ length (now members) ≡ value-count ⌝ }
-    ensures { λ _. ⌜ Filled (now (members .exit)) value ⌝ }
+    ensures { λ _. ⌜ Every-value (now (members .exit)) value ⌝ }
 {
     let mut i = 0;
     while i < members.len() {
@@ -21,7 +21,7 @@ pub fn fill(members: &mut [u8], value: u8)
 }
 
 // Gives the values from the first to the last this number.
-pub fn put(members: &mut [u8], first: usize, last: usize, value: u8)
+pub fn set_range(members: &mut [u8], first: usize, last: usize, value: u8)
     requires { ⌜ (first ≤ last) × (last < length (now members)) ⌝ }
     ensures { λ _. ⌜ Put (now (members .entry)) (now (members .exit)) first (last + 1) value ⌝ }
 {

@@ -43,11 +43,11 @@ abbrev pub may-stand : (fewest most : ℕ) → Bool
 may-stand fewest most = cond (eqb most 0) false (leb fewest most)
 
 -- where the first number is due
-abbrev pub due-step : Count-sign → Count-step
-due-step (digit value) = goes-on (fewest-read value)
-due-step comma = faulty
-due-step ending = faulty
-due-step other = faulty
+abbrev pub fewest-due-step : Count-sign → Count-step
+fewest-due-step (digit value) = goes-on (fewest-read value)
+fewest-due-step comma = faulty
+fewest-due-step ending = faulty
+fewest-due-step other = faulty
 
 -- in the first number: one more digit, or the comma
 abbrev pub fewest-step : Count-sign → (fewest : ℕ) → Count-step
@@ -73,7 +73,7 @@ most-step other fewest most = faulty
 
 -- one byte, by where the reading stands
 abbrev pub count-step : ℕ → Counting → Count-step
-count-step b fewest-due = due-step (count-sign b)
+count-step b fewest-due = fewest-due-step (count-sign b)
 count-step b (fewest-read fewest) = fewest-step (count-sign b) fewest
 count-step b (most-due fewest) = most-due-step (count-sign b) fewest
 count-step b (most-read fewest most) = most-step (count-sign b) fewest most

@@ -12,14 +12,14 @@ use Rattle.counts.specs.CountGrammar.{Spells-number, one-digit, more-dig
 use Rattle.counts.specs.CountSigns.{Side, first, second, due, read, digit-due, follows, digit-more}
 
 -- the reading goes on over these bytes, up to the place that many bytes further
-pub record Runs-on (bytes rest : List ℕ) (place : ℕ) (counting later : Counting) : Type 0 where
+pub record Count-runs-on (bytes rest : List ℕ) (place : ℕ) (counting later : Counting) : Type 0 where
   pub next : ℕ
   pub counted : next + length rest ≡ place + length bytes
   pub same : count-run bytes place counting ≡ count-run rest next later
 
 -- a number that is not too large
 pub number-passes : {bytes rest : List ℕ} {number : ℕ} → Spells-number bytes rest number → (side : Side) (place : ℕ)
-    → number ≤ largest → Runs-on bytes rest place (due side) (read side number)
+    → number ≤ largest → Count-runs-on bytes rest place (due side) (read side number)
 unfolding count-run
 number-passes (one-digit {b} {value} d) side place h =
     record { next = place + 1; counted = omega arith; same = rw (digit-due side b value d) }
@@ -36,13 +36,13 @@ pub stands : (fewest most : ℕ) → fewest ≤ most → 1 ≤ most → may-stan
 stands fewest most h k = rw (ne-eqb most 0 (λ e. omega arith), le-leb fewest most h)
 
 -- the reading finds the count
-pub record Finds (bytes rest : List ℕ) (place fewest most : ℕ) : Type 0 where
+pub record Finds-count (bytes rest : List ℕ) (place fewest most : ℕ) : Type 0 where
   pub next : ℕ
   pub counted : next + length rest ≡ place + length bytes
   pub same : count-run bytes place fewest-due ≡ found fewest most rest next
 
 pub count-found : {bytes rest : List ℕ} {fewest most : ℕ} → Spells-count bytes rest fewest most → (place : ℕ)
-    → Finds bytes rest place fewest most
+    → Finds-count bytes rest place fewest most
 unfolding count-run
 count-found (from-to {fewest = fewest} {most = most} r q ordered some few) place =
     let on = number-passes r first place (omega arith) in
@@ -63,11 +63,11 @@ pub count-shorter : {bytes rest : List ℕ} {fewest most : ℕ} → Spells-count
 count-shorter (from-to r q ordered some few) = let h = number-shorter r in let k = number-shorter q in omega arith
 
 -- the bounds of its numbers
-pub record Bounded (fewest most : ℕ) : Type 0 where
+pub record Count-bounds (fewest most : ℕ) : Type 0 where
   pub ordered : fewest ≤ most
   pub some : 1 ≤ most
   pub few : most ≤ largest
 
 pub count-bounds : {bytes rest : List ℕ} {fewest most : ℕ} → Spells-count bytes rest fewest most
-    → Bounded fewest most
+    → Count-bounds fewest most
 count-bounds (from-to r q ordered some few) = record { ordered = ordered; some = some; few = few }

@@ -13,8 +13,8 @@ use Rattle.counts.specs.declared.part.CountPart.{CountPart}
 use Rattle.counts.specs.declared.part.CountPart.the-variants.{Read as Count-found, Faulty as No-count-found}
 
 -- the reading of a count from a place on, where this much was read of it
-unfoldable pub run-from : List ℕ → ℕ → Counting → Count-ran
-run-from bytes at counting = count-run (drop at bytes) at counting
+unfoldable pub count-run-from : List ℕ → ℕ → Counting → Count-ran
+count-run-from bytes at counting = count-run (drop at bytes) at counting
 
 -- a digit stands at a place
 pub record Digit-at (bytes : List ℕ) (at : ℕ) : Type 0 where
@@ -28,7 +28,7 @@ value-at bytes at = getD bytes at 0 - 48
 
 -- the digits from `at` up to `place` are this number so far
 pub record Number-so-far (bytes : List ℕ) (at number place : ℕ) : Type 0 where
-  pub on : (side : Side) → run-from bytes at (due side) ≡ run-from bytes place (read side number)
+  pub on : (side : Side) → count-run-from bytes at (due side) ≡ count-run-from bytes place (read side number)
   pub small : number ≤ largest
   pub further : at < place
   pub within : place ≤ length bytes
@@ -40,7 +40,7 @@ pub record Number-here (bytes : List ℕ) (at number next : ℕ) : Type 0 where
 
 -- no number is written there, whichever of the two is due
 pub record No-number (bytes : List ℕ) (at : ℕ) : Type 0 where
-  pub fails : (side : Side) → run-from bytes at (due side) ≡ failed
+  pub fails : (side : Side) → count-run-from bytes at (due side) ≡ failed
 
 -- what the reader of a number answers
 abbrev pub Number-answer : (bytes : List ℕ) (at : ℕ) → NumberPart → Type 0

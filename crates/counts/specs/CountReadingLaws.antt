@@ -32,7 +32,7 @@ use Rattle.counts.specs.Count.{
   most-step,
   count-step,
 }
-use Rattle.counts.specs.CountRun.{Count-ran, found, failed, ran-on, count-run, count-at}
+use Rattle.counts.specs.CountRun.{Count-ran, found, failed, count-ran-on, count-run, count-at}
 use Rattle.counts.specs.CountGrammar.{Is-digit}
 use Rattle.counts.specs.CountSigns.{
   Count-means,
@@ -50,7 +50,7 @@ use Rattle.counts.specs.CountSigns.{
 }
 use Rattle.counts.specs.CountComplete.{stands}
 use Rattle.counts.specs.CountReading.{
-  run-from,
+  count-run-from,
   Digit-at,
   value-at,
   Number-so-far,
@@ -74,23 +74,25 @@ left-at bytes at h = rw add-one (drop-cons bytes at 0 h)
 
 -- the end inside a count is a fault
 pub runs-out : (bytes : List ℕ) (at : ℕ) (counting : Counting) → at ≡ length bytes
-    → run-from bytes at counting ≡ failed
-unfolding run-from count-run
+    → count-run-from bytes at counting ≡ failed
+unfolding count-run-from count-run
 runs-out bytes at counting e = rw (left-at-end bytes at e)
 
 -- one byte
-pub one-step : (bytes : List ℕ) (at : ℕ) (counting : Counting) → at < length bytes → run-from bytes at counting
-    ≡ ran-on (count-step (getD bytes at 0) counting) (drop (at + 1) bytes) (at + 1) (run-from bytes (at + 1))
-unfolding run-from count-run
+pub one-step : (bytes : List ℕ) (at : ℕ) (counting : Counting) → at < length bytes → count-run-from bytes at counting
+    ≡ count-ran-on (count-step (getD bytes at 0) counting) (drop (at + 1) bytes) (at + 1)
+    (count-run-from bytes (at + 1))
+unfolding count-run-from count-run
 one-step bytes at counting h = rw (left-at bytes at h)
 
 -- by which the reading goes on, or fails
 pub steps-on : (bytes : List ℕ) (at : ℕ) (counting later : Counting) → at < length bytes
-    → count-step (getD bytes at 0) counting ≡ goes-on later → run-from bytes at counting ≡ run-from bytes (at + 1) later
+    → count-step (getD bytes at 0) counting ≡ goes-on later
+    → count-run-from bytes at counting ≡ count-run-from bytes (at + 1) later
 steps-on bytes at counting later h e = one-step bytes at counting h ∙ rw e
 
 pub steps-wrong : (bytes : List ℕ) (at : ℕ) (counting : Counting) → at < length bytes
-    → count-step (getD bytes at 0) counting ≡ faulty → run-from bytes at counting ≡ failed
+    → count-step (getD bytes at 0) counting ≡ faulty → count-run-from bytes at counting ≡ failed
 steps-wrong bytes at counting h e = one-step bytes at counting h ∙ rw e
 
 -- a digit that stands at a place
@@ -118,7 +120,7 @@ module _ {bytes : List ℕ} {at : ℕ} where
   pub number-missing : at ≤ length bytes → (Digit-at bytes at → ⊥) → No-number bytes at
   number-missing h no-digit = record { fails = λ side. go side (decLt at (length bytes)) }
     where
-      go : (side : Side) → Dec (at < length bytes) → run-from bytes at (due side) ≡ failed
+      go : (side : Side) → Dec (at < length bytes) → count-run-from bytes at (due side) ≡ failed
       go side (yes k) =
           steps-wrong bytes at (due side) k
           (none-due side (getD bytes at 0) (λ value d. no-digit (here-digit {bytes = bytes} {at = at} k d)))
@@ -166,11 +168,11 @@ module _ {bytes : List ℕ} {at : ℕ} where
 
 -- after the first number: the comma, or a fault
 pub comma-passes : (bytes : List ℕ) (at fewest : ℕ) → at < length bytes → getD bytes at 0 ≡ 44
-    → run-from bytes at (fewest-read fewest) ≡ run-from bytes (at + 1) (most-due fewest)
+    → count-run-from bytes at (fewest-read fewest) ≡ count-run-from bytes (at + 1) (most-due fewest)
 comma-passes bytes at fewest h e = steps-on bytes at (fewest-read fewest) (most-due fewest) h (rw e)
 
 comma-missing : (bytes : List ℕ) (at fewest : ℕ) → at ≤ length bytes → (Digit-at bytes at → ⊥)
-    → ((at < length bytes) × (getD bytes at 0 ≡ 44) → ⊥) → run-from bytes at (fewest-read fewest) ≡ failed
+    → ((at < length bytes) × (getD bytes at 0 ≡ 44) → ⊥) → count-run-from bytes at (fewest-read fewest) ≡ failed
 comma-missing bytes at fewest h no-digit no-comma = go (decLt at (length bytes))
   where
     wrong : (s : Count-sign) → at < length bytes → Count-means (getD bytes at 0) s → fewest-step s fewest ≡ faulty
@@ -179,7 +181,7 @@ comma-missing bytes at fewest h no-digit no-comma = go (decLt at (length bytes))
     wrong ending k m = refl
     wrong other k m = refl
 
-    go : Dec (at < length bytes) → run-from bytes at (fewest-read fewest) ≡ failed
+    go : Dec (at < length bytes) → count-run-from bytes at (fewest-read fewest) ≡ failed
     go (yes k) =
         steps-wrong bytes at (fewest-read fewest) k
         (wrong (count-sign (getD bytes at 0)) k (count-sign-means (getD bytes at 0)))
@@ -187,7 +189,7 @@ comma-missing bytes at fewest h no-digit no-comma = go (decLt at (length bytes))
 
 -- after the second number: the `}`, or a fault
 ending-missing : (bytes : List ℕ) (at fewest most : ℕ) → at ≤ length bytes → (Digit-at bytes at → ⊥)
-    → ((at < length bytes) × (getD bytes at 0 ≡ 125) → ⊥) → run-from bytes at (most-read fewest most) ≡ failed
+    → ((at < length bytes) × (getD bytes at 0 ≡ 125) → ⊥) → count-run-from bytes at (most-read fewest most) ≡ failed
 ending-missing bytes at fewest most h no-digit no-ending = go (decLt at (length bytes))
   where
     wrong : (s : Count-sign) → at < length bytes → Count-means (getD bytes at 0) s → most-step s fewest most ≡ faulty
@@ -196,7 +198,7 @@ ending-missing bytes at fewest most h no-digit no-ending = go (decLt at (length 
     wrong ending k m = absurd (no-ending (k, m))
     wrong other k m = refl
 
-    go : Dec (at < length bytes) → run-from bytes at (most-read fewest most) ≡ failed
+    go : Dec (at < length bytes) → count-run-from bytes at (most-read fewest most) ≡ failed
     go (yes k) =
         steps-wrong bytes at (most-read fewest most) k
         (wrong (count-sign (getD bytes at 0)) k (count-sign-means (getD bytes at 0)))
@@ -210,22 +212,22 @@ none-reversed : (fewest most : ℕ) → 1 ≤ most → most < fewest → may-sta
 none-reversed fewest most some h = rw (ne-eqb most 0 (λ e. omega arith), lt-leb fewest most h)
 
 ending-wrong : (bytes : List ℕ) (at fewest most : ℕ) → at < length bytes → getD bytes at 0 ≡ 125
-    → may-stand fewest most ≡ false → run-from bytes at (most-read fewest most) ≡ failed
+    → may-stand fewest most ≡ false → count-run-from bytes at (most-read fewest most) ≡ failed
 ending-wrong bytes at fewest most h e f = steps-wrong bytes at (most-read fewest most) h (rw (e, f))
 
 ending-right : (bytes : List ℕ) (at fewest most : ℕ) → at < length bytes → getD bytes at 0 ≡ 125
-    → may-stand fewest most ≡ true → run-from bytes at (most-read fewest most)
+    → may-stand fewest most ≡ true → count-run-from bytes at (most-read fewest most)
     ≡ found fewest most (drop (at + 1) bytes) (at + 1)
 ending-right bytes at fewest most h e f = one-step bytes at (most-read fewest most) h ∙ rw (e, f)
 
 -- the second number of a count, up to the `}`
 module _ {bytes : List ℕ} {at : ℕ} (fewest : ℕ) where
-  pub most-missing : No-number bytes at → Count-lost (run-from bytes at (most-due fewest))
+  pub most-missing : No-number bytes at → Count-lost (count-run-from bytes at (most-due fewest))
   most-missing bad = record { fails = bad .fails (second fewest) }
 
   module _ {most next : ℕ} (s : Number-here bytes at most next) where
     pub most-unclosed : ((next < length bytes) × (getD bytes next 0 ≡ 125) → ⊥)
-        → Count-lost (run-from bytes at (most-due fewest))
+        → Count-lost (count-run-from bytes at (most-due fewest))
     most-unclosed no-ending =
         record {
           fails = s .so-far .on (second fewest)
@@ -233,14 +235,14 @@ module _ {bytes : List ℕ} {at : ℕ} (fewest : ℕ) where
         }
 
     module _ (closed : (next < length bytes) × (getD bytes next 0 ≡ 125)) where
-      pub most-zero : most ≡ 0 → Count-lost (run-from bytes at (most-due fewest))
+      pub most-zero : most ≡ 0 → Count-lost (count-run-from bytes at (most-due fewest))
       most-zero e =
           record {
             fails = s .so-far .on (second fewest)
                 ∙ ending-wrong bytes next fewest most (closed .0) (closed .1) (none-of-zero fewest most e);
           }
 
-      pub most-below : 1 ≤ most → most < fewest → Count-lost (run-from bytes at (most-due fewest))
+      pub most-below : 1 ≤ most → most < fewest → Count-lost (count-run-from bytes at (most-due fewest))
       most-below some h =
           record {
             fails = s .so-far .on (second fewest)
@@ -248,7 +250,7 @@ module _ {bytes : List ℕ} {at : ℕ} (fewest : ℕ) where
           }
 
       pub most-found : 1 ≤ most → fewest ≤ most
-          → Count-here bytes at (run-from bytes at (most-due fewest)) (next + 1) fewest most
+          → Count-here bytes at (count-run-from bytes at (most-due fewest)) (next + 1) fewest most
       most-found some ordered =
           record {
             finds = s .so-far .on (second fewest)
@@ -275,8 +277,8 @@ ran-answer-of bytes at earlier ran same (Count-found next fewest most) e h a =
 ran-answer-of bytes at earlier ran same No-count-found e h a = record { fails = e ∙ a .fails }
 
 -- the reading from after a `{` is that of the first number
-from-brace : (bytes : List ℕ) (at : ℕ) → count-at bytes at ≡ run-from bytes (at + 1) (due first)
-unfolding count-at run-from
+from-brace : (bytes : List ℕ) (at : ℕ) → count-at bytes at ≡ count-run-from bytes (at + 1) (due first)
+unfolding count-at count-run-from
 from-brace bytes at = refl
 
 -- the whole count
@@ -293,7 +295,7 @@ module _ {bytes : List ℕ} (at : ℕ) where
         }
 
     pub then-most : (next < length bytes) × (getD bytes next 0 ≡ 44) → (r : CountPart)
-        → Ran-answer bytes (next + 1) (run-from bytes (next + 1) (most-due fewest)) r → Count-answer bytes at r
+        → Ran-answer bytes (next + 1) (count-run-from bytes (next + 1) (most-due fewest)) r → Count-answer bytes at r
     then-most here r a =
         ran-answer-of bytes (next + 1) at _ (count-at bytes at) r
         (from-brace bytes at ∙ s .so-far .on first ∙ comma-passes bytes next fewest (here .0) (here .1))

@@ -10,15 +10,15 @@ pub data Count-ran : Type 0 where
   failed : Count-ran
 
 -- after one byte
-abbrev pub ran-on : Count-step → (rest : List ℕ) → (next : ℕ) → (Counting → Count-ran) → Count-ran
-ran-on (goes-on counting) rest next on = on counting
-ran-on (whole fewest most) rest next on = found fewest most rest next
-ran-on faulty rest next on = failed
+abbrev pub count-ran-on : Count-step → (rest : List ℕ) → (next : ℕ) → (Counting → Count-ran) → Count-ran
+count-ran-on (goes-on counting) rest next on = on counting
+count-ran-on (whole fewest most) rest next on = found fewest most rest next
+count-ran-on faulty rest next on = failed
 
 -- the bytes from a place on, where this much was read of the count: the end inside a count is a fault
 unfoldable pub count-run : List ℕ → ℕ → Counting → Count-ran
 count-run [] place counting = failed
-count-run (b ∷ rest) place counting = ran-on (count-step b counting) rest (place + 1) (count-run rest (place + 1))
+count-run (b ∷ rest) place counting = count-ran-on (count-step b counting) rest (place + 1) (count-run rest (place + 1))
 
 -- the reading of the count whose `{` stands at a place
 unfoldable pub count-at : List ℕ → (at : ℕ) → Count-ran

@@ -8,7 +8,7 @@ ghost use lib.ListN.{length, getD};
 ghost use Rattle.tree.specs.Says.{Says};
 ghost use Rattle.counts.specs.Count.{most-due};
 ghost use Rattle.counts.specs.CountReading.{
-  run-from,
+  count-run-from,
   Digit-at,
   value-at,
   Number-answer,
@@ -84,7 +84,7 @@ fn number(expr: &[u8], at: usize) -> NumberPart
 // Reads the second number of a count, and its `}`.
 fn most(expr: &[u8], at: usize, fewest: usize) -> CountPart
     requires { ⌜ at ≤ length (now expr) ⌝ }
-    ensures { λ r. ⌜ Ran-answer (now (expr .entry)) at (run-from (now (expr .entry)) at (most-due fewest)) r ⌝ }
+    ensures { λ r. ⌜ Ran-answer (now (expr .entry)) at (count-run-from (now (expr .entry)) at (most-due fewest)) r ⌝ }
 {
     let part = number(expr, at);
     let NumberPart::Read { value, next } = part else {

@@ -3,6 +3,6 @@ pub mod Seats
 pub mod SeatsLaws
 pub mod Gathered
 pub mod GatheredLaws
-pub mod Written
+pub mod SeatRecords
 pub mod Measured
 pub mod MeasuredLaws

@@ -116,20 +116,20 @@ held-seat f (x ∷ xs) zero h = refl
 held-seat f (x ∷ xs) (suc j) h = held-seat f xs j (le-of-suc-le-suc h)
 
 -- the labels of the seats' roots are these
-record Labelled (xs : List Seat) (ls : List ℕ) : Type 0 where
+record Roots-labelled (xs : List Seat) (ls : List ℕ) : Type 0 where
   so : ls ≡ map label xs
 
 -- two lists, one after the other
-labelled-append : {xs ys : List Seat} {ls ms : List ℕ} → Labelled xs ls → Labelled ys ms
-    → Labelled (xs ++ ys) (ls ++ ms)
+labelled-append : {xs ys : List Seat} {ls ms : List ℕ} → Roots-labelled xs ls → Roots-labelled ys ms
+    → Roots-labelled (xs ++ ys) (ls ++ ms)
 labelled-append e f = record { so = rw (map-append, e .so, f .so) }
 
 -- one seat
-labelled-root : (x : Seat) → Labelled (x ∷ []) (label x ∷ [])
+labelled-root : (x : Seat) → Roots-labelled (x ∷ []) (label x ∷ [])
 labelled-root x = record { so = refl }
 
 -- a tree's list, node by node
-labelled : (t : Tree Leaf) (p n : ℕ) → Labelled (seats t p n) (labels t)
+labelled : (t : Tree Leaf) (p n : ℕ) → Roots-labelled (seats t p n) (labels t)
 labelled (leaf a) p n = labelled-root (seat (leaf a) p n)
 labelled (catenation s t) p n = labelled-append (labelled-append (labelled s _ _) (labelled t _ _))
     (labelled-root (seat (catenation s t) p n))

@@ -7,7 +7,7 @@ ghost use mathlib.Core.Path.{_≡_};
 ghost use Prim.Native.Nat.{_≤_};
 ghost use Rattle.tree.specs.Limits.{most-labels};
 ghost use Rattle.cutting.specs.Seats.{left-slot, right-slot};
-ghost use Rattle.cutting.specs.Written.{child-number};
+ghost use Rattle.cutting.specs.SeatRecords.{child-number};
 
 // The slot of the right child of record i: the record before it, for a catenation or a union.
 pub fn right_slot(label: u16, i: usize) -> usize

@@ -7,7 +7,7 @@ use Rattle.language.specs.Meaning.{Meaning}
 use Rattle.language.specs.Language.{Language}
 use Rattle.language.specs.Automaton.{Accepts}
 use Rattle.language.specs.Rest.{accepted-language}
-use Rattle.language.specs.Runs.{language-accepted}
+use Rattle.language.specs.TextRuns.{language-accepted}
 
 pub accepts-exactly : {A : Type 0} (M : Meaning A) (t : Tree A) (w : List ℕ)
     → Accepts M t w ↔ Language M t w

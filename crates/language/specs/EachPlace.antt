@@ -100,20 +100,20 @@ module _ (P : ℕ → Type 0) where
 
   module _ {A : Type 0} (empty : A) where
     -- the places of what s stands for
-    abbrev shown : Signed-tree A → List ℕ
-    shown s = places (placed-stands-for empty s)
+    abbrev sign-places : Signed-tree A → List ℕ
+    sign-places s = places (placed-stands-for empty s)
 
     -- the result: what holds of every written place holds of every place of what the signs stand for
     pub each-stands-for : (s : Signed-tree A) → Each-written P s → Each P (places (placed-stands-for empty s))
     each-stands-for (leaf place a) p = (p, tt)
     each-stands-for (catenation place s t) (p, first, second) =
-        each-two (shown s) (shown t) place (each-stands-for s first) (each-stands-for t second) p
+        each-two (sign-places s) (sign-places t) place (each-stands-for s first) (each-stands-for t second) p
     each-stands-for (union place s t) (p, first, second) =
-        each-two (shown s) (shown t) place (each-stands-for s first) (each-stands-for t second) p
-    each-stands-for (star place s) (p, each) = each-last (shown s) place (each-stands-for s each) p
+        each-two (sign-places s) (sign-places t) place (each-stands-for s first) (each-stands-for t second) p
+    each-stands-for (star place s) (p, each) = each-last (sign-places s) place (each-stands-for s each) p
     each-stands-for (one-or-more place s) (p, each) =
         let all = each-stands-for s each in
-        each-two (shown s) (shown s ++ (place ∷ [])) place all (each-last (shown s) place all p) p
+        each-two (sign-places s) (sign-places s ++ (place ∷ [])) place all (each-last (sign-places s) place all p) p
     each-stands-for (optional place s) (p, each) =
         each-perhaps place p empty (placed-stands-for empty s) (each-stands-for s each)
     each-stands-for (counted place fewest most s) (p, each) =

@@ -22,10 +22,10 @@ pub mod Automaton
 pub mod Nested
 pub mod Simulation
 mod Rest
-mod Runs
+mod TextRuns
 pub mod Acceptance
 pub mod Settled
-pub mod Walk
+pub mod StateWalk
 pub mod TwoWalks
 pub mod Visits
 mod Copies
@@ -34,6 +34,6 @@ pub mod SameEmpty
 pub mod Unmoved
 pub mod Sweeps
 pub mod Models
-pub mod Along
+pub mod AlongText
 pub mod TakenAsOne
 pub mod TakenAsOneLaws

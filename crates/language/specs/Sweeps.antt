@@ -7,7 +7,7 @@ use Rattle.language.specs.Meaning.{Meaning}
 use Rattle.language.specs.Nested.{Nested, whole, Has, origin, Models, Move, Sweep}
 use Rattle.language.specs.Simulation.{_⊆_, closed-keeps, closed-settled, closed-least}
 use Rattle.language.specs.Settled.{Settled, settled-same}
-use Rattle.language.specs.Walk.{walked-keeps, walked-more}
+use Rattle.language.specs.StateWalk.{walked-keeps, walked-more}
 use Rattle.language.specs.TwoWalks.{two-walks-settle}
 use Rattle.language.specs.Visits.{sweep-walked, sweep-within}
 use Rattle.language.specs.Copies.{

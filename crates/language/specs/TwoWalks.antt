@@ -7,7 +7,7 @@ use Rattle.language.specs.Meaning.{Meaning}
 use Rattle.language.specs.Nested.{Nested, leaf, catenation, union, star, below}
 use Rattle.language.specs.Simulation.{Settled-by}
 use Rattle.language.specs.Settled.{Wire, Settled, settled-same}
-use Rattle.language.specs.Walk.{
+use Rattle.language.specs.StateWalk.{
   Entered,
   entered-keeps,
   entered-within,

@@ -4,7 +4,7 @@ use Rattle.language.specs.Automaton.{State, left, right, States}
 use Rattle.language.specs.Meaning.{Meaning}
 use Rattle.language.specs.Nested.{Nested, leaf, catenation, union, star, below, Has, Sweep}
 use Rattle.language.specs.Settled.{Wire, Settled}
-use Rattle.language.specs.Walk.{walked-keeps}
+use Rattle.language.specs.StateWalk.{walked-keeps}
 use Rattle.language.specs.Visits.{sweep-walked, sweep-within}
 use Rattle.language.specs.Same.{Agree, sweep-more}
 

@@ -23,7 +23,7 @@ use Rattle.language.specs.Nested.{
 }
 use Rattle.language.specs.Simulation.{_⊆_, Settled-by, closed-keeps, closed-settled, closed-least}
 use Rattle.language.specs.Settled.{Wire, Settled, settled-own}
-use Rattle.language.specs.Walk.{entered-within, First, Second, Walked, walked-more}
+use Rattle.language.specs.StateWalk.{entered-within, First, Second, Walked, walked-more}
 
 -- passing down stays within a set that has the marks and passes down itself
 down-within : (e : State → State) (X Z : States) → X ⊆ Z → (Z (e start) → Z (e (left start)))

@@ -12,5 +12,5 @@ pub mod AllFoundLaws
 pub mod TableRuns
 pub mod TableUnique
 pub mod MadeOnce
-pub mod FitsLaws
+pub mod TableFitsLaws
 pub mod Example

@@ -10,7 +10,7 @@ use Rattle.language.specs.Tree.{Tree}
 use Rattle.language.specs.Automaton.{State, accepting, States, Started, Stepped}
 use Rattle.language.specs.Simulation.{none-left}
 use Rattle.language.specs.Acceptance.{accepts-exactly}
-use Rattle.language.specs.Along.{after-step}
+use Rattle.language.specs.AlongText.{after-step}
 use Rattle.language.specs.TakenAsOne.{Not-told-apart}
 use Rattle.tree.specs.Leaf.{Leaf, character, class, has-empty, Takes-byte, meaning, Matches}
 use Rattle.machines.specs.Explored.{Marks-after, Nothing-after, One-state}

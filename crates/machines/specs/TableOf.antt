@@ -27,7 +27,7 @@ abbrev pub state-room : (pieces columns : ℕ) → ℕ
 state-room pieces columns = 1 + pieces + columns
 
 -- a table of so many states fits: state 0 is one of them, and takes no room
-pub record Fits (pieces columns states table-length room-length : ℕ) : Type 0 where
+pub record Table-fits (pieces columns states table-length room-length : ℕ) : Type 0 where
   pub few : entry-count columns states ≤ most-entries
   pub in-table : entry-count columns states ≤ table-length
   pub in-room : state-room pieces columns * states ≤ room-length + state-room pieces columns

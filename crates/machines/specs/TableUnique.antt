@@ -22,12 +22,12 @@ module _ {classes : List ℕ} {t : Tree Leaf} {firsts columns : List ℕ} {texts
     {entries before a b : List ℕ} (one : Table-of classes t firsts columns texts entries before a)
     (other : Table-of classes t firsts columns texts entries before b) where
   -- where the column c begins, past the heading
-  abbrev column : ℕ → ℕ
-  column c = heading + c * (1 + length texts)
+  abbrev column-begin : ℕ → ℕ
+  column-begin c = heading + c * (1 + length texts)
 
   -- whether a state accepts
   same-accepting : (i : ℕ) → i < length texts
-      → getD a (column (length firsts) + (1 + i)) 0 ≡ getD b (column (length firsts) + (1 + i)) 0
+      → getD a (column-begin (length firsts) + (1 + i)) 0 ≡ getD b (column-begin (length firsts) + (1 + i)) 0
   same-accepting i there = elim (one .accepts i there) [
     | inl (is, matched) ↦ elim (other .accepts i there) [
       | inl (same, too) ↦ is ∙ sym same
@@ -40,7 +40,7 @@ module _ {classes : List ℕ} {t : Tree Leaf} {firsts columns : List ℕ} {texts
   ]
 
   -- the entry of state 0 in a column
-  same-nothing : (c : ℕ) → c ≤ length firsts → getD a (column c) 0 ≡ getD b (column c) 0
+  same-nothing : (c : ℕ) → c ≤ length firsts → getD a (column-begin c) 0 ≡ getD b (column-begin c) 0
   same-nothing c within = elim (decLt c (length firsts)) [
     | yes h ↦ one .nothing c h ∙ sym (other .nothing c h)
     | no h ↦
@@ -50,7 +50,7 @@ module _ {classes : List ℕ} {t : Tree Leaf} {firsts columns : List ℕ} {texts
 
   -- the entry of another
   same-state : (c i : ℕ) → c ≤ length firsts → i < length texts
-      → getD a (column c + (1 + i)) 0 ≡ getD b (column c + (1 + i)) 0
+      → getD a (column-begin c + (1 + i)) 0 ≡ getD b (column-begin c + (1 + i)) 0
   same-state c i within there = elim (decLt c (length firsts)) [
     | yes h ↦ one .leads i c there h ∙ sym (other .leads i c there h)
     | no h ↦
@@ -60,12 +60,12 @@ module _ {classes : List ℕ} {t : Tree Leaf} {firsts columns : List ℕ} {texts
 
   -- the entry of any state in any column
   same-in-column : (c s : ℕ) → c ≤ length firsts → s < 1 + length texts
-      → getD a (column c + s) 0 ≡ getD b (column c + s) 0
+      → getD a (column-begin c + s) 0 ≡ getD b (column-begin c + s) 0
   same-in-column c zero within there =
-      let none : column c + 0 ≡ column c = omega arith in
+      let none : column-begin c + 0 ≡ column-begin c = omega arith in
       rw none (same-nothing c within)
   same-in-column c (suc i) within there =
-      let next : column c + suc i ≡ column c + (1 + i) = omega arith in
+      let next : column-begin c + suc i ≡ column-begin c + (1 + i) = omega arith in
       rw next (same-state c i within (omega arith))
 
   -- an entry past the heading
@@ -77,7 +77,7 @@ module _ {classes : List ℕ} {t : Tree Leaf} {firsts columns : List ℕ} {texts
       let some : 0 < states = omega arith in
       let few : m < (length firsts + 1) * states = omega arith in
       let in-columns : m / states < length firsts + 1 = div-lt-iff-lt-mul some .1 few in
-      let at : column (m / states) + m % states ≡ n = omega (arith, div-add-mod' m states) in
+      let at : column-begin (m / states) + m % states ≡ n = omega (arith, div-add-mod' m states) in
       rw at at (same-in-column (m / states) (m % states) (omega arith) (mod-lt m some))
 
   -- an entry of the heading

@@ -38,7 +38,7 @@ use Rattle.operands.specs.Bytes.{
   sign-of,
   special,
 }
-use Rattle.classes.specs.Class.{the-dot, unread, opened, Step, goes-on, whole, faulty, class-step}
+use Rattle.classes.specs.Class.{the-dot, unread, opened, Class-step, goes-on, whole, faulty, class-step}
 use Rattle.counts.specs.Count.{
   fewest-due,
   Count-step,
@@ -201,7 +201,7 @@ module _ (syntax : Syntax) (end place : ℕ) (h : place ≤ end) (on : Onward) (
   follow-fits plain b t before groups m o = operand-fits plain b (next-factor before t place) groups m o
 
   -- in a class
-  class-fits : (step : Step) (begin : ℕ) (before : Before) (groups : List Group) → begin ≤ end
+  class-fits : (step : Class-step) (begin : ℕ) (before : Before) (groups : List Group) → begin ≤ end
       → count-faulty ≤ highest syntax
       → Open-before end groups → Tree-or-fault syntax end (classed step begin on before groups)
   class-fits (goes-on class inside) begin before groups i m o =

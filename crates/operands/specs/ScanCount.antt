@@ -5,7 +5,7 @@ use mathlib.Core.List.{List, [], _∷_}
 use Rattle.language.specs.SignedTree.{Signed-tree, counted}
 use Rattle.tree.specs.RefusalNumbers.{count-faulty}
 use Rattle.counts.specs.Count.{Counting, Count-step, goes-on, whole, faulty, count-step}
-use Rattle.counts.specs.CountRun.{Count-ran, found, failed, ran-on, count-run}
+use Rattle.counts.specs.CountRun.{Count-ran, found, failed, count-ran-on, count-run}
 use Rattle.operands.specs.Bytes.{Syntax}
 use Rattle.operands.specs.Scanner.{Atom, Outcome, refused, in-count, after, Before, Group, recounted, scan}
 
@@ -19,7 +19,7 @@ module _ (syntax : Syntax) (begin : ℕ) (t : Signed-tree Atom) (before : Before
       → ((counting : Counting) → scan syntax rest next (in-count begin t counting) before groups
       ≡ after-count (count-run rest next counting))
       → recounted step begin t (scan syntax rest next) before groups
-      ≡ after-count (ran-on step rest next (count-run rest next))
+      ≡ after-count (count-ran-on step rest next (count-run rest next))
   after-step (goes-on counting) rest next on = on counting
   after-step (whole fewest most) rest next on = refl
   after-step faulty rest next on = refl

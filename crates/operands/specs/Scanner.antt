@@ -46,7 +46,7 @@ use Rattle.operands.specs.Bytes.{
   sign-of,
   special,
 }
-use Rattle.classes.specs.Class.{Class, the-dot, unread, Inside, opened, Step, goes-on, whole, faulty, class-step}
+use Rattle.classes.specs.Class.{Class, the-dot, unread, Inside, opened, Class-step, goes-on, whole, faulty, class-step}
 use Rattle.counts.specs.Count.{
   Counting,
   fewest-due,
@@ -172,7 +172,7 @@ follow end-brace b t place on before groups = operand end-brace b place on (next
 follow plain b t place on before groups = operand plain b place on (next-factor before t place) groups
 
 -- a byte inside a class whose `[` stands at `begin`: every fault of a class is 14 there
-abbrev pub classed : Step → (begin : ℕ) → Onward → Before → List Group → Outcome (Signed-tree Atom)
+abbrev pub classed : Class-step → (begin : ℕ) → Onward → Before → List Group → Outcome (Signed-tree Atom)
 classed (goes-on class inside) begin on before groups = on (in-class begin class inside) before groups
 classed (whole class) begin on before groups = on (after (leaf begin (one-of class))) before groups
 classed faulty begin on before groups = refused class-faulty begin

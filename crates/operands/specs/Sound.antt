@@ -38,13 +38,13 @@ use Rattle.classes.specs.Class.{
   unread,
   Inside,
   opened,
-  Step,
+  Class-step,
   goes-on,
   whole as whole-class,
   faulty,
   class-step,
 }
-use Rattle.classes.specs.ClassSound.{So-far, at-opened, Kept, step-kept}
+use Rattle.classes.specs.ClassSound.{Class-so-far, at-opened, After-class-byte, step-kept}
 use Rattle.counts.specs.Count.{
   Counting,
   fewest-due,
@@ -55,9 +55,9 @@ use Rattle.counts.specs.Count.{
   count-step,
 }
 use Rattle.counts.specs.CountSound.{
-  So-far as Count-so-far,
+  Count-so-far,
   at-opened as at-brace,
-  Kept as Count-kept,
+  After-count-byte as Count-kept,
   step-kept as
       count-kept,
 }
@@ -164,7 +164,7 @@ pub data Read-so-far (syntax : Syntax) (whole : List ℕ) : List ℕ → Phase �
       {groups : List Group} → Read-around syntax whole groups inside
       → Read-before syntax (length whole) (length groups) inside (b ∷ from) before → sign-of syntax b ≡ bracket
       → Begins-at (length whole) place (b ∷ from)
-      → So-far from rest (class .all-but) (class .items) inner
+      → Class-so-far from rest (class .all-but) (class .items) inner
       → Read-so-far syntax whole rest (in-class place class inner) before groups
   at-count : {place b : ℕ} {counting : Counting} {inside from after-sign rest : List ℕ} {before : Before}
       {groups : List Group} {t : Signed-tree Atom} → Read-around syntax whole groups inside
@@ -374,7 +374,8 @@ module _ (syntax : Syntax) (whole rest : List ℕ) (t : Signed-tree Atom) (on : 
   class-sound : {inside from : List ℕ} (b begin : ℕ) (before : Before) (groups : List Group)
       → Read-around syntax whole groups inside
       → Read-before syntax (length whole) (length groups) inside (b ∷ from) before
-      → sign-of syntax b ≡ bracket → Begins-at (length whole) begin (b ∷ from) → (step : Step) → Kept from rest step
+      → sign-of syntax b ≡ bracket → Begins-at (length whole) begin (b ∷ from) → (step : Class-step)
+      → After-class-byte from rest step
       → classed step begin on before groups ≡ tree t
       → Written syntax whole t
   class-sound b begin before groups around w p at (goes-on class inner) kept e =

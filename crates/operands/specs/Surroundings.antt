@@ -86,8 +86,8 @@ use Rattle.operands.specs.Grammar.{Level, single, starred, joined, unite
 use Rattle.operands.specs.Stopping.{stopping, Stops, at-end, at-sign, beginning}
 
 -- the scan of the bytes from a place on
-unfoldable pub from : Syntax → List ℕ → ℕ → Onward
-from syntax bytes at = scan syntax (drop at bytes) at
+unfoldable pub scan-from : Syntax → List ℕ → ℕ → Onward
+scan-from syntax bytes at = scan syntax (drop at bytes) at
 
 -- what may stand before a reading of this level: before an operand anything, before a catenation no factor, before a
 -- union nothing
@@ -102,13 +102,13 @@ seen united before = nothing
 pub record Leads (syntax : Syntax) (level : Level) (bytes : List ℕ) (depth at : ℕ) (t : Signed-tree Atom)
     (next : ℕ) : Type 0 where
   pub onward : (before : Before) (groups : List Group) → length groups ≡ depth
-      → from syntax bytes at due (seen level before) groups
-      ≡ from syntax bytes next (after t) (seen level before) groups
+      → scan-from syntax bytes at due (seen level before) groups
+      ≡ scan-from syntax bytes next (after t) (seen level before) groups
 
 -- in all surroundings with `depth` groups open, scanning on from `at` with an operand due gives this refusal
 pub record Fails (syntax : Syntax) (level : Level) (bytes : List ℕ) (depth at number place : ℕ) : Type 0 where
   pub onward : (before : Before) (groups : List Group) → length groups ≡ depth
-      → from syntax bytes at due (seen level before) groups ≡ refused number place
+      → scan-from syntax bytes at due (seen level before) groups ≡ refused number place
 
 -- where an operand stops it makes no difference whether it is still a factor of its own or the catenation's last
 factor-follow : (u : Option Waiting) (s : Waiting) (t : Signed-tree Atom) (sign : Sign) (b place : ℕ) (on : Onward)
@@ -213,9 +213,9 @@ due-special syntax plain b place on before groups means no-opening no-backslash 
 module _ (syntax : Syntax) (bytes : List ℕ) where
   -- at a byte the scan takes it, and goes on from the next place
   pub from-byte : (at : ℕ) (phase : Phase) (before : Before) (groups : List Group) → at < length bytes
-      → from syntax bytes at phase before groups
-      ≡ byte-at syntax (getD bytes at 0) at phase (from syntax bytes (at + 1)) before groups
-  unfolding from scan
+      → scan-from syntax bytes at phase before groups
+      ≡ byte-at syntax (getD bytes at 0) at phase (scan-from syntax bytes (at + 1)) before groups
+  unfolding scan-from scan
   from-byte at phase before groups h =
       ap (λ (l : List ℕ). scan syntax l at phase before groups) (drop-cons bytes at 0 h)
       ∙ ap (λ (n : ℕ). byte-at syntax (getD bytes at 0) at phase (scan syntax (drop n bytes) (at + 1)) before groups)
@@ -223,9 +223,9 @@ module _ (syntax : Syntax) (bytes : List ℕ) where
 
   -- at the end
   pub from-end : (phase : Phase) (before : Before) (groups : List Group)
-      → from syntax bytes (length bytes) phase before groups
+      → scan-from syntax bytes (length bytes) phase before groups
       ≡ end-at (length bytes) phase before groups
-  unfolding from scan
+  unfolding scan-from scan
   from-end phase before groups = rw drop-length
 
   -- the byte at a place
@@ -235,15 +235,16 @@ module _ (syntax : Syntax) (bytes : List ℕ) where
   -- the same, where the sign of the byte is known
   at-due : {s : Sign} (at : ℕ) (before : Before) (groups : List Group) → at < length bytes
       → sign-of syntax (byte at) ≡ s
-      → from syntax bytes at due before groups ≡ operand s (byte at) at (from syntax bytes (at + 1)) before groups
+      → scan-from syntax bytes at due before groups
+      ≡ operand s (byte at) at (scan-from syntax bytes (at + 1)) before groups
   at-due at before groups h e = from-byte at due before groups h
-      ∙ ap (λ (s : Sign). operand s (byte at) at (from syntax bytes (at + 1)) before groups) e
+      ∙ ap (λ (s : Sign). operand s (byte at) at (scan-from syntax bytes (at + 1)) before groups) e
 
   at-after : {s : Sign} (at : ℕ) (t : Signed-tree Atom) (before : Before) (groups : List Group) → at < length bytes
-      → sign-of syntax (byte at) ≡ s → from syntax bytes at (after t) before groups
-      ≡ follow s (byte at) t at (from syntax bytes (at + 1)) before groups
+      → sign-of syntax (byte at) ≡ s → scan-from syntax bytes at (after t) before groups
+      ≡ follow s (byte at) t at (scan-from syntax bytes (at + 1)) before groups
   at-after at t before groups h e = from-byte at (after t) before groups h
-      ∙ ap (λ (s : Sign). follow s (byte at) t at (from syntax bytes (at + 1)) before groups) e
+      ∙ ap (λ (s : Sign). follow s (byte at) t at (scan-from syntax bytes (at + 1)) before groups) e
 
   -- a plain byte stands for itself
   pub leads-plain : (depth at : ℕ) → at < length bytes → sign-of syntax (byte at) ≡ plain
@@ -260,7 +261,7 @@ module _ (syntax : Syntax) (bytes : List ℕ) where
             at-due at before groups (omega arith) (ap (sign-of syntax) e)
             ∙ from-byte (at + 1) (escaping at) before groups h
             ∙ ap (λ (b : Bool).
-            cond b (from syntax bytes (at + 1 + 1) (after (leaf at (literal (byte (at + 1))))) before groups)
+            cond b (scan-from syntax bytes (at + 1 + 1) (after (leaf at (literal (byte (at + 1))))) before groups)
             (refused backslash-before-no-sign at)) s;
       }
 
@@ -274,7 +275,7 @@ module _ (syntax : Syntax) (bytes : List ℕ) where
             at-due at before groups (omega arith) (ap (sign-of syntax) e)
             ∙ from-byte (at + 1) (escaping at) before groups h
             ∙ ap (λ (b : Bool).
-            cond b (from syntax bytes (at + 1 + 1) (after (leaf at (literal (byte (at + 1))))) before groups)
+            cond b (scan-from syntax bytes (at + 1 + 1) (after (leaf at (literal (byte (at + 1))))) before groups)
             (refused backslash-before-no-sign at)) s;
       }
 
@@ -298,7 +299,7 @@ module _ (syntax : Syntax) (bytes : List ℕ) where
       record {
         onward = λ before groups d.
             from-byte at due before groups h ∙ due-special syntax (sign-of syntax (byte at)) (byte at) at
-            (from syntax bytes (at + 1)) before
+            (scan-from syntax bytes (at + 1)) before
             groups (sign-means syntax (byte at)) no-opening no-backslash common e;
       }
 
@@ -316,11 +317,11 @@ module _ (syntax : Syntax) (bytes : List ℕ) where
   opened at before = record { place = at; outside = before }
 
   opens : {depth at : ℕ} (before : Before) (groups : List Group) → length groups ≡ depth → depth < most-groups
-      → at < length bytes → byte at ≡ 40 → from syntax bytes at due before groups
-      ≡ from syntax bytes (at + 1) due nothing (opened at before ∷ groups)
+      → at < length bytes → byte at ≡ 40 → scan-from syntax bytes at due before groups
+      ≡ scan-from syntax bytes (at + 1) due nothing (opened at before ∷ groups)
   opens {depth} {at} before groups d few h e =
       at-due at before groups h (ap (sign-of syntax) e)
-      ∙ ap (λ (b : Bool). cond b (from syntax bytes (at + 1) due nothing (opened at before ∷ groups))
+      ∙ ap (λ (b : Bool). cond b (scan-from syntax bytes (at + 1) due nothing (opened at before ∷ groups))
       (refused too-many-groups at))
       (lt-ltb (length groups) most-groups (omega arith))
 
@@ -335,7 +336,7 @@ module _ (syntax : Syntax) (bytes : List ℕ) where
       record {
         onward = λ before groups d.
             at-due at before groups h (ap (sign-of syntax) e)
-            ∙ ap (λ (b : Bool). cond b (from syntax bytes (at + 1) due nothing (opened at before ∷ groups))
+            ∙ ap (λ (b : Bool). cond b (scan-from syntax bytes (at + 1) due nothing (opened at before ∷ groups))
             (refused too-many-groups at)) (le-ltb (length groups) most-groups (omega arith));
       }
 
@@ -395,9 +396,9 @@ module _ (syntax : Syntax) (bytes : List ℕ) where
   stopped : {level : Level} (t s : Signed-tree Atom) (before other : Before) (groups : List Group) (place : ℕ)
       → Stops syntax level bytes place → finished before t ≡ finished other s
       → ((sign : Sign) → stopping level sign ≡ true
-      → follow sign (byte place) t place (from syntax bytes (place + 1)) before groups
-      ≡ follow sign (byte place) s place (from syntax bytes (place + 1)) other groups)
-      → from syntax bytes place (after t) before groups ≡ from syntax bytes place (after s) other groups
+      → follow sign (byte place) t place (scan-from syntax bytes (place + 1)) before groups
+      ≡ follow sign (byte place) s place (scan-from syntax bytes (place + 1)) other groups)
+      → scan-from syntax bytes place (after t) before groups ≡ scan-from syntax bytes place (after s) other groups
   stopped t s before other groups place (at-end e) same alike =
       rw e (from-end (after t) before groups ∙ end-same t (length bytes) before s other groups same
       ∙ sym (from-end (after s) other groups))
@@ -406,10 +407,11 @@ module _ (syntax : Syntax) (bytes : List ℕ) where
 
   -- the next operand is due where a catenation does not stop
   begins : (place : ℕ) (t : Signed-tree Atom) (before : Before) (groups : List Group) → place < length bytes
-      → beginning (sign-of syntax (byte place)) ≡ true → from syntax bytes place (after t) before groups
-      ≡ from syntax bytes place due (next-factor before t place) groups
+      → beginning (sign-of syntax (byte place)) ≡ true → scan-from syntax bytes place (after t) before groups
+      ≡ scan-from syntax bytes place due (next-factor before t place) groups
   begins place t before groups h e = from-byte place (after t) before groups h
-      ∙ begin-follow (sign-of syntax (byte place)) (byte place) t place (from syntax bytes (place + 1)) before groups e
+      ∙ begin-follow (sign-of syntax (byte place)) (byte place) t place (scan-from syntax bytes (place + 1)) before
+      groups e
       ∙ sym (from-byte place due (next-factor before t place) groups h)
 
   -- a catenation with one more operand
@@ -427,7 +429,7 @@ module _ (syntax : Syntax) (bytes : List ℕ) where
               ∙ stopped t (catenation place s t) (next-factor (seen joined before) s place) (seen joined before)
               groups next stop refl
               (λ sign e. factor-follow (before .unions) (record { place = place; left = s }) t sign (byte next) next
-              (from syntax bytes (next + 1)) groups e);
+              (scan-from syntax bytes (next + 1)) groups e);
         }
 
     pub fails-factor : {number fault : ℕ} → Fails syntax starred bytes depth place number fault
@@ -442,8 +444,8 @@ module _ (syntax : Syntax) (bytes : List ℕ) where
   -- a union with one more branch
   module _ {depth at : ℕ} {s : Signed-tree Atom} (place : ℕ) (l : Leads syntax united bytes depth at s place)
       (h : place < length bytes) (e : byte place ≡ 124) where
-    branches : (groups : List Group) → length groups ≡ depth → from syntax bytes at due nothing groups
-        ≡ from syntax bytes (place + 1) due (next-union nothing s place) groups
+    branches : (groups : List Group) → length groups ≡ depth → scan-from syntax bytes at due nothing groups
+        ≡ scan-from syntax bytes (place + 1) due (next-union nothing s place) groups
     branches groups d = l .onward nothing groups d ∙ at-after place s nothing groups h (ap (sign-of syntax) e)
 
     pub leads-branch : {next : ℕ} {t : Signed-tree Atom} → Leads syntax joined bytes depth (place + 1) t next
@@ -455,7 +457,7 @@ module _ (syntax : Syntax) (bytes : List ℕ) where
               ∙ r .onward (next-union nothing s place) groups d
               ∙ stopped t (union place s t) (next-union nothing s place) nothing groups next stop refl
               (λ sign e. branch-follow (record { place = place; left = s }) t sign (byte next) next
-              (from syntax bytes (next + 1)) groups e);
+              (scan-from syntax bytes (next + 1)) groups e);
         }
 
     pub fails-branch : {number fault : ℕ} → Fails syntax joined bytes depth (place + 1) number fault
@@ -465,11 +467,11 @@ module _ (syntax : Syntax) (bytes : List ℕ) where
 
   -- the whole expression was read: nothing is before it, and no group is open
   module _ {t : Signed-tree Atom} (next : ℕ) (l : Leads syntax united bytes 0 0 t next) where
-    pub accepts : next ≡ length bytes → from syntax bytes 0 due nothing [] ≡ tree t
+    pub accepts : next ≡ length bytes → scan-from syntax bytes 0 due nothing [] ≡ tree t
     accepts e = l .onward nothing [] refl ∙ rw e (from-end (after t) nothing [])
 
     pub closes-none : next < length bytes → byte next ≡ 41
-        → from syntax bytes 0 due nothing [] ≡ refused closing-without-group next
+        → scan-from syntax bytes 0 due nothing [] ≡ refused closing-without-group next
     closes-none h e = l .onward nothing [] refl ∙ at-after next t nothing [] h (ap (sign-of syntax) e)
 
 -- what the second syntax has
@@ -489,9 +491,9 @@ module _ (bytes : List ℕ) (depth at : ℕ) (h : at < length bytes) where
       record { onward = λ before groups d. at-due second bytes at before groups h (ap (sign-of second) e) }
 
   -- a `[` leads into a class
-  enters : getD bytes at 0 ≡ 91 → (before : Before) (groups : List Group) → from second bytes at due before groups
+  enters : getD bytes at 0 ≡ 91 → (before : Before) (groups : List Group) → scan-from second bytes at due before groups
       ≡ after-class second at before groups (run-at bytes at)
-  unfolding from run-at
+  unfolding scan-from run-at
   enters e before groups =
       at-due second bytes at before groups h (ap (sign-of second) e)
       ∙ scan-class second at before groups (drop (at + 1) bytes) (at + 1) unread class-opened
@@ -500,7 +502,7 @@ module _ (bytes : List ℕ) (depth at : ℕ) (h : at < length bytes) where
   pub leads-class : {class : Class} {next : ℕ} → getD bytes at 0 ≡ 91
       → run-at bytes at ≡ found class (drop next bytes) next
       → Leads second starred bytes depth at (leaf at (one-of class)) next
-  unfolding from
+  unfolding scan-from
   leads-class e f =
       record { onward = λ before groups d. enters e before groups ∙ ap (after-class second at before groups) f }
 
@@ -531,9 +533,9 @@ module _ {bytes : List ℕ} {depth at : ℕ} {t : Signed-tree Atom} (place : ℕ
 
   -- a `{` leads into its count
   enters-count : getD bytes place 0 ≡ 123 → (before : Before) (groups : List Group) → length groups ≡ depth
-      → from second bytes at due before groups
+      → scan-from second bytes at due before groups
       ≡ after-count second place t before groups (count-at bytes place)
-  unfolding from count-at
+  unfolding scan-from count-at
   enters-count e before groups d =
       l .onward before groups d ∙ at-after second bytes place _ before groups h (ap (sign-of second) e)
       ∙ scan-count second place t before groups (drop (place + 1) bytes) (place + 1) fewest-due
@@ -542,7 +544,7 @@ module _ {bytes : List ℕ} {depth at : ℕ} {t : Signed-tree Atom} (place : ℕ
   pub leads-counted : {fewest most next : ℕ} → getD bytes place 0 ≡ 123
       → count-at bytes place ≡ count-found fewest most (drop next bytes) next
       → Leads second starred bytes depth at (counted place fewest most t) next
-  unfolding from
+  unfolding scan-from
   leads-counted e f =
       record {
         onward = λ before groups d. enters-count e before groups d ∙ ap (after-count second place t before groups) f;

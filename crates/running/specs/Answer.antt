@@ -8,27 +8,27 @@ use Rattle.tree.specs.RefusalNumbers.{table-too-short}
 use Rattle.running.specs.Runs.{runs}
 use Rattle.running.specs.declared.TableMatched.{TableMatched}
 use Rattle.running.specs.declared.TableMatched.the-variants.{Yes, No, TooShort}
-use Rattle.running.specs.declared.numbers.Numbers.{Numbers}
+use Rattle.running.specs.declared.numbers.TableNumbers.{TableNumbers}
 
 -- the entries that say where columns begin: one for each byte, and one for the column of accepting
 abbrev pub shortest-table : ℕ
 shortest-table = 257
 
 -- a refusal gives its number
-abbrev pub refusing : (number : ℕ) → Numbers
-refusing number = record { refusal = number; matched = false }
+abbrev pub refusing-table : (number : ℕ) → TableNumbers
+refusing-table number = record { refusal = number; matched = false }
 
 -- whether the table accepts the text
-abbrev pub answering : Bool → Numbers
-answering matched = record { refusal = 0; matched = matched }
+abbrev pub answering-table : Bool → TableNumbers
+answering-table matched = record { refusal = 0; matched = matched }
 
 -- the numbers of each answer
-abbrev pub table-numbers : TableMatched → Numbers
-table-numbers Yes = answering true
-table-numbers No = answering false
-table-numbers TooShort = refusing table-too-short
+abbrev pub table-numbers : TableMatched → TableNumbers
+table-numbers Yes = answering-table true
+table-numbers No = answering-table false
+table-numbers TooShort = refusing-table table-too-short
 
 -- the numbers for a table and a text: a table that is too short is refused, else it runs
-abbrev pub answered : (table text : List ℕ) → Numbers
-answered table text =
-    cond (ltb (length table) shortest-table) (refusing table-too-short) (answering (runs table text))
+abbrev pub table-answered : (table text : List ℕ) → TableNumbers
+table-answered table text =
+    cond (ltb (length table) shortest-table) (refusing-table table-too-short) (answering-table (runs table text))

@@ -7,15 +7,15 @@ use mathlib.Core.List.{List, [], _∷_, _++_}
 use lib.ListN.{replicate, take, set}
 use Rattle.tree.specs.RefusalNumbers.{table-too-short}
 use Rattle.running.specs.Runs.{led, runs}
-use Rattle.running.specs.Answer.{refusing, answering, answered}
+use Rattle.running.specs.Answer.{refusing-table, answering-table, table-answered}
 
 -- the column of `a` begins at entry 260, that of all other bytes at 257, that of accepting at 263
-abbrev begins : List ℕ
-begins = replicate 97 257 ++ (260 ∷ replicate 158 257) ++ (263 ∷ [])
+abbrev column-begins : List ℕ
+column-begins = replicate 97 257 ++ (260 ∷ replicate 158 257) ++ (263 ∷ [])
 
 -- states 0, 1 and 2 of each column: `a` leads from state 1 to state 2, which accepts
 abbrev table : List ℕ
-table = begins ++ (0 ∷ 0 ∷ 0 ∷ []) ++ (0 ∷ 2 ∷ 0 ∷ []) ++ (0 ∷ 0 ∷ 1 ∷ [])
+table = column-begins ++ (0 ∷ 0 ∷ 0 ∷ []) ++ (0 ∷ 2 ∷ 0 ∷ []) ++ (0 ∷ 0 ∷ 1 ∷ [])
 
 only-a : (runs table (97 ∷ []) ≡ true) × (runs table [] ≡ false) × (runs table (98 ∷ []) ≡ false)
     × (runs table (97 ∷ 97 ∷ []) ≡ false)
@@ -39,6 +39,7 @@ other-than-one : runs (set table 265 2) (97 ∷ []) ≡ false
 other-than-one = refl
 
 -- 257 entries are enough, 256 are refused
-lengths : (answered (take 256 table) [] ≡ refusing table-too-short) × (answered (take 257 table) [] ≡ answering false)
-    × (answered table (97 ∷ []) ≡ answering true)
+lengths : (table-answered (take 256 table) [] ≡ refusing-table table-too-short)
+    × (table-answered (take 257 table) [] ≡ answering-table false)
+    × (table-answered table (97 ∷ []) ≡ answering-table true)
 lengths = (refl, refl, refl)

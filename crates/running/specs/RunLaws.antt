@@ -10,7 +10,7 @@ use lib.Seq.{drop-cons, drop-length, take-all, getD-drop}
 use lib.Dec.{eqb, eqb·suc-zero}
 use borrow.Author.Tests.{lt-ltb, le-ltb}
 use Rattle.tree.specs.RefusalNumbers.{table-too-short}
-use Rattle.running.specs.Answer.{shortest-table, refusing, answering, answered}
+use Rattle.running.specs.Answer.{shortest-table, refusing-table, answering-table, table-answered}
 use Rattle.running.specs.Runs.{entry, accepting-column, leads, led, accepts, runs}
 
 -- from state 0 every text leads to state 0
@@ -63,14 +63,15 @@ decided table text i s over some same =
 
 -- a table that is too short is refused
 pub answered-short : (table text : List ℕ) → length table < shortest-table
-    → refusing table-too-short ≡ answered table text
+    → refusing-table table-too-short ≡ table-answered table text
 answered-short table text short =
-    ap (λ (b : Bool). cond b (refusing table-too-short) (answering (runs table text)))
+    ap (λ (b : Bool). cond b (refusing-table table-too-short) (answering-table (runs table text)))
     (sym (lt-ltb (length table) shortest-table short))
 
 -- any other runs
 pub answered-long : (table text : List ℕ) (r : Bool) → shortest-table ≤ length table → r ≡ runs table text
-    → answering r ≡ answered table text
+    → answering-table r ≡ table-answered table text
 answered-long table text r long ran =
-    ap answering ran ∙ ap (λ (b : Bool). cond b (refusing table-too-short) (answering (runs table text)))
+    ap answering-table ran ∙ ap (λ (b : Bool). cond b (refusing-table table-too-short)
+    (answering-table (runs table text)))
     (sym (le-ltb (length table) shortest-table long))

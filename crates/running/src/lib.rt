@@ -4,7 +4,7 @@ pub mod run;
 
 use run::runs;
 ghost use mathlib.Core.Path.{_≡_};
-ghost use Rattle.running.specs.Answer.{table-numbers, answered};
+ghost use Rattle.running.specs.Answer.{table-numbers, table-answered};
 
 // The entries that say where columns begin: one for each byte, and one for the column of accepting.
 pub const HEADING: usize = 257;
@@ -20,7 +20,7 @@ pub enum TableMatched {
 
 // Whether the table accepts the whole text.
 pub fn match_table(table: &[u16], text: &[u8]) -> TableMatched
-    ensures { λ r. ⌜ table-numbers r ≡ answered (now (table .entry)) (now (text .entry)) ⌝ }
+    ensures { λ r. ⌜ table-numbers r ≡ table-answered (now (table .entry)) (now (text .entry)) ⌝ }
 {
     if table.len() < HEADING {
         return TableMatched::TooShort;

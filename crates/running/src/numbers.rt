@@ -5,25 +5,25 @@ ghost use mathlib.Core.Path.{_≡_};
 ghost use Rattle.running.specs.Answer.{table-numbers};
 
 // The refusal's number, 0 for none; whether the table accepts the text.
-pub struct Numbers {
+pub struct TableNumbers {
     pub refusal: u8,
     pub matched: bool,
 }
 
 // The numbers of an answer.
-pub fn numbers_of(answer: TableMatched) -> Numbers
+pub fn numbers_of(answer: TableMatched) -> TableNumbers
     ensures { λ r. ⌜ r ≡ table-numbers answer ⌝ }
 {
     match answer {
-        TableMatched::Yes => Numbers {
+        TableMatched::Yes => TableNumbers {
             refusal: 0,
             matched: true,
         },
-        TableMatched::No => Numbers {
+        TableMatched::No => TableNumbers {
             refusal: 0,
             matched: false,
         },
-        TableMatched::TooShort => Numbers {
+        TableMatched::TooShort => TableNumbers {
             refusal: TABLE_TOO_SHORT,
             matched: false,
         },

@@ -99,7 +99,7 @@ module _ {syntax : Syntax} {places : Bool} {bytes : List ℕ} {first begin start
       record { on = λ at list w. on depth .on at list (so-far depth .on at list w) }
 
 -- a sign that was found takes a byte at least, and the labels do not become fewer
-pub record Found (bytes : List ℕ) (place count next total : ℕ) : Type 0 where
+pub record Sign-found (bytes : List ℕ) (place count next total : ℕ) : Type 0 where
   pub further : place < next
   pub within : next ≤ length bytes
   pub grown : count ≤ total
@@ -108,7 +108,7 @@ pub record Found (bytes : List ℕ) (place count next total : ℕ) : Type 0 wher
 pub found : {syntax : Syntax} {places : Bool} {bytes : List ℕ} {first place count next total : ℕ}
     {earlier later : List ℕ}
     → One-sign syntax places bytes first place count earlier next total later → (next ≡ place → ⊥)
-    → Found bytes place count next total
+    → Sign-found bytes place count next total
 found (no-sign same counted kept stops) other = absurd (other same)
 found (one-sign further within grown few on) other =
     record { further = further; within = within; grown = grown; few = few }

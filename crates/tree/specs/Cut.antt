@@ -31,11 +31,12 @@ one true = 1
 one false = 0
 
 -- the nodes at and below the root that are in the root's piece
-abbrev pub part : {A : Type 0} (t : Tree A) → Cut t → ℕ
-part (leaf a) c = 1
-part (catenation s t) c = 1 + kept (c .0) (part s (c .1)) + kept (c .2) (part t (c .3))
-part (union s t) c = 1 + kept (c .0) (part s (c .1)) + kept (c .2) (part t (c .3))
-part (star s) c = 1 + kept (c .0) (part s (c .1))
+abbrev pub root-piece-nodes : {A : Type 0} (t : Tree A) → Cut t → ℕ
+root-piece-nodes (leaf a) c = 1
+root-piece-nodes (catenation s t) c = 1 + kept (c .0) (root-piece-nodes s (c .1)) + kept (c .2)
+    (root-piece-nodes t (c .3))
+root-piece-nodes (union s t) c = 1 + kept (c .0) (root-piece-nodes s (c .1)) + kept (c .2) (root-piece-nodes t (c .3))
+root-piece-nodes (star s) c = 1 + kept (c .0) (root-piece-nodes s (c .1))
 
 -- how many edges are cut
 abbrev pub cuts : {A : Type 0} (t : Tree A) → Cut t → ℕ
@@ -52,9 +53,9 @@ pieces t c = 1 + cuts t c
 -- node is the whole piece
 abbrev pub Fits : {A : Type 0} (t : Tree A) → Cut t → Type 0
 Fits (leaf a) c = Unit {0}
-Fits (catenation s t) c = (part (catenation s t) c ≤ most-nodes) × Fits s (c .1) × Fits t (c .3)
-Fits (union s t) c = (part (union s t) c ≤ most-nodes) × Fits s (c .1) × Fits t (c .3)
-Fits (star s) c = (part (star s) c ≤ most-nodes) × Fits s (c .1)
+Fits (catenation s t) c = (root-piece-nodes (catenation s t) c ≤ most-nodes) × Fits s (c .1) × Fits t (c .3)
+Fits (union s t) c = (root-piece-nodes (union s t) c ≤ most-nodes) × Fits s (c .1) × Fits t (c .3)
+Fits (star s) c = (root-piece-nodes (star s) c ≤ most-nodes) × Fits s (c .1)
 
 -- whether the left child, of open size l, is cut off: the sum passes 15, and it is the larger, or as large, or still
 -- passes 15 without the right one

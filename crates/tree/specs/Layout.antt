@@ -48,13 +48,13 @@ abbrev pub two-bytes : ℕ → List ℕ
 two-bytes n = n % 256 ∷ n / 256 % 256 ∷ []
 
 -- the last four bytes of a record: the place 0, and two bytes that are 0
-abbrev pub unplaced : List ℕ
-unplaced = 0 ∷ 0 ∷ 0 ∷ 0 ∷ []
+abbrev pub no-place : List ℕ
+no-place = 0 ∷ 0 ∷ 0 ∷ 0 ∷ []
 
 -- the bytes of a record with the place 0: kind, character, left or only child, right child, piece
 abbrev pub record-of : (kind character left right piece : ℕ) → List ℕ
 record-of kind character left right piece =
-    kind ∷ character ∷ (two-bytes left ++ two-bytes right ++ two-bytes piece ++ unplaced)
+    kind ∷ character ∷ (two-bytes left ++ two-bytes right ++ two-bytes piece ++ no-place)
 
 -- kind and character of a record as one number: what its first two bytes hold
 abbrev pub label-of : (kind character : ℕ) → ℕ
@@ -63,7 +63,7 @@ label-of kind character = kind + 256 * character
 -- four numbers side by side, kind and character, left or only child, right child, piece; and the place 0
 abbrev pub four-numbers : (first left right piece : ℕ) → List ℕ
 four-numbers first left right piece =
-    two-bytes first ++ two-bytes left ++ two-bytes right ++ two-bytes piece ++ unplaced
+    two-bytes first ++ two-bytes left ++ two-bytes right ++ two-bytes piece ++ no-place
 
 -- the label of a class leaf, which tells its number: of no other kind is it 5 more than a multiple of 8
 abbrev pub class-label : (number : ℕ) → ℕ

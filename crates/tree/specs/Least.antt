@@ -10,7 +10,7 @@ use native.Mathlib.Decide.{decLt}
 use Rattle.language.specs.Tree.{Tree, leaf, catenation, union, star}
 use Rattle.tree.specs.Leaf.{Leaf}
 use Rattle.tree.specs.Limits.{most-nodes, most-pieces}
-use Rattle.tree.specs.Cut.{Cut, kept, one, part, cuts, pieces, Fits, open-size, wanted}
+use Rattle.tree.specs.Cut.{Cut, kept, one, root-piece-nodes, cuts, pieces, Fits, open-size, wanted}
 use Rattle.tree.specs.Records.{piece-count}
 use Rattle.tree.specs.Choice.{
   Choice,
@@ -28,14 +28,14 @@ use Rattle.tree.specs.Choice.{
 }
 
 -- the wanted cut leaves the open size in the root's piece
-pub part-wanted : {A : Type 0} (t : Tree A) → part t (wanted t) ≡ open-size t
+pub part-wanted : {A : Type 0} (t : Tree A) → root-piece-nodes t (wanted t) ≡ open-size t
 part-wanted (leaf a) = refl
 part-wanted (catenation s t) = rw (part-wanted s, part-wanted t)
 part-wanted (union s t) = rw (part-wanted s, part-wanted t)
 part-wanted (star s) = rw (part-wanted s)
 
 -- a root's piece of the wanted cut has at most 15 nodes
-part-wanted-fits : {A : Type 0} (t : Tree A) → part t (wanted t) ≤ most-nodes
+part-wanted-fits : {A : Type 0} (t : Tree A) → root-piece-nodes t (wanted t) ≤ most-nodes
 part-wanted-fits t = rw (part-wanted t) (open-at-most t)
 
 -- the wanted cut fits
@@ -46,15 +46,16 @@ wanted-fits (union s t) = (part-wanted-fits (union s t), wanted-fits s, wanted-f
 wanted-fits (star s) = (part-wanted-fits (star s), wanted-fits s)
 
 -- in a cut that fits, the root's piece has at most 15 nodes
-pub part-at-most : {A : Type 0} (t : Tree A) (c : Cut t) → Fits t c → part t c ≤ most-nodes
+pub part-at-most : {A : Type 0} (t : Tree A) (c : Cut t) → Fits t c → root-piece-nodes t c ≤ most-nodes
 part-at-most (leaf a) c h = omega arith
 part-at-most (catenation s t) c h = h .0
 part-at-most (union s t) c h = h .0
 part-at-most (star s) c h = h .0
 
 -- a child that weighs at least w adds at least w, cut off or not
-adds : {A : Type 0} (b : Bool) (s : Tree A) (d : Cut s) (w : ℕ) → Fits s d → w ≤ most-nodes * cuts s d + part s d
-    → w ≤ most-nodes * (one b + cuts s d) + kept b (part s d)
+adds : {A : Type 0} (b : Bool) (s : Tree A) (d : Cut s) (w : ℕ) → Fits s d
+    → w ≤ most-nodes * cuts s d + root-piece-nodes s d
+    → w ≤ most-nodes * (one b + cuts s d) + kept b (root-piece-nodes s d)
 adds true s d w h e = omega (arith, part-at-most s d h)
 adds false s d w h e = omega arith
 
@@ -87,7 +88,7 @@ lightest-of-one k K P (goes-off large) fits x = omega arith
 
 -- the wanted cut is lightest, of all that fit: from the leaves up
 lightest : {A : Type 0} (t : Tree A) (c : Cut t) → Fits t c → most-nodes * cuts t (wanted t) + open-size t
-    ≤ most-nodes * cuts t c + part t c
+    ≤ most-nodes * cuts t c + root-piece-nodes t c
 lightest (leaf a) c h = omega arith
 lightest (catenation s t) c h =
     lightest-of-two _ _ _ _ _ _ (chosen s t) (h .0) (adds (c .0) s _ _ (h .1) (lightest s (c .1) (h .1)))

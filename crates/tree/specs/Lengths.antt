@@ -8,7 +8,7 @@ use Rattle.language.specs.Tree.{Tree, leaf, catenation, union, star, nodes}
 use Rattle.tree.specs.Leaf.{Leaf}
 use Rattle.tree.specs.Cut.{wanted}
 use Rattle.tree.specs.Layout.{record-size}
-use Rattle.tree.specs.Numbering.{Numbers, numbered}
+use Rattle.tree.specs.Numbering.{Node-numbers, numbered}
 use Rattle.tree.specs.Records.{records, encode, labels}
 
 -- a tree has a node: its root
@@ -30,7 +30,7 @@ length-labels (union s t) = length-two (labels s) (labels t) _ _ _ (length-label
 length-labels (star s) = let r = length-labels s in simp length-append (omega arith)
 
 -- one record for each node
-pub length-records : (t : Tree Leaf) (x : Numbers) (first : ℕ) → length (records t x first) ≡ record-size * nodes t
+pub length-records : (t : Tree Leaf) (x : Node-numbers) (first : ℕ) → length (records t x first) ≡ record-size * nodes t
 length-records (leaf a) x first = refl
 length-records (catenation s t) x first =
     let p = length-records s in let q = length-records t in simp (length-append, p, q) (omega arith)

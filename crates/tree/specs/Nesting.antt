@@ -15,7 +15,7 @@ use Rattle.language.specs.Nested.{
   star as nested-star,
 }
 use Rattle.tree.specs.Limits.{most-nodes}
-use Rattle.tree.specs.Cut.{Cut, kept, one, part, cuts, Fits, edge, nest}
+use Rattle.tree.specs.Cut.{Cut, kept, one, root-piece-nodes, cuts, Fits, edge, nest}
 use Rattle.tree.specs.Parts.{pieces-below, top-nodes, child-pieces, Every-below, Every-piece, Small}
 use Rattle.tree.specs.Least.{part-at-most}
 
@@ -53,7 +53,7 @@ whole-nest (union s t) c = let left = whole-nest s (c .1) in let right =
 whole-nest (star s) c = let only = whole-nest s (c .1) in simp (whole-edge, only)
 
 -- the top piece has the nodes at and below the root that are in the root's piece
-pub top-nodes-nest : {A : Type 0} (t : Tree A) (c : Cut t) → top-nodes (nest t c) ≡ part t c
+pub top-nodes-nest : {A : Type 0} (t : Tree A) (c : Cut t) → top-nodes (nest t c) ≡ root-piece-nodes t c
 top-nodes-nest (leaf a) c = refl
 top-nodes-nest (catenation s t) c = let left = top-nodes-nest s (c .1) in let right =
     top-nodes-nest t (c .3) in simp (top-nodes-edge, left, right)

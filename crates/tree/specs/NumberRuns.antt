@@ -7,10 +7,10 @@ use native.Mathlib.Omega.{arith}
 use native.Mathlib.Decide.{decLt}
 use Rattle.language.specs.Tree.{Tree, leaf, catenation, union, star}
 use Rattle.tree.specs.Cut.{Cut, one, cuts}
-use Rattle.tree.specs.Numbering.{child-piece, Numbers, alone, above-one, above-two, numbered}
+use Rattle.tree.specs.Numbering.{child-piece, Node-numbers, alone, above-one, above-two, numbered}
 
 -- a number is one of these
-abbrev pub Is-number : ℕ → Numbers → Type 0
+abbrev pub Is-number : ℕ → Node-numbers → Type 0
 Is-number a (alone n) = a ≡ n
 Is-number a (above-one n x) = (a ≡ n) ⊎ Is-number a x
 Is-number a (above-two n x y) = (a ≡ n) ⊎ (Is-number a x ⊎ Is-number a y)

@@ -58,28 +58,28 @@ walked (star s) c piece new =
     (walked s (c .1) (child-piece (c .0) piece new) (one (c .0) + new))
 
 -- a number for each node
-abbrev pub Numbers : Type 0
-Numbers = Nodewise ℕ
+abbrev pub Node-numbers : Type 0
+Node-numbers = Nodewise ℕ
 
 -- the pieces alone
-abbrev pub its-pieces : Nodewise Walker → Numbers
+abbrev pub its-pieces : Nodewise Walker → Node-numbers
 its-pieces (alone a) = alone (a .piece)
 its-pieces (above-one a x) = above-one (a .piece) (its-pieces x)
 its-pieces (above-two a x y) = above-two (a .piece) (its-pieces x) (its-pieces y)
 
 -- the piece of each node of a tree that is cut: the root is in the piece `piece`, and those that a walk first meets
 -- below it are numbered from `new`
-abbrev pub numbered : {A : Type 0} (t : Tree A) → Cut t → (piece new : ℕ) → Numbers
+abbrev pub numbered : {A : Type 0} (t : Tree A) → Cut t → (piece new : ℕ) → Node-numbers
 numbered t c piece new = its-pieces (walked t c piece new)
 
 -- the numbers in the order of a walk: node, left, right
-abbrev pub in-walk : Numbers → List ℕ
+abbrev pub in-walk : Node-numbers → List ℕ
 in-walk (alone n) = n ∷ []
 in-walk (above-one n x) = n ∷ in-walk x
 in-walk (above-two n x y) = n ∷ (in-walk x ++ in-walk y)
 
 -- the numbers in the order of the records: left, right, node
-abbrev pub in-postorder : Numbers → List ℕ
+abbrev pub in-postorder : Node-numbers → List ℕ
 in-postorder (alone n) = n ∷ []
 in-postorder (above-one n x) = in-postorder x ++ (n ∷ [])
 in-postorder (above-two n x y) = in-postorder x ++ in-postorder y ++ (n ∷ [])

@@ -31,7 +31,7 @@ use Rattle.tree.specs.Layout.{
 }
 use Rattle.tree.specs.Places.{holds-place, bare-from, bare, placed-from, with-places, Low-places}
 use Rattle.tree.specs.Cut.{wanted}
-use Rattle.tree.specs.Numbering.{Numbers, at-root, numbered}
+use Rattle.tree.specs.Numbering.{Node-numbers, at-root, numbered}
 use Rattle.tree.specs.Records.{leaf-kind, leaf-character, leaf-number, records, encode, Good}
 use Rattle.tree.specs.Lengths.{length-records}
 
@@ -262,7 +262,7 @@ bare-two xs ys part i m n first second of-xs of-ys of-part =
     rw (far, of-xs, of-ys, of-part) refl)
 
 -- the records of a tree have no places
-bare-records : (t : Tree Leaf) (x : Numbers) (first i : ℕ) → i % record-size ≡ 0
+bare-records : (t : Tree Leaf) (x : Node-numbers) (first i : ℕ) → i % record-size ≡ 0
     → bare-from i (records t x first) ≡ records t x first
 bare-records (leaf a) x first i whole =
     bare-record i (leaf-kind a) (leaf-character a) (leaf-number a) no-child (at-root x) whole

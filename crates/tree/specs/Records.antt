@@ -20,7 +20,7 @@ use Rattle.tree.specs.Layout.{
 }
 use Rattle.tree.specs.Places.{bare, Low-places}
 use Rattle.tree.specs.Cut.{pieces, wanted}
-use Rattle.tree.specs.Numbering.{Numbers, at-root, at-left, at-right, numbered}
+use Rattle.tree.specs.Numbering.{Node-numbers, at-root, at-left, at-right, numbered}
 
 -- the kind of a leaf's record
 abbrev pub leaf-kind : Leaf → ℕ
@@ -41,7 +41,7 @@ leaf-number (Leaf.class k) = k
 leaf-number Leaf.empty-text = no-child
 
 -- the records of t, whose nodes are in the pieces that x tells. Its first record has the number `first`
-abbrev pub records : Tree Leaf → Numbers → (first : ℕ) → List ℕ
+abbrev pub records : Tree Leaf → Node-numbers → (first : ℕ) → List ℕ
 records (leaf a) x first = record-of (leaf-kind a) (leaf-character a) (leaf-number a) no-child (at-root x)
 records (catenation s t) x first =
     records s (at-left x) first

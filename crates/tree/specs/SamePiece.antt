@@ -11,13 +11,14 @@ use Rattle.tree.specs.Saying.{true-false}
 use Rattle.tree.specs.Ways.{Way, here, left, right, Node, number-of, Uncut, Uncut-between}
 
 -- a node's number: the root's where no edge on the way is cut, else one of the k from `new` on
-data Among (uncut : Type 0) (a piece new k : ℕ) : Type 0 where
-  root's : uncut → a ≡ piece → Among uncut a piece new k
-  later : (uncut → ⊥) → new ≤ a → a < new + k → Among uncut a piece new k
+data Root-or-later (uncut : Type 0) (a piece new k : ℕ) : Type 0 where
+  root's : uncut → a ≡ piece → Root-or-later uncut a piece new k
+  later : (uncut → ⊥) → new ≤ a → a < new + k → Root-or-later uncut a piece new k
 
 -- a child's nodes, seen from its parent
 of-child : (b : Bool) {uncut : Type 0} {a k : ℕ} (piece new : ℕ)
-    → Among uncut a (child-piece b piece new) (one b + new) k → Among ((b ≡ false) × uncut) a piece new (one b + k)
+    → Root-or-later uncut a (child-piece b piece new) (one b + new) k
+    → Root-or-later ((b ≡ false) × uncut) a piece new (one b + k)
 of-child true piece new (root's o e) = later (λ h. true-false (h .0)) (omega arith) (omega arith)
 of-child true piece new (later n low high) = later (λ h. true-false (h .0)) (omega arith) (omega arith)
 of-child false piece new (root's o e) = root's (refl, o) e
@@ -25,13 +26,13 @@ of-child false piece new (later n low high) = later (λ h. n (h .1)) (omega arit
 
 -- numbers of a longer run, and of one that begins earlier
 wider : {uncut : Type 0} {a piece new k : ℕ} (new' k' : ℕ) → new' ≤ new → new + k ≤ new' + k'
-    → Among uncut a piece new k → Among uncut a piece new' k'
+    → Root-or-later uncut a piece new k → Root-or-later uncut a piece new' k'
 wider new' k' low high (root's o e) = root's o e
 wider new' k' low high (later n l h) = later n (omega arith) (omega arith)
 
 -- every node's number is so
 among : {A : Type 0} (t : Tree A) (c : Cut t) (piece new : ℕ) (w : Way) → Node t w
-    → Among (Uncut t c w) (number-of (numbered t c piece new) w) piece new (cuts t c)
+    → Root-or-later (Uncut t c w) (number-of (numbered t c piece new) w) piece new (cuts t c)
 among (leaf a) c piece new here n = root's tt refl
 among (leaf a) c piece new (left w) n = absurd n
 among (leaf a) c piece new (right w) n = absurd n
@@ -52,12 +53,14 @@ among (star s) c piece new (left w) n = of-child (c .0) piece new (among s (c .1
 among (star s) c piece new (right w) n = absurd n
 
 -- a node has the root's number exactly when no edge on the way is cut
-root-or-not : {uncut : Type 0} {a piece new k : ℕ} → piece < new → Among uncut a piece new k → (piece ≡ a) ↔ uncut
+root-or-not : {uncut : Type 0} {a piece new k : ℕ} → piece < new → Root-or-later uncut a piece new k → (piece ≡ a)
+    ↔ uncut
 root-or-not h (root's o e) = (λ same. o, λ p. sym e)
 root-or-not h (later n low high) = (λ same. absurd (omega arith), λ p. absurd (n p))
 
 -- nodes below two children have the same number exactly when it is the root's
-apart : {X Y : Type 0} {a b piece new k m : ℕ} → piece < new → Among X a piece new k → Among Y b piece (k + new) m
+apart : {X Y : Type 0} {a b piece new k m : ℕ} → piece < new → Root-or-later X a piece new k
+    → Root-or-later Y b piece (k + new) m
     → (a ≡ b) ↔ (X × Y)
 apart h (root's o e) (root's p f) = (λ same. (o, p), λ both. e ∙ sym f)
 apart h (root's o e) (later n low high) = (λ same. absurd (omega arith), λ both. absurd (n (both .1)))

@@ -11,13 +11,13 @@ use Rattle.language.specs.Nested.{
   star as nested-star,
 }
 use Rattle.tree.specs.Leaf.{Leaf}
-use Rattle.tree.specs.Numbering.{Numbers, alone, above-one, above-two}
+use Rattle.tree.specs.Numbering.{Node-numbers, alone, above-one, above-two}
 use Rattle.tree.specs.Records.{records}
 use Rattle.tree.specs.Parts.{pieces-below}
 
 -- the piece of each node of x's tree: x's top piece is `piece`, and the pieces below it are numbered from `new`, a
 -- piece before those below it
-abbrev pub piece-numbers : {A : Type 0} → Nested A → (piece new : ℕ) → Numbers
+abbrev pub piece-numbers : {A : Type 0} → Nested A → (piece new : ℕ) → Node-numbers
 piece-numbers (nested-leaf a) piece new = alone piece
 piece-numbers (nested-catenation x y) piece new =
     above-two piece (piece-numbers x piece new) (piece-numbers y piece (new + pieces-below x))

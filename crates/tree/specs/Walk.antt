@@ -10,7 +10,7 @@ use borrow.Author.Tests.{eq-eqb, ne-eqb}
 use Rattle.language.specs.Tree.{Tree, leaf, catenation, union, star}
 use Rattle.tree.specs.Cut.{Cut, one, cuts, pieces}
 use Rattle.tree.specs.Firsts.{member, firsts, upwards}
-use Rattle.tree.specs.Numbering.{child-piece, Numbers, alone, above-one, above-two, in-walk, numbered}
+use Rattle.tree.specs.Numbering.{child-piece, Node-numbers, alone, above-one, above-two, in-walk, numbered}
 
 -- in a list every number is one of the k from low on, or the next one, and then k grows by 1; at the end it is n
 data Climbing (low : ℕ) : ℕ → List ℕ → ℕ → Type 0 where
@@ -88,27 +88,27 @@ root-climbing (now h e f) rest = next h (rw f at rest)
 
 -- with cut more pieces below its root, a subtree numbered as x says climbs in its walk, and so is the list behind
 -- it from there on
-abbrev Counts : (ℕ → ℕ → Numbers) → ℕ → Type 0
-Counts x cut =
+abbrev Climbs-behind : (ℕ → ℕ → Node-numbers) → ℕ → Type 0
+Climbs-behind x cut =
     (low k piece new after last : ℕ) (rest : List ℕ) (n : ℕ) → Root-met low k piece new after → last ≡ after + cut
     → Climbing low last rest n
     → Climbing low k (in-walk (x piece new) ++ rest) n
 
 -- a leaf: its root alone
-counts-alone : Counts (λ piece new. alone piece) 0
+counts-alone : Climbs-behind (λ piece new. alone piece) 0
 counts-alone low k piece new after last rest n root e later = let none-below : last ≡ after =
     omega arith in root-climbing root (rw none-below at later)
 
 -- a star: its root, then its operand
-counts-one : (b : Bool) (x : ℕ → ℕ → Numbers) (i : ℕ) → Counts x i
-    → Counts (λ piece new. above-one piece (x (child-piece b piece new) (one b + new))) (one b + i)
+counts-one : (b : Bool) (x : ℕ → ℕ → Node-numbers) (i : ℕ) → Climbs-behind x i
+    → Climbs-behind (λ piece new. above-one piece (x (child-piece b piece new) (one b + new))) (one b + i)
 counts-one b x i only low k piece new after last rest n root e later =
     root-climbing root (only low after _ _ (one b + after) last rest n (child-met b low after piece new (goes-on root))
     (omega arith) later)
 
 -- a node with two children: its root, then the left one, then the right one
-counts-two : (b c : Bool) (x y : ℕ → ℕ → Numbers) (i j : ℕ) → Counts x i → Counts y j
-    → Counts (λ piece new. above-two piece (x (child-piece b piece new) (one b + new))
+counts-two : (b c : Bool) (x y : ℕ → ℕ → Node-numbers) (i j : ℕ) → Climbs-behind x i → Climbs-behind y j
+    → Climbs-behind (λ piece new. above-two piece (x (child-piece b piece new) (one b + new))
     (y (child-piece c piece (one b + i + new)) (one c + (one b + i + new)))) (one b + i + (one c + j))
 counts-two b c x y i j left right low k piece new after last rest n root e later =
     let g = goes-on root in
@@ -121,7 +121,7 @@ counts-two b c x y i j left right low k piece new after last rest n root e later
     (child-met c low (one b + i + after) piece (one b + i + new) further) (omega arith) later)))
 
 -- every subtree climbs in its walk
-climbing : {A : Type 0} (t : Tree A) (c : Cut t) → Counts (numbered t c) (cuts t c)
+climbing : {A : Type 0} (t : Tree A) (c : Cut t) → Climbs-behind (numbered t c) (cuts t c)
 climbing (leaf a) c = counts-alone
 climbing (catenation s t) c = counts-two (c .0) (c .2) (numbered s (c .1)) (numbered t (c .3)) _ _ (climbing s (c .1))
     (climbing t (c .3))

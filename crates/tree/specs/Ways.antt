@@ -4,7 +4,7 @@ use mathlib.Core.Path.{_≡_}
 use mathlib.Core.Bool.{false}
 use Rattle.language.specs.Tree.{Tree, leaf, catenation, union, star}
 use Rattle.tree.specs.Cut.{Cut}
-use Rattle.tree.specs.Numbering.{Numbers, alone, above-one, above-two}
+use Rattle.tree.specs.Numbering.{Node-numbers, alone, above-one, above-two}
 
 -- a way down from the root: it ends here, or goes to the left or only child, or to the right one
 pub data Way : Type 0 where
@@ -25,7 +25,7 @@ Node (star s) (left w) = Node s w
 Node (star s) (right w) = ⊥
 
 -- the number of the node at its end
-abbrev pub number-of : Numbers → Way → ℕ
+abbrev pub number-of : Node-numbers → Way → ℕ
 number-of (alone n) w = n
 number-of (above-one n x) here = n
 number-of (above-one n x) (left w) = number-of x w

@@ -10,13 +10,13 @@ use lib.ListN.{length, getD, drop, length-append, List·getD-append}
 use lib.Seq.{ext-getD, getD-at, getD-append-add}
 use Rattle.language.specs.Tree.{Tree, nodes}
 use Rattle.tree.specs.Leaf.{Leaf}
-use Rattle.tree.specs.Layout.{record-size, record-of, two-bytes, unplaced}
+use Rattle.tree.specs.Layout.{record-size, record-of, two-bytes, no-place}
 use Rattle.tree.specs.Places.{bare}
 use Rattle.tree.specs.PlacesLaws.{byte-kept, bare-encode}
 use Rattle.tree.specs.Records.{encode, Good}
 use Rattle.tree.specs.Lengths.{length-encode}
 use Rattle.cutting.specs.Seats.{Seat, seats, seat-at}
-use Rattle.cutting.specs.Written.{seat-record}
+use Rattle.cutting.specs.SeatRecords.{seat-record}
 use Rattle.lists.specs.Readback.{byte-of-record}
 use Rattle.widen.specs.OldLayout.{
   old-record-size,
@@ -91,7 +91,7 @@ four-zeros rest (suc (suc (suc (suc k)))) few = absurd (omega arith)
 last-four : (kind character left right piece : ℕ) (rest : List ℕ) (k : ℕ) → k < 4
     → getD (record-of kind character left right piece ++ rest) (old-record-size + k) 0 ≡ 0
 last-four kind character left right piece rest k few =
-    getD-append-add (kind ∷ character ∷ (two-bytes left ++ two-bytes right ++ two-bytes piece)) (unplaced ++ rest) k 0
+    getD-append-add (kind ∷ character ∷ (two-bytes left ++ two-bytes right ++ two-bytes piece)) (no-place ++ rest) k 0
     ∙ four-zeros rest k few
 
 -- so are those of a tree's list

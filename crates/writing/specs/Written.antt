@@ -37,7 +37,7 @@ module _ (places : Places) where
         → getD room (places .entries + p) 0 ≤ places .texts
 
   -- the table after writing
-  pub record Written (columns room before after : List ℕ) : Type 0 where
+  pub record Table-written (columns room before after : List ℕ) : Type 0 where
     pub begins : (b : ℕ) → b < byte-count → getD after b 0 ≡ begin-of (getD columns b 0) (1 + places .texts)
     pub accepting-begins : getD after accepting-column 0 ≡ begin-of (places .columns) (1 + places .texts)
     pub nothing : (c : ℕ) → c < places .columns → getD after (begin-of c (1 + places .texts)) 0 ≡ 0

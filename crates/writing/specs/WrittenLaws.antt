@@ -12,7 +12,7 @@ use Rattle.machines.specs.Columns.{byte-count}
 use Rattle.machines.specs.TableOf.{heading, most-entries, entry-count}
 use Rattle.writing.specs.declared.Places.{Places}
 use Rattle.writing.specs.Filled.{Filled, Rows-filled, after-zero}
-use Rattle.writing.specs.Written.{begin-of, led-to, accepted, Writable, Written}
+use Rattle.writing.specs.Written.{begin-of, led-to, accepted, Writable, Table-written}
 
 -- lists that are the same from some place on
 same-from : (n : ℕ) (a b : List ℕ) → length a ≡ length b → ((p : ℕ) → n ≤ p → getD a p 0 ≡ getD b p 0)
@@ -64,7 +64,7 @@ module _ (places : Places) (columns room : List ℕ) {first second third fourth 
       ∙ accepting .outside p (inr (omega arith)) ∙ bytes .outside p (inr (omega arith))
 
   -- the four parts make the table
-  pub written : Written places columns room first last
+  pub written : Table-written places columns room first last
   written = record {
     begins = λ b byte. in-heading b (omega arith) ∙ accepting .outside b (inl byte)
         ∙ ap (λ (p : ℕ). getD second p 0) (omega arith) ∙ bytes .inside b byte;

@@ -8,7 +8,7 @@ ghost use Rattle.machines.specs.Columns.{byte-count};
 ghost use Rattle.machines.specs.TableOf.{heading, most-entries};
 ghost use Rattle.tables.specs.Words.{word-bits};
 ghost use Rattle.writing.specs.Filled.{Filled, Rows-filled, after-zero};
-ghost use Rattle.writing.specs.Written.{begin-of, Writable, Written};
+ghost use Rattle.writing.specs.Written.{begin-of, Writable, Table-written};
 
 // How many bytes there are.
 pub const BYTE_COUNT: usize = 256;
@@ -111,7 +111,7 @@ fn write_accepting(
 // Writes the table of the states that were found.
 pub fn write_table(columns: &[u8; BYTE_COUNT], room: &[u64], places: Places, table: &mut [u16])
     requires { ⌜ Writable places (now columns) (now room) (now table) ⌝ }
-    ensures { λ _. ⌜ Written places (now (columns .entry)) (now (room .entry)) (now (table .entry))
+    ensures { λ _. ⌜ Table-written places (now (columns .entry)) (now (room .entry)) (now (table .entry))
         (now (table .exit)) ⌝ }
 {
     let texts = places.texts;

@@ -3,14 +3,14 @@ use mathlib.Core.Path.{_≡_, sym, _∙_}
 use mathlib.Core.Bool.{Bool, true, false}
 use native.Mathlib.Omega.{arith}
 use borrow.Author.Needs.{needs}
-use Rattle.running.specs.Answer.{answering, answered}
+use Rattle.running.specs.Answer.{answering-table, table-answered}
 use Rattle.running.specs.RunLaws.{answered-short, answered-long}
 use Rattle.running.proofs.match_table.Statement.{statement}
 use Rattle.running.proofs.match_table.Tie as tie
 
 -- the answer where the table ran
 ran : (c : tie.After-runs) (r : Bool) → c .runs .result ≡ r → let args = c .before .before .before .before .args in
-    answering r ≡ answered (args .table .now) (args .text .now)
+    answering-table r ≡ table-answered (args .table .now) (args .text .now)
 ran c r is =
     let args = c .before .before .before .before .args in
     answered-long (args .table .now) (args .text .now) r (omega arith) (sym is ∙ c .runs .ensures)

@@ -6,7 +6,7 @@ use Prim.Native.Nat.{_+_}
 use lib.ListN.{set}
 use Rattle.running.specs.Runs.{accepting-column}
 use Rattle.writing.specs.Filled.{Filled}
-use Rattle.writing.specs.Written.{begin-of, Written}
+use Rattle.writing.specs.Written.{begin-of, Table-written}
 use Rattle.writing.specs.FilledLaws.{filled-none, filled-next}
 use Rattle.writing.specs.WrittenLaws.{written, begins-fit, ends-fit, accepting-fits, values-fit, words-there}
 use Rattle.writing.proofs.write_table.Statement.{statement}
@@ -81,7 +81,7 @@ write-accepting-requires c κs =
 
 -- the four parts
 all : (c : tie.After-write-accepting) → let args = start-of (begun (headed (filled c))) .args in
-    Written (args .places) (args .columns .now) (args .room .now) (args .table .now)
+    Table-written (args .places) (args .columns .now) (args .room .now) (args .table .now)
     (c .write-accepting .last .1 .1 .1 .1 .1 .1 .0)
 all c =
     let args = start-of (begun (headed (filled c))) .args in

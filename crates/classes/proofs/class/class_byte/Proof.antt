@@ -1,4 +1,4 @@
--- `reader::class::class_byte` meets its contract: the byte, or the one after a `\`, is read as the grammar has it.
+-- `classes::class::class_byte` meets its contract: the byte, or the one after a `\`, is read as the grammar has it.
 use mathlib.Core.Path.{sym, _∙_}
 use native.Mathlib.Omega.{arith}
 use Rattle.classes.specs.ClassReading.{found-bare, found-slashed, bad-end, bad-bare, bad-last, bad-slash}

@@ -1,4 +1,4 @@
--- `reader::class::class_members` meets its contract: with a `^` or without one, its items are read.
+-- `classes::class::class_members` meets its contract: with a `^` or without one, its items are read.
 use mathlib.Core.Path.{_∙_}
 use mathlib.Core.Bool.{true, false}
 use native.Mathlib.Omega.{arith}
@@ -9,16 +9,16 @@ use Rattle.classes.proofs.class.class_members.Statement.{statement}
 use Rattle.classes.proofs.class.class_members.Tie as tie
 
 -- where the members were filled for a class with a `^` and for one without, and where the byte after the `[` was tested
-abbrev filled-with-caret : tie.After-items-arg → tie.After-fill
+abbrev filled-with-caret : tie.After-items-arg → tie.After-set-all
 filled-with-caret c = c .before .before .before
 
-abbrev filled : tie.After-items-arg2 → tie.After-fill2
+abbrev filled : tie.After-items-arg2 → tie.After-set-all2
 filled c = c .before .before .before
 
-abbrev caret-found : tie.After-fill → tie.Then1
+abbrev caret-found : tie.After-set-all → tie.Then1
 caret-found c = c .before .before
 
-abbrev no-caret-found : tie.After-fill2 → tie.Else1
+abbrev no-caret-found : tie.After-set-all2 → tie.Else1
 no-caret-found c = c .before .before
 
 -- where the call began
@@ -31,8 +31,8 @@ add-stands-at c = search needs
 stands-at-requires : tie.Need-stands-at-requires
 stands-at-requires c κs = search needs
 
-fill-requires : tie.Need-fill-requires
-fill-requires c κs = search needs
+set-all-requires : tie.Need-set-all-requires
+set-all-requires c κs = search needs
 
 add-items : tie.Need-add-items
 add-items c =
@@ -44,8 +44,11 @@ items-requires c κs =
     let f = filled-with-caret c in
     let tested = caret-found f in
     let caret = tested .before .stands-at .ensures .if-so (tested .if1 .taken) in
-    let s = entry (tested .before) in
-    (omega (arith, caret .0), filled-members true (f .fill .last .0) (f .fill .kept .0 ∙ s .pre .1) (f .fill .ensures))
+    let s = entry (tested .before) in (
+      omega (arith, caret .0),
+      filled-members true (f .set-all .last .0) (f .set-all .kept .0 ∙ s .pre .1)
+          (f .set-all .ensures),
+    )
 
 same-length : tie.Need-same-length
 same-length c = search needs
@@ -59,8 +62,8 @@ returns c =
     class-but (s .args .expr .now) (s .args .at) (i .items .last .1 .1 .0) (i .items .result) (caret .0) (caret .1)
     (i .items .ensures)
 
-fill-requires-2 : tie.Need-fill-requires-2
-fill-requires-2 c κs = search needs
+set-all-requires-2 : tie.Need-set-all-requires-2
+set-all-requires-2 c κs = search needs
 
 add-items-2 : tie.Need-add-items-2
 add-items-2 c = search needs
@@ -69,7 +72,7 @@ items-requires-2 : tie.Need-items-requires-2
 items-requires-2 c κs =
     let f = filled c in
     let s = entry (no-caret-found f .before) in
-    (omega arith, filled-members false (f .fill2 .last .0) (f .fill2 .kept .0 ∙ s .pre .1) (f .fill2 .ensures))
+    (omega arith, filled-members false (f .set-all2 .last .0) (f .set-all2 .kept .0 ∙ s .pre .1) (f .set-all2 .ensures))
 
 same-length-2 : tie.Need-same-length-2
 same-length-2 c = search needs
@@ -84,5 +87,5 @@ returns-2 c =
 
 pub class-members-spec : {M : Type 1} → statement M
 class-members-spec =
-    tie.close (tie.spec add-stands-at stands-at-requires fill-requires add-items items-requires same-length returns
-    fill-requires-2 add-items-2 items-requires-2 same-length-2 returns-2)
+    tie.close (tie.spec add-stands-at stands-at-requires set-all-requires add-items items-requires same-length returns
+    set-all-requires-2 add-items-2 items-requires-2 same-length-2 returns-2)

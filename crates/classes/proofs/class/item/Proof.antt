@@ -1,4 +1,4 @@
--- `reader::class::item` meets its contract: a byte, and where a `-` follows it a range.
+-- `classes::class::item` meets its contract: a byte, and where a `-` follows it a range.
 use native.Mathlib.Omega.{arith}
 use Rattle.classes.specs.ClassReading.{
   Byte-here,

@@ -1,4 +1,4 @@
--- `reader::class::item_value` meets its contract: the test is that of the definition.
+-- `classes::class::item_value` meets its contract: the test is that of the definition.
 
 use Rattle.classes.proofs.class.item_value.Statement.{statement}
 use Rattle.classes.proofs.class.item_value.Tie as tie

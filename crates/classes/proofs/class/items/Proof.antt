@@ -1,4 +1,4 @@
--- `reader::class::items` meets its contract. The loop's invariant: the items from `at` up to `place` are read, and
+-- `classes::class::items` meets its contract. The loop's invariant: the items from `at` up to `place` are read, and
 -- `members` tells their values.
 use Prim.Native.Nat.{_-_}
 use mathlib.Core.Path.{sym, _∙_}
@@ -37,7 +37,7 @@ head-of-end c = c .before .before .before .before
 abbrev head-of-item : tie.After-item Inv-loop μ-loop → tie.At-loop Inv-loop μ-loop
 head-of-item c = c .before .before .before .before
 
-abbrev item-found : tie.After-put Inv-loop μ-loop → tie.After-known-told Inv-loop μ-loop
+abbrev item-found : tie.After-set-range Inv-loop μ-loop → tie.After-known-told Inv-loop μ-loop
 item-found c = c .before .before .before .before
 
 abbrev head : tie.After-known-told Inv-loop μ-loop → tie.At-loop Inv-loop μ-loop
@@ -108,8 +108,8 @@ wide-requires c κs = search needs
 wide-requires-2 : tie.Need-wide-requires-2 Inv-loop μ-loop
 wide-requires-2 c κs = search needs
 
-put-requires : tie.Need-put-requires Inv-loop μ-loop
-put-requires c κs =
+set-range-requires : tie.Need-set-range-requires Inv-loop μ-loop
+set-range-requires c κs =
     let found = c .before .before .before in
     let l = head found in
     let r = item-read found in
@@ -134,7 +134,8 @@ loop-again c =
     let first = p .before .before .wide .ensures .0 in
     let last = p .before .wide2 .ensures .0 in
     let value = l .before .item-value .ensures in
-    one-more-item (l .loop .inv) (item-read found) (p .put .kept .0) (rw (first, last, value) at (p .put .ensures))
+    one-more-item (l .loop .inv) (item-read found) (p .set-range .kept .0)
+    (rw (first, last, value) at (p .set-range .ensures))
 
 same-length-4 : tie.Need-same-length-4 Inv-loop μ-loop
 same-length-4 c =
@@ -147,4 +148,4 @@ pub items-spec : {M : Type 1} → statement M
 items-spec =
     tie.close (tie.spec Inv-loop μ-loop item-value-requires loop-holds shared-slice-read-if1 may-have-requires add-t17
     same-length returns same-length-2 returns-2 item-requires enum-known-part enum-told same-length-3 returns-3
-    wide-requires wide-requires-2 put-requires add-count loop-less loop-again same-length-4 returns-4)
+    wide-requires wide-requires-2 set-range-requires add-count loop-less loop-again same-length-4 returns-4)

@@ -1,4 +1,4 @@
--- `reader::class::may_have` meets its contract: the two tests are those of the definition.
+-- `classes::class::may_have` meets its contract: the two tests are those of the definition.
 use native.Mathlib.Omega.{arith}
 use borrow.Author.Tests.{ne-eqb, lt-ltb, le-ltb}
 use Rattle.classes.proofs.class.may_have.Statement.{statement}

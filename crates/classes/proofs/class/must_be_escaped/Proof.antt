@@ -1,4 +1,4 @@
--- `reader::class::must_be_escaped` meets its contract: it asks for each of the four bytes, as the sign of a byte does.
+-- `classes::class::must_be_escaped` meets its contract: it asks for each of the four bytes, as the sign of a byte does.
 use Prim.Native.Nat.{ℕ}
 use mathlib.Core.Path.{_≡_, refl}
 use mathlib.Core.Bool.{Bool, true, false, cond}

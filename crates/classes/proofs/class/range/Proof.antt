@@ -1,4 +1,4 @@
--- `reader::class::range` meets its contract: the last byte is read, and the first must not be above it.
+-- `classes::class::range` meets its contract: the last byte is read, and the first must not be above it.
 use mathlib.Core.Path.{refl}
 use native.Mathlib.Omega.{arith}
 use Rattle.classes.specs.ClassReading.{Byte-here, last-on, above-bad, bad-byte-range}

@@ -1,4 +1,4 @@
--- `reader::class::stands_at` meets its contract: it says yes at that byte alone.
+-- `classes::class::stands_at` meets its contract: it says yes at that byte alone.
 use mathlib.Core.Path.{_≡_}
 use native.Mathlib.Omega.{arith}
 use Prim.Native.Nat.{ℕ}

@@ -1,4 +1,4 @@
--- `reader::members::eight` meets its contract: eight numbers of 0 or 1 make a byte.
+-- `classes::members::eight` meets its contract: eight numbers of 0 or 1 make a byte.
 use Prim.Native.Nat.{_+_}
 use mathlib.Core.Path.{refl}
 use native.Mathlib.Omega.{arith}

@@ -1,4 +1,4 @@
--- `reader::members::write_class_record` meets its contract. The loop's invariant: the bytes before `i` are written.
+-- `classes::members::write_class_record` meets its contract. The loop's invariant: the bytes before `i` are written.
 use Prim.Native.Nat.{_-_, _≤_}
 use mathlib.Core.Path.{_≡_, refl}
 use native.Mathlib.Omega.{arith}

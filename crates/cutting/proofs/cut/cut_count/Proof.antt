@@ -1,5 +1,5 @@
--- `cutting::cut::cut_count` meets its contract: the sum is that of `cut-sum`, and small, since an edge counts for at most
--- 1.
+-- `cutting::cut::cut_count` meets its contract: the sum is that of `cut-sum`, and small, since an edge counts for at
+-- most 1.
 use native.Mathlib.Omega.{arith}
 use Rattle.cutting.specs.GatheredLaws.{one-le}
 use borrow.Author.Needs.{needs}

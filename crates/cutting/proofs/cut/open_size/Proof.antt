@@ -1,5 +1,5 @@
--- `cutting::cut::open_size` meets its contract: the sum is that of `open-sum`, and small, since a child adds at most its
--- own open size.
+-- `cutting::cut::open_size` meets its contract: the sum is that of `open-sum`, and small, since a child adds at most
+-- its own open size.
 use native.Mathlib.Omega.{arith}
 use Rattle.cutting.specs.GatheredLaws.{kept-le}
 use borrow.Author.Needs.{needs}

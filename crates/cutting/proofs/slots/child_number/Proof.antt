@@ -1,4 +1,5 @@
--- `cutting::slots::child_number` meets its contract: each return is the test of `child-number`, computed by the branch taken.
+-- `cutting::slots::child_number` meets its contract: each return is the test of `child-number`, computed by the branch
+-- taken.
 use borrow.Author.Tests.{eq-eqb, ne-eqb}
 use borrow.Author.Needs.{needs}
 use Rattle.cutting.proofs.slots.child_number.Statement.{statement}

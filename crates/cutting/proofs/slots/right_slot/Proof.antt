@@ -1,4 +1,5 @@
--- `cutting::slots::right_slot` meets its contract: each return is the test of `right-slot`, computed by the branches taken.
+-- `cutting::slots::right_slot` meets its contract: each return is the test of `right-slot`, computed by the branches
+-- taken.
 use native.Mathlib.Omega.{arith}
 use borrow.Author.Tests.{eq-eqb, ne-eqb}
 use Rattle.cutting.proofs.slots.right_slot.Statement.{statement}

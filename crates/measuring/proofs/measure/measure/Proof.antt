@@ -1,6 +1,6 @@
--- `measuring::measure::measure` meets its contract. The loop's invariant: the records below `i` are measured. A turn reads
--- the children's slots, which the invariant speaks of, and the laws of the specs gather the record's own numbers from
--- theirs; that a tree has these labels bounds them all. The measure is what is left of the labels.
+-- `measuring::measure::measure` meets its contract. The loop's invariant: the records below `i` are measured. A turn
+-- reads the children's slots, which the invariant speaks of, and the laws of the specs gather the record's own numbers
+-- from theirs; that a tree has these labels bounds them all. The measure is what is left of the labels.
 use Prim.Native.Nat.{_+_, _≤_, _-_}
 use mathlib.Core.Path.{_≡_, refl, _∙_}
 use native.Mathlib.Omega.{arith}
@@ -9,7 +9,15 @@ use Rattle.language.specs.Tree.{Tree}
 use Rattle.tree.specs.Leaf.{Leaf}
 use Rattle.tree.specs.Records.{labels}
 use Rattle.cutting.specs.Measured.{Room-to-measure, Measured}
-use Rattle.cutting.specs.MeasuredLaws.{Gathered, gathered, children, right-size-le, room-stays, measured-none, measured-more}
+use Rattle.cutting.specs.MeasuredLaws.{
+  Gathered,
+  gathered,
+  children,
+  right-size-le,
+  room-stays,
+  measured-none,
+  measured-more,
+}
 use Rattle.measuring.proofs.measure.measure.Statement.{statement}
 use Rattle.measuring.proofs.measure.measure.Tie as tie
 use Rattle.measuring.proofs.measure.measure.Reads as reads
@@ -45,7 +53,8 @@ loop-holds c =
     let s = c .before .before .before .before in
     let room = s .pre .1 .1 in (
       omega arith,
-      room-stays (length (s .args .labels .now)) (s .args .sizes .now) (s .args .opens .now) (s .args .cuts .now) 0 0 0 0
+      room-stays (length (s .args .labels .now)) (s .args .sizes .now) (s .args .opens .now)
+          (s .args .cuts .now) 0 0 0 0
           room,
       measured-none (s .args .labels .now) (s .args .sizes .now) (s .args .opens .now) (s .args .cuts .now) room,
       refl,
@@ -94,7 +103,8 @@ found c t e =
     let r = c .before .before in
     let l = head c in
     let s = start l in
-    gathered t (l .loop .i) (c .left-slot .result) (r .right-slot .result) (l .loop .sizes) (l .loop .opens) (l .loop .cuts)
+    gathered t (l .loop .i) (c .left-slot .result) (r .right-slot .result) (l .loop .sizes) (l .loop .opens)
+    (l .loop .cuts)
     (children (s .args .labels .now) t (l .loop .i) (c .left-slot .result) (r .right-slot .result) (l .loop .sizes)
     (l .loop .opens) (l .loop .cuts) e
     (r .before .before .loop-test .taken) (l .loop .inv .2) (r .right-slot .ensures .0) (c .left-slot .ensures .0))
@@ -185,7 +195,8 @@ loop-again c =
     let l = head f in
     let s = start l in (
       omega arith,
-      room-stays (length (s .args .labels .now)) (l .loop .sizes) (l .loop .opens) (l .loop .cuts) (l .loop .i + 1) _ _ _
+      room-stays (length (s .args .labels .now)) (l .loop .sizes) (l .loop .opens) (l .loop .cuts)
+          (l .loop .i + 1) _ _ _
           (l .loop .inv .1),
       measured-more (s .args .labels .now) (l .loop .i) _ (c .before .before .before .open-size .result)
           (c .cut-count .result) (l .loop .sizes) (l .loop .opens) (l .loop .cuts)

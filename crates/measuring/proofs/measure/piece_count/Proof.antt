@@ -1,5 +1,5 @@
--- `measuring::measure::piece_count` meets its contract: the root's slot holds the cut edges of the whole tree, fewer than
--- there are labels.
+-- `measuring::measure::piece_count` meets its contract: the root's slot holds the cut edges of the whole tree, fewer
+-- than there are labels.
 use native.Mathlib.Omega.{arith}
 use Rattle.cutting.specs.MeasuredLaws.{counted-all, root-cuts-lt}
 use borrow.Author.Needs.{needs}

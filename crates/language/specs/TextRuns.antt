@@ -41,35 +41,35 @@ module _ {A : Type 0} (M : Meaning A) where
   run-out (reads d run) e = reads d (run-out run e)
 
   -- s stands at e in t: its transitions are transitions of t
-  record Inside (s t : Tree A) (e : State → State) : Type 0 where
+  record Stands-inside (s t : Tree A) (e : State → State) : Type 0 where
     empties : (p q : State) → Empty M s p q → Empty M t (e p) (e q)
     readings : (b : ℕ) (p q : State) → Reads M b s p q → Reads M b t (e p) (e q)
 
   -- so its runs are runs of t
-  run-inside : {s t : Tree A} {e : State → State} {p q : State} {w : List ℕ} → Inside s t e → Run s p w q
+  run-inside : {s t : Tree A} {e : State → State} {p q : State} {w : List ℕ} → Stands-inside s t e → Run s p w q
       → Run t (e p) w (e q)
   run-inside i done = done
   run-inside i (empty {p} {q} e run) = empty (i .empties p q e) (run-inside i run)
   run-inside i (reads {b} {p} {q} e run) = reads (i .readings b p q e) (run-inside i run)
 
-  in-catenation-left : (s t : Tree A) → Inside s (catenation s t) left
+  in-catenation-left : (s t : Tree A) → Stands-inside s (catenation s t) left
   in-catenation-left s t = record { empties = λ p q. Empty.catenation-left; readings = λ b p q. Reads.catenation-left }
 
-  in-catenation-right : (s t : Tree A) → Inside t (catenation s t) right
+  in-catenation-right : (s t : Tree A) → Stands-inside t (catenation s t) right
   in-catenation-right s t =
       record { empties = λ p q. Empty.catenation-right; readings = λ b p q. Reads.catenation-right }
 
-  in-union-left : (s t : Tree A) → Inside s (union s t) left
+  in-union-left : (s t : Tree A) → Stands-inside s (union s t) left
   in-union-left s t = record { empties = λ p q. Empty.union-left; readings = λ b p q. Reads.union-left }
 
-  in-union-right : (s t : Tree A) → Inside t (union s t) right
+  in-union-right : (s t : Tree A) → Stands-inside t (union s t) right
   in-union-right s t = record { empties = λ p q. Empty.union-right; readings = λ b p q. Reads.union-right }
 
-  in-star : (s : Tree A) → Inside s (star s) left
+  in-star : (s : Tree A) → Stands-inside s (star s) left
   in-star s = record { empties = λ p q. Empty.star-inside; readings = λ b p q. Reads.star-inside }
 
   -- through a child: in, a run of the child, out
-  through : {s t : Tree A} {e : State → State} {p q : State} {w : List ℕ} → Inside s t e → Empty M t p (e start)
+  through : {s t : Tree A} {e : State → State} {p q : State} {w : List ℕ} → Stands-inside s t e → Empty M t p (e start)
       → Run s start w accepting → Empty M t (e accepting) q → Run t p w q
   through i enter run leave = empty enter (run-out (run-inside i run) leave)
 

@@ -3,7 +3,7 @@ use Prim.Native.Nat.{ℕ, _+_, _-_, _*_, _/_, _≤_, _<_, min}
 use native.Mathlib.Omega.{arith}
 use native.Mathlib.Nat.{le-div-iff-mul-le}
 use mathlib.Core.Logic.{_↔_}
-use Rattle.machines.specs.TableOf.{heading, most-entries, entry-count, state-room, Fits, most-texts}
+use Rattle.machines.specs.TableOf.{heading, most-entries, entry-count, state-room, Table-fits, most-texts}
 
 module _ (pieces columns table-length room-length n : ℕ) where
   -- so many states have so many entries
@@ -22,7 +22,7 @@ module _ (pieces columns table-length room-length n : ℕ) where
       (λ h. omega (arith, by-count .0 h), λ h. by-count .1 (omega arith))
 
   -- the result: the states of n texts, one or more, fit where n is no more than fit at most
-  pub fits-most : 1 ≤ n → Fits pieces columns (1 + n) table-length room-length
+  pub fits-most : 1 ≤ n → Table-fits pieces columns (1 + n) table-length room-length
       ↔ (n ≤ most-texts pieces columns table-length room-length)
   fits-most some = (
     λ fits. omega (

@@ -1,12 +1,12 @@
--- `reader::members::fill` meets its contract. The loop's invariant: the values before `i` have the number.
+-- `classes::members::set_all` meets its contract. The loop's invariant: the values before `i` have the number.
 use Prim.Native.Nat.{_-_, _≤_}
 use mathlib.Core.Path.{_≡_, refl}
 use native.Mathlib.Omega.{arith}
 use lib.ListN.{length, length-set}
 use Rattle.classes.specs.Members.{Filled-up-to, filled-more}
 use borrow.Author.Needs.{needs}
-use Rattle.classes.proofs.members.fill.Statement.{statement}
-use Rattle.classes.proofs.members.fill.Tie as tie
+use Rattle.classes.proofs.members.set_all.Statement.{statement}
+use Rattle.classes.proofs.members.set_all.Tie as tie
 
 abbrev Inv-loop : tie.InvT-loop
 Inv-loop members₀ value i₀ members i =
@@ -43,6 +43,6 @@ returns c =
     let l = c .before .loop in
     record { each = λ v h. l .inv .2 .each v (omega (arith, l .inv .0, c .before .before .pre)) }
 
-pub fill-spec : {M : Type 1} → statement M
-fill-spec =
+pub set-all-spec : {M : Type 1} → statement M
+set-all-spec =
     tie.close (tie.spec Inv-loop μ-loop loop-holds slice-write-members add-i loop-less loop-again same-length returns)

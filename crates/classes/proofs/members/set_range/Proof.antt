@@ -1,12 +1,12 @@
--- `reader::members::put` meets its contract. The loop's invariant: the values before `v` are put.
+-- `classes::members::set_range` meets its contract. The loop's invariant: the values before `v` are put.
 use Prim.Native.Nat.{_+_, _-_, _≤_}
 use mathlib.Core.Path.{_≡_, refl}
 use native.Mathlib.Omega.{arith}
 use lib.ListN.{length, length-set}
 use Rattle.classes.specs.Members.{Put, put-none, put-more}
 use borrow.Author.Needs.{needs}
-use Rattle.classes.proofs.members.put.Statement.{statement}
-use Rattle.classes.proofs.members.put.Tie as tie
+use Rattle.classes.proofs.members.set_range.Statement.{statement}
+use Rattle.classes.proofs.members.set_range.Tie as tie
 
 abbrev Inv-loop : tie.InvT-loop
 Inv-loop members₀ first last value v₀ members v =
@@ -47,6 +47,6 @@ returns c =
     let end : l .v ≡ s .args .last + 1 = omega arith in
     rw end at (l .inv .3)
 
-pub put-spec : {M : Type 1} → statement M
-put-spec =
+pub set-range-spec : {M : Type 1} → statement M
+set-range-spec =
     tie.close (tie.spec Inv-loop μ-loop loop-holds slice-write-members add-v loop-less loop-again same-length returns)

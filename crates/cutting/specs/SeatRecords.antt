@@ -48,6 +48,6 @@ written i (x ∷ xs) = seat-record i x ++ written (suc i) xs
 
 -- a seat's numbers stay below those that its tree was given: its piece is older than its new pieces, and these end in
 -- time
-pub record Small (limit : ℕ) (x : Seat) : Type 0 where
+pub record Seat-within (limit : ℕ) (x : Seat) : Type 0 where
   pub older : x .piece < x .new
   pub bounded : x .new + cut-edges (x .tree) ≤ limit
