@@ -38,8 +38,8 @@ use Rattle.tree.specs.Pieces.{cut-up, good-small}
 use Rattle.tree.specs.Numbering.{child-piece}
 use Rattle.cutting.specs.Seats.{Seat, seats, seat-at, left-apart, right-apart, cut-edges}
 use Rattle.cutting.specs.SeatsLaws.{length-seats}
-use Rattle.cutting.specs.Written.{child-number, seat-record, written}
-use Rattle.lists.specs.WrittenLaws.{encode-written}
+use Rattle.cutting.specs.SeatRecords.{child-number, seat-record, written}
+use Rattle.lists.specs.SeatRecordsLaws.{encode-written}
 use Rattle.cutting.specs.Measured.{Postorder, Measured, Counts-pieces}
 use Rattle.cutting.specs.MeasuredLaws.{in-tree, label-is, Slots}
 use Rattle.lists.specs.RecordingLaws.{record-of-list, fields-are}
@@ -47,7 +47,7 @@ use Rattle.tree.specs.Saying.{true-false}
 use Rattle.deciding.specs.Judged.{Judged, Counts-below}
 use Rattle.deciding.specs.declared.good.Decided.{Decided}
 use Rattle.deciding.specs.declared.good.Decided.the-variants.{Good as good, NotGood as not-good}
-use Rattle.deciding.specs.Decide.{Taken, List-of, Compared, Agrees}
+use Rattle.deciding.specs.LabelsTaken.{Taken, List-of, Compared, Agrees}
 
 -- two answers that fit are the same
 pub decided-unique : (bytes : List ℕ) (a b : Decided) → Judged bytes a → Judged bytes b → a ≡ b

@@ -3,8 +3,8 @@ use cutting::slots::child_number;
 use cutting::slots::left_slot;
 use cutting::slots::right_slot;
 use lists::hand::hand_down;
-use lists::order::one_tree;
 use measuring::measure::piece_count;
+use ordering::order::one_tree;
 use tree::layout::RECORD_SIZE;
 use tree::layout::character_at;
 use tree::layout::is_record;
@@ -14,7 +14,6 @@ use tree::layout::one_if_class;
 use tree::limits::FEW_SLOTS;
 use tree::limits::MOST_PIECES;
 use tree::limits::MOST_RECORDS;
-use tree::limits::SLOT_COUNT;
 use tree::limits::SOME_SLOTS;
 ghost use mathlib.Core.Path.{_≡_};
 ghost use Prim.Native.Nat.{_*_, _/_, _%_, _≤_, _<_};
@@ -25,7 +24,7 @@ ghost use Rattle.cutting.specs.Measured.{Postorder, Sized, Room-to-measure, Mea
 ghost use Rattle.lists.specs.Handed.{Pieced};
 ghost use Rattle.lists.specs.Readback.{Labels-of};
 ghost use Rattle.deciding.specs.Judged.{Judged, Counts-below, Room-to-decide};
-ghost use Rattle.deciding.specs.Decide.{Taken, Compared};
+ghost use Rattle.deciding.specs.LabelsTaken.{Taken, Compared};
 
 // What deciding on a list answers.
 pub enum Decided {
@@ -220,11 +219,11 @@ fn decide_many(list: &[u8], cuts: &mut [u16]) -> Decided
     ensures { λ r. ⌜ Judged (now (list .entry)) r ⌝ }
     ensures { λ _. ⌜ Counts-below (now (list .entry)) (now (cuts .exit)) ⌝ }
 {
-    let mut labels = [0u16; SLOT_COUNT];
-    let mut sizes = [0u16; SLOT_COUNT];
-    let mut opens = [0u16; SLOT_COUNT];
-    let mut pieces = [0u16; SLOT_COUNT];
-    let mut news = [0u16; SLOT_COUNT];
+    let mut labels = [0u16; MOST_RECORDS + 1];
+    let mut sizes = [0u16; MOST_RECORDS + 1];
+    let mut opens = [0u16; MOST_RECORDS + 1];
+    let mut pieces = [0u16; MOST_RECORDS + 1];
+    let mut news = [0u16; MOST_RECORDS + 1];
     decide_in(
         list,
         &mut labels,
@@ -276,6 +275,6 @@ pub fn decide_with(list: &[u8], cuts: &mut [u16]) -> Decided
 pub fn decide(list: &[u8]) -> Decided
     ensures { λ r. ⌜ Judged (now (list .entry)) r ⌝ }
 {
-    let mut cuts = [0u16; SLOT_COUNT];
+    let mut cuts = [0u16; MOST_RECORDS + 1];
     decide_with(list, &mut cuts)
 }

@@ -21,12 +21,12 @@ pub data Waits (xs : List Seat) : ℕ → ℕ → Type 0 where
   before : {i m : ℕ} → 1 ≤ i → Waits xs (i - held size-of xs i) m → Waits xs i m
 
 -- the slots that are filled then: those past slot i, and those that wait
-abbrev pub Filled : List Seat → ℕ → ℕ → Type 0
-Filled xs i m = (i < m) ⊎ Waits xs i m
+abbrev pub Slot-filled : List Seat → ℕ → ℕ → Type 0
+Slot-filled xs i m = (i < m) ⊎ Waits xs i m
 
 -- the filled slots hold that number of their seats
-pub record Gives (f : Seat → ℕ) (t : Tree Leaf) (i : ℕ) (slots : List ℕ) : Type 0 where
-  pub slot : (m : ℕ) → m ≤ nodes t → Filled (seats t 0 1) i m → getD slots m 0 ≡ held f (seats t 0 1) m
+pub record Seats-held (f : Seat → ℕ) (t : Tree Leaf) (i : ℕ) (slots : List ℕ) : Type 0 where
+  pub slot : (m : ℕ) → m ≤ nodes t → Slot-filled (seats t 0 1) i m → getD slots m 0 ≡ held f (seats t 0 1) m
 
 -- the piece of a seat
 abbrev pub piece-of : Seat → ℕ
@@ -38,8 +38,8 @@ new-of x = x .new
 
 -- the records from number i on have handed their pieces and new pieces to their children
 pub record Handed (ls pieces news : List ℕ) (i : ℕ) : Type 0 where
-  pub pieced : (t : Tree Leaf) → ls ≡ labels t → Gives piece-of t i pieces
-  pub renewed : (t : Tree Leaf) → ls ≡ labels t → Gives new-of t i news
+  pub pieced : (t : Tree Leaf) → ls ≡ labels t → Seats-held piece-of t i pieces
+  pub renewed : (t : Tree Leaf) → ls ≡ labels t → Seats-held new-of t i news
 
 -- every record has its piece
 pub record Pieced (ls pieces : List ℕ) : Type 0 where

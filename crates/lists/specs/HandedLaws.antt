@@ -18,7 +18,7 @@ use Rattle.tree.specs.Numbering.{child-piece}
 use Rattle.tree.specs.Records.{labels}
 use Rattle.cutting.specs.Gathered.{cut-sum}
 use Rattle.cutting.specs.GatheredLaws.{pieces-at-most-nodes}
-use Rattle.lists.specs.WrittenLaws.{seat-small}
+use Rattle.lists.specs.SeatRecordsLaws.{seat-small}
 use Rattle.tree.specs.Lengths.{length-labels}
 use Rattle.cutting.specs.Measured.{node, Measured, Postorder}
 use Rattle.cutting.specs.MeasuredLaws.{in-tree, measured-less, Children, children, gathered}
@@ -41,7 +41,18 @@ use Rattle.cutting.specs.Seats.{
   Around,
 }
 use Rattle.cutting.specs.SeatsLaws.{leaf-left, leaf-right, held-seat, held-whole, length-seats, seats-seated, around}
-use Rattle.lists.specs.Handed.{size-of, Waits, here, before, Filled, Gives, piece-of, new-of, Handed, Pieced}
+use Rattle.lists.specs.Handed.{
+  size-of,
+  Waits,
+  here,
+  before,
+  Slot-filled,
+  Seats-held,
+  piece-of,
+  new-of,
+  Handed,
+  Pieced,
+}
 
 -- no slot that waits is slot 0
 waits-positive : {xs : List Seat} {i m : ℕ} → Waits xs i m → 1 ≤ m
@@ -95,10 +106,10 @@ waits-step xs i m (star s) p n a size w =
 
 -- at first the root's slot alone is filled
 pub gives-root : (f : Seat → ℕ) (t : Tree Leaf) (slots : List ℕ) → getD slots (nodes t) 0 ≡ f (seat t 0 1)
-    → Gives f t (nodes t) slots
+    → Seats-held f t (nodes t) slots
 gives-root f t slots e = record { slot = by-case }
   where
-    by-case : (m : ℕ) → m ≤ nodes t → Filled (seats t 0 1) (nodes t) m → getD slots m 0 ≡ held f (seats t 0 1) m
+    by-case : (m : ℕ) → m ≤ nodes t → Slot-filled (seats t 0 1) (nodes t) m → getD slots m 0 ≡ held f (seats t 0 1) m
     by-case m h (inl l) = absurd (omega arith)
     by-case m h (inr w) =
         ⊎-elim (λ z. rw z (e ∙ sym (held-whole f t 0 1)))
@@ -109,10 +120,10 @@ gives-root f t slots e = record { slot = by-case }
 filled-before : (t : Tree Leaf) (i left right m : ℕ) → i < nodes t
     → left ≡ left-slot (root-label (node t i)) i (of-right nodes (node t i))
     → right ≡ right-slot (root-label (node t i)) i
-    → (m ≡ left → ⊥) → (m ≡ right → ⊥) → Filled (seats t 0 1) i m → Filled (seats t 0 1) (i + 1) m
+    → (m ≡ left → ⊥) → (m ≡ right → ⊥) → Slot-filled (seats t 0 1) i m → Slot-filled (seats t 0 1) (i + 1) m
 filled-before t i left right m h l r not-left not-right (inl past) = by-next (decLt (i + 1) m)
   where
-    by-next : Dec (i + 1 < m) → Filled (seats t 0 1) (i + 1) m
+    by-next : Dec (i + 1 < m) → Slot-filled (seats t 0 1) (i + 1) m
     by-next (yes k) = inl k
     by-next (no k) = inr (here {i = i + 1} {m = m} (omega arith) (omega arith))
 filled-before t i left right m h l r not-left not-right (inr w) =
@@ -124,7 +135,7 @@ filled-before t i left right m h l r not-left not-right (inr w) =
     (waits-step s i m (x .tree) (x .piece) (x .new) (around s i (seats-seated t 0 1) inside) size w)
 
 -- no filled slot is slot 0
-filled-positive : (t : Tree Leaf) (i m : ℕ) → Filled (seats t 0 1) i m → 1 ≤ m
+filled-positive : (t : Tree Leaf) (i m : ℕ) → Slot-filled (seats t 0 1) i m → 1 ≤ m
 filled-positive t i m (inl l) = omega arith
 filled-positive t i m (inr w) = waits-positive w
 
@@ -134,18 +145,18 @@ pub gives-more : (f : Seat → ℕ) (t : Tree Leaf) (i left right a b : ℕ) (sl
     → left ≡ left-slot (root-label (node t i)) i (of-right nodes (node t i))
     → right ≡ right-slot (root-label (node t i)) i
     → (1 ≤ left → a ≡ held f (seats t 0 1) left) → (1 ≤ right → b ≡ held f (seats t 0 1) right)
-    → Gives f t (i + 1) slots → Gives f t i (set (set slots left a) right b)
+    → Seats-held f t (i + 1) slots → Seats-held f t i (set (set slots left a) right b)
 gives-more f t i left right a b slots h room left-le right-le l r for-left for-right g =
     record { slot = λ m k w. by-right m k w (ℕ-discrete m right) }
   where
-    by-left : (m : ℕ) → m ≤ nodes t → Filled (seats t 0 1) i m → (m ≡ right → ⊥) → Dec (m ≡ left)
+    by-left : (m : ℕ) → m ≤ nodes t → Slot-filled (seats t 0 1) i m → (m ≡ right → ⊥) → Dec (m ≡ left)
         → getD (set slots left a) m 0 ≡ held f (seats t 0 1) m
     by-left m k w not-right (yes e) =
         rw e (getD-set-same slots left a 0 (omega arith) ∙ for-left (omega (arith, filled-positive t i m w)))
     by-left m k w not-right (no e) =
         getD-set-other slots left m a 0 e ∙ g .slot m k (filled-before t i left right m h l r e not-right w)
 
-    by-right : (m : ℕ) → m ≤ nodes t → Filled (seats t 0 1) i m → Dec (m ≡ right)
+    by-right : (m : ℕ) → m ≤ nodes t → Slot-filled (seats t 0 1) i m → Dec (m ≡ right)
         → getD (set (set slots left a) right b) m 0 ≡ held f (seats t 0 1) m
     by-right m k w (yes e) =
         rw e (getD-set-same (set slots left a) right b 0 (simp length-set (omega arith))
@@ -219,13 +230,13 @@ handed-none ls pieces news h k =
     }
   where
     at-root : (f : Seat → ℕ) (t : Tree Leaf) (v : ℕ) (slots : List ℕ) → ls ≡ labels t → length ls < length slots
-        → v ≡ f (seat t 0 1) → Gives f t (length ls) (set slots (length ls) v)
+        → v ≡ f (seat t 0 1) → Seats-held f t (length ls) (set slots (length ls) v)
     at-root f t v slots e room is =
         let n : length ls ≡ nodes t = ap length e ∙ length-labels t in
         rw n (gives-root f t (set slots (nodes t) v) (getD-set-same slots (nodes t) v 0 (rw n at room) ∙ is))
 
 -- what record i was handed
-pub own-number : (f : Seat → ℕ) (t : Tree Leaf) (i : ℕ) (slots : List ℕ) → i < nodes t → Gives f t (i + 1) slots
+pub own-number : (f : Seat → ℕ) (t : Tree Leaf) (i : ℕ) (slots : List ℕ) → i < nodes t → Seats-held f t (i + 1) slots
     → getD slots (i + 1) 0 ≡ f (seat-at (seats t 0 1) i)
 own-number f t i slots h g =
     g .slot (i + 1) (omega arith) (inr (here {i = i + 1} {m = i + 1} (omega arith) refl))

@@ -1,5 +1,5 @@
 -- The list of a tree: the pieces, handed down from the root, the records, and that no other tree has the same list.
-pub mod WrittenLaws
+pub mod SeatRecordsLaws
 pub mod Handed
 pub mod HandedLaws
 pub mod Recording
@@ -7,5 +7,3 @@ pub mod RecordingLaws
 pub mod ClassNumbers
 pub mod Readback
 pub mod NumbersShown
-pub mod Depth
-pub mod DepthLaws

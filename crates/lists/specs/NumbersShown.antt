@@ -13,7 +13,7 @@ use Rattle.tree.specs.Records.{encode, Good}
 use Rattle.tree.specs.Numbering.{in-postorder, numbered}
 use Rattle.cutting.specs.Seats.{Seat, seats, seat-at}
 use Rattle.cutting.specs.SeatsLaws.{held-seat, length-seats}
-use Rattle.lists.specs.WrittenLaws.{seat-small}
+use Rattle.lists.specs.SeatRecordsLaws.{seat-small}
 use Rattle.lists.specs.Readback.{byte-of-record}
 
 -- the pieces of the nodes are those of the seats

@@ -16,7 +16,7 @@ use Rattle.tree.specs.Records.{encode, Ranked, Good, labels}
 use Rattle.tree.specs.Lengths.{length-encode, length-labels}
 use Rattle.tree.specs.Postorder.{labels-injective}
 use Rattle.cutting.specs.Seats.{seats, seat-at, root-label}
-use Rattle.cutting.specs.Written.{root-kind, root-character, seat-record}
+use Rattle.cutting.specs.SeatRecords.{root-kind, root-character, seat-record}
 use Rattle.cutting.specs.Measured.{node}
 use Rattle.cutting.specs.MeasuredLaws.{label-is}
 use Rattle.lists.specs.RecordingLaws.{record-of-list}

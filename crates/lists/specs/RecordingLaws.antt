@@ -14,8 +14,8 @@ use Rattle.tree.specs.Records.{labels, encode}
 use Rattle.tree.specs.Lengths.{length-labels, length-encode}
 use Rattle.cutting.specs.Seats.{Seat, seats, seat-at, root-label}
 use Rattle.cutting.specs.SeatsLaws.{length-seats}
-use Rattle.cutting.specs.Written.{seat-record, child-number, written}
-use Rattle.lists.specs.WrittenLaws.{encode-written, drop-written, labelled-seat}
+use Rattle.cutting.specs.SeatRecords.{seat-record, child-number, written}
+use Rattle.lists.specs.SeatRecordsLaws.{encode-written, drop-written, labelled-seat}
 use Rattle.cutting.specs.Measured.{Postorder, node}
 use Rattle.cutting.specs.MeasuredLaws.{in-tree, label-is, Slots}
 use Rattle.lists.specs.Recording.{Recorded, Written-so-far}

@@ -1,5 +1,5 @@
--- `deciding::good::decide_within` meets its contract: where the slots are not enough it calls itself with more, and else
--- there is room in the arrays of the size that they are. The measure is how many records too many there are.
+-- `deciding::good::decide_within` meets its contract: where the slots are not enough it calls itself with more, and
+-- else there is room in the arrays of the size that they are. The measure is how many records too many there are.
 use Prim.Native.Nat.{ℕ, _+_, _-_, _/_, _<_}
 use native.Mathlib.Omega.{arith}
 use lib.ListN.{length}
@@ -41,7 +41,8 @@ claims t = (
 more-slots : (t : ℕ) → decide-within-lts.Need-mul-decide-within (claims t) (decide-within-at t) decide-within.Post
 more-slots t c = omega arith
 
-more-requires : (t : ℕ) → decide-within-lts.Need-decide-within-requires (claims t) (decide-within-at t) decide-within.Post
+more-requires : (t : ℕ) → decide-within-lts.Need-decide-within-requires (claims t) (decide-within-at t)
+    decide-within.Post
 more-requires t c κs =
     let s = c .before .before .before .before in
     (omega arith, (s .pre .1 .0, (s .pre .1 .1 .0, omega arith)))

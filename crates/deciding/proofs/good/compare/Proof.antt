@@ -1,5 +1,5 @@
--- `deciding::good::compare` meets its contract. The loop's invariant: the first `i` records are those of the tree with these
--- labels. A record that differs is the reason for no. The measure is what is left of the labels.
+-- `deciding::good::compare` meets its contract. The loop's invariant: the first `i` records are those of the tree with
+-- these labels. A record that differs is the reason for no. The measure is what is left of the labels.
 use Prim.Native.Nat.{_+_, _≤_, _-_}
 use mathlib.Core.Path.{_≡_, refl}
 use native.Mathlib.Omega.{arith}
@@ -10,7 +10,7 @@ use Rattle.tree.specs.Leaf.{Leaf}
 use Rattle.tree.specs.Records.{labels}
 use Rattle.cutting.specs.Seats.{seats, seat-at}
 use Rattle.cutting.specs.MeasuredLaws.{Slots, right-size-le, holds-less, slots, in-tree}
-use Rattle.deciding.specs.Decide.{Agrees}
+use Rattle.deciding.specs.LabelsTaken.{Agrees}
 use Rattle.deciding.specs.DecideLaws.{agrees-none, agrees-more, compared-no, compared-all}
 use Rattle.deciding.proofs.good.compare.Statement.{statement}
 use Rattle.deciding.proofs.good.compare.Tie as tie

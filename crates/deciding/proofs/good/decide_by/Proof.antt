@@ -3,7 +3,7 @@ use native.Mathlib.Omega.{arith}
 use mathlib.Core.Path.{subst}
 use mathlib.Core.Bool.{Bool}
 use borrow.Author.Tests.{not-true, not-false}
-use Rattle.deciding.specs.Decide.{Compared}
+use Rattle.deciding.specs.LabelsTaken.{Compared}
 use Rattle.deciding.specs.DecideLaws.{
   not-by-labels,
   not-by-pieces,

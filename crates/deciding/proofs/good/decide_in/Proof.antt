@@ -1,5 +1,5 @@
--- `deciding::good::decide_in` meets its contract: the front of the lent labels holds those of the list, and what is decided
--- by them is decided.
+-- `deciding::good::decide_in` meets its contract: the front of the lent labels holds those of the list, and what is
+-- decided by them is decided.
 use Prim.Native.Nat.{_/_}
 use mathlib.Core.Path.{sym}
 use mathlib.Core.List.{_++_}

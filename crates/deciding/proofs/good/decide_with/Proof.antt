@@ -1,4 +1,5 @@
--- `deciding::good::decide_with` meets its contract: a list of another length is not good, and for the rest there is room.
+-- `deciding::good::decide_with` meets its contract: a list of another length is not good, and for the rest there is
+-- room.
 use native.Mathlib.Omega.{arith}
 use Rattle.deciding.specs.DecideLaws.{not-by-length, not-by-size, counts-nothing}
 use borrow.Author.Needs.{needs}

@@ -1,5 +1,5 @@
--- `deciding::good::is_list` meets its contract: the pieces are handed down by what was measured, and then all is there that
--- a record is compared by.
+-- `deciding::good::is_list` meets its contract: the pieces are handed down by what was measured, and then all is there
+-- that a record is compared by.
 use native.Mathlib.Omega.{arith}
 use borrow.Author.Needs.{needs}
 use Rattle.deciding.proofs.good.is_list.Statement.{statement}

@@ -1,11 +1,11 @@
--- `deciding::good::take_labels` meets its contract. The loop's invariant: the first `i` labels are those that the first `i`
--- records ask for, and `classes` of these are class leaves'. The measure is what is left of the labels.
+-- `deciding::good::take_labels` meets its contract. The loop's invariant: the first `i` labels are those that the first
+-- `i` records ask for, and `classes` of these are class leaves'. The measure is what is left of the labels.
 use Prim.Native.Nat.{_≤_, _-_}
 use mathlib.Core.Path.{_≡_, refl, _∙_}
 use native.Mathlib.Omega.{arith}
 use lib.ListN.{length, length-set}
 use Rattle.tree.specs.Layout.{class-records}
-use Rattle.deciding.specs.Decide.{Taken}
+use Rattle.deciding.specs.LabelsTaken.{Taken}
 use Rattle.deciding.specs.DecideLaws.{taken-none, taken-more, label-by, classes-more}
 use Rattle.deciding.proofs.good.take_labels.Statement.{statement}
 use Rattle.deciding.proofs.good.take_labels.Tie as tie

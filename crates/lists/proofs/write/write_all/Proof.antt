@@ -18,7 +18,8 @@ use Rattle.cutting.proofs.slots.child_number.Reads as child-number-reads
 use Rattle.cutting.proofs.slots.right_slot.Reads as right-slot-reads
 
 abbrev Inv-loop : tie.InvT-loop
-Inv-loop labels sizes pieces out₀ i₀ out i = (i ≤ length labels) × (length out ≡ length out₀) × Written-so-far labels out₀ out i
+Inv-loop labels sizes pieces out₀ i₀ out i = (i ≤ length labels) × (length out ≡ length out₀)
+    × Written-so-far labels out₀ out i
 
 abbrev μ-loop : tie.MeasureT-loop
 μ-loop labels sizes pieces out₀ i₀ out i = length labels - i
@@ -99,7 +100,8 @@ loop-again c =
           (λ t e. (
             slots ls t (l .loop .i) (f .left-slot .result) (r .right-slot .result) (s .args .sizes .now) e
                 (r .before .before .loop-test .taken)
-                (holds-less (l .loop .i) (l .loop .inv .0) (s .pre .1 .1 .1 .0 .0 .sized t e)) (r .right-slot .ensures .0)
+                (holds-less (l .loop .i) (l .loop .inv .0) (s .pre .1 .1 .1 .0 .0 .sized t e))
+                (r .right-slot .ensures .0)
                 (f .left-slot .ensures .0),
             s .pre .1 .1 .1 .0 .1 .at-record t e (l .loop .i)
                 (in-tree ls t (l .loop .i) e (r .before .before .loop-test .taken)),

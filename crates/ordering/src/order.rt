@@ -10,7 +10,7 @@ ghost use Prim.Native.Nat.{_-_, _≤_};
 ghost use lib.ListN.{length};
 ghost use Rattle.tree.specs.Limits.{most-labels};
 ghost use Rattle.tree.specs.Postorder.{asked};
-ghost use Rattle.lists.specs.Depth.{depth-after, One-tree};
+ghost use Rattle.ordering.specs.Depth.{depth-after, One-tree};
 
 // One less, 0 of 0.
 fn one_less(n: usize) -> usize

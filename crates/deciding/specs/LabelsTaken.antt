@@ -10,7 +10,7 @@ use Rattle.tree.specs.Layout.{label-at}
 use Rattle.tree.specs.Places.{bare, Low-places, Is-record}
 use Rattle.tree.specs.Records.{encode, labels}
 use Rattle.cutting.specs.Seats.{seats, seat-at}
-use Rattle.cutting.specs.Written.{seat-record}
+use Rattle.cutting.specs.SeatRecords.{seat-record}
 
 -- the first n labels are those that the records of the list show
 pub record Taken (list ls : List ℕ) (n : ℕ) : Type 0 where

@@ -1,10 +1,11 @@
--- `lists::order::depth_with` meets its contract: each return is what the label asks for, computed by the branches taken.
+-- `ordering::order::depth_with` meets its contract: each return is what the label asks for, computed by the branches
+-- taken.
 use mathlib.Core.Path.{_∙_}
 use borrow.Author.Tests.{eq-eqb, ne-eqb}
 use borrow.Author.Needs.{needs}
 use Rattle.tree.specs.Layout.{label-of, empty-kind}
-use Rattle.lists.proofs.order.depth_with.Statement.{statement}
-use Rattle.lists.proofs.order.depth_with.Tie as tie
+use Rattle.ordering.proofs.order.depth_with.Statement.{statement}
+use Rattle.ordering.proofs.order.depth_with.Tie as tie
 
 add-result : tie.Need-add-result
 add-result c = search needs

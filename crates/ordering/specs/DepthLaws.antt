@@ -25,7 +25,7 @@ use Rattle.tree.specs.Postorder.{
   one-tree-exactly,
 }
 use Rattle.cutting.specs.Measured.{Postorder}
-use Rattle.lists.specs.Depth.{depth-after, depth-of, Trees-waiting, One-tree}
+use Rattle.ordering.specs.Depth.{depth-after, depth-of, Trees-waiting, One-tree}
 
 -- the count follows the machine
 depth-pushed : (what : Asked) (stack : List (Tree Leaf)) → depth-of (pushed what stack)

@@ -44,7 +44,7 @@ use Rattle.cutting.specs.Seats.{
   cut-edges,
 }
 use Rattle.cutting.specs.SeatsLaws.{leaf-left, leaf-right, length-seats}
-use Rattle.cutting.specs.Written.{child-number, seat-record, written, Small}
+use Rattle.cutting.specs.SeatRecords.{child-number, seat-record, written, Seat-within}
 
 -- two lists of seats, one after the other
 written-append : (i : ℕ) (xs ys : List Seat) → written i (xs ++ ys) ≡ written i xs ++ written (i + length xs) ys
@@ -161,14 +161,14 @@ labelled-seat (star s) i p n left right small is-left is-right = rw (is-left, is
 
 -- each seat's numbers do
 Each-small : ℕ → List Seat → Type 0
-Each-small limit xs = (i : ℕ) → i < length xs → Small limit (seat-at xs i)
+Each-small limit xs = (i : ℕ) → i < length xs → Seat-within limit (seat-at xs i)
 
 -- in two lists, one after the other
 small-append : (limit : ℕ) (xs ys : List Seat) → Each-small limit xs → Each-small limit ys → Each-small limit (xs ++ ys)
 unfolding Each-small
 small-append limit xs ys p q i h = by-place (decLt i (length xs))
   where
-    by-place : Dec (i < length xs) → Small limit (seat-at (xs ++ ys) i)
+    by-place : Dec (i < length xs) → Seat-within limit (seat-at (xs ++ ys) i)
     by-place (yes l) = rw (List·getD-append xs ys no-seat i l) (p i l)
     by-place (no l) =
         let j : length xs + (i - length xs) ≡ i = omega arith in
@@ -177,7 +177,7 @@ small-append limit xs ys p q i h = by-place (decLt i (length xs))
         rw e (q (i - length xs) (omega (arith, length-append xs ys)))
 
 -- in a list of one
-small-one : (limit : ℕ) (x : Seat) → Small limit x → Each-small limit (x ∷ [])
+small-one : (limit : ℕ) (x : Seat) → Seat-within limit x → Each-small limit (x ∷ [])
 unfolding Each-small
 small-one limit x s zero h = s
 small-one limit x s (suc i) h = absurd (not-suc-le-zero (le-of-suc-le-suc h))
@@ -189,7 +189,7 @@ child-older false p m n h k = omega arith
 
 -- so do the numbers of the left or only child, whose edge is cut as b says
 small-left : (limit : ℕ) (u s : Tree Leaf) (b : Bool) (p n after : ℕ) → cut-edges u ≡ one b + cut-edges s + after
-    → Small limit (seat u p n) → Small limit (seat s (child-piece b p n) (one b + n))
+    → Seat-within limit (seat u p n) → Seat-within limit (seat s (child-piece b p n) (one b + n))
 small-left limit u s b p n after e w = record {
   older = child-older b p n n (w .older) (le-refl n);
   bounded = omega (arith, w .bounded);
@@ -198,15 +198,15 @@ small-left limit u s b p n after e w = record {
 -- and those of the right one
 small-right : (limit : ℕ) (u t : Tree Leaf) (p n : ℕ)
     → cut-edges u ≡ one (left-apart u) + of-left cut-edges u + (one (right-apart u) + cut-edges t)
-    → Small limit (seat u p n)
-    → Small limit (seat t (right-piece u p n) (right-new u n))
+    → Seat-within limit (seat u p n)
+    → Seat-within limit (seat t (right-piece u p n) (right-new u n))
 small-right limit u t p n e w = record {
   older = child-older (right-apart u) p (past-left u n) n (w .older) (omega arith);
   bounded = omega (arith, w .bounded);
 }
 
 -- the numbers of a tree's seats stay below what bounds the root's
-seats-small : (limit : ℕ) (t : Tree Leaf) (p n : ℕ) → Small limit (seat t p n) → Each-small limit (seats t p n)
+seats-small : (limit : ℕ) (t : Tree Leaf) (p n : ℕ) → Seat-within limit (seat t p n) → Each-small limit (seats t p n)
 seats-small limit (leaf a) p n w = small-one limit (seat (leaf a) p n) w
 seats-small limit (catenation s t) p n w =
     let u = catenation s t in
@@ -227,7 +227,7 @@ seats-small limit (star s) p n w =
     (small-one limit (seat u p n) w)
 
 -- the numbers of a whole tree's seats end at its piece count
-pub seat-small : (t : Tree Leaf) (i : ℕ) → i < nodes t → Small (piece-count t) (seat-at (seats t 0 1) i)
+pub seat-small : (t : Tree Leaf) (i : ℕ) → i < nodes t → Seat-within (piece-count t) (seat-at (seats t 0 1) i)
 unfolding Each-small piece-count
 seat-small t i h =
     seats-small (piece-count t) t 0 1 (record { older = omega arith; bounded = le-refl (piece-count t) }) i

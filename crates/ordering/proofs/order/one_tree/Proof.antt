@@ -1,18 +1,18 @@
--- `lists::order::one_tree` meets its contract. The loop's invariant: the machine that reads a tree from its labels has
--- read the first `i`, and its stack is `depth` deep. The measure is what is left of the labels.
+-- `ordering::order::one_tree` meets its contract. The loop's invariant: the machine that reads a tree from its labels
+-- has read the first `i`, and its stack is `depth` deep. The measure is what is left of the labels.
 use Prim.Native.Nat.{ℕ, _≤_, _<_, _-_}
 use mathlib.Core.Path.{_≡_, sym, _∙_}
 use native.Mathlib.Omega.{arith}
 use lib.ListN.{length, getD}
 use borrow.Author.Tests.{eqb-true, eqb-false, leb-true, leb-false}
 use Rattle.tree.specs.Postorder.{asked}
-use Rattle.lists.specs.Depth.{Trees-waiting}
-use Rattle.lists.specs.DepthLaws.{reads-none, reads-more, stuck-tree, read-tree, depth-grows}
-use Rattle.lists.proofs.order.one_tree.Statement.{statement}
-use Rattle.lists.proofs.order.one_tree.Tie as tie
-use Rattle.lists.proofs.order.one_tree.Reads as reads
-use Rattle.lists.proofs.order.one_tree.Lts as lts
-use Rattle.lists.proofs.order.depth_with.Reads as depth-with-reads
+use Rattle.ordering.specs.Depth.{Trees-waiting}
+use Rattle.ordering.specs.DepthLaws.{reads-none, reads-more, stuck-tree, read-tree, depth-grows}
+use Rattle.ordering.proofs.order.one_tree.Statement.{statement}
+use Rattle.ordering.proofs.order.one_tree.Tie as tie
+use Rattle.ordering.proofs.order.one_tree.Reads as reads
+use Rattle.ordering.proofs.order.one_tree.Lts as lts
+use Rattle.ordering.proofs.order.depth_with.Reads as depth-with-reads
 
 abbrev Inv-loop : tie.InvT-loop
 Inv-loop labels depth₀ i₀ depth i = (i ≤ length labels) × (depth ≤ i) × Trees-waiting labels i depth

@@ -1,0 +1,2 @@
+// Whether labels are those of one tree.
+pub mod order;
