@@ -20,7 +20,7 @@ use Rattle.tables.specs.Standing.{
   Site,
   site,
   tree,
-  first,
+  first-record,
   catenation-left,
   catenation-right,
   union-left,
@@ -31,7 +31,7 @@ use Rattle.tables.specs.Standing.{
   In,
   here,
   step,
-  Plain,
+  Not-stand-in,
   Fine,
 }
 
@@ -41,7 +41,7 @@ pub record Top (list : List ℕ) (x : Nested Leaf) : Type 0 where
   pub good : Good list of-tree
   pub cut : x ≡ cut-up of-tree
   pub fine : Fine list (1 + run x) (site x 0 0 1 0)
-  pub plain : Plain x
+  pub plain : Not-stand-in x
   pub all : length list ≡ record-size * size x
 
 -- the list is that of some tree
@@ -51,8 +51,8 @@ pub record Listed (list : List ℕ) : Type 0 where
 
 -- the records of the second site are among those of the first
 pub record Among (s u : Site) : Type 0 where
-  pub begins : first s ≤ first u
-  pub ends : first u + size (tree u) ≤ first s + size (tree s)
+  pub begins : first-record s ≤ first-record u
+  pub ends : first-record u + size (tree u) ≤ first-record s + size (tree s)
 
 child-among : {s u : Site} → Child s u → Among s u
 child-among (catenation-left {x = x} {y = y}) = record { begins = omega arith; ends = omega arith }
@@ -104,7 +104,7 @@ last-part xs ys n r e =
     past (xs ++ ys) (n ∷ []) (length (xs ++ ys)) r 0 refl (omega arith)
 
 -- the last number is the root's
-root-below : (x : Nested Leaf) → Plain x → (r : ℕ) → r + 1 ≡ size x → getD (below-each x) r 0 ≡ run x
+root-below : (x : Nested Leaf) → Not-stand-in x → (r : ℕ) → r + 1 ≡ size x → getD (below-each x) r 0 ≡ run x
 root-below (leaf a) plain r e = let at : r ≡ 0 = omega arith in rw at
 root-below (catenation x y) plain r e =
     last-part (below-each x) (below-each y) _ r (omega (arith, length-below-each x, length-below-each y))
@@ -115,7 +115,8 @@ root-below (star x) plain r e =
 root-below (below x) plain r e = absurd plain
 
 -- the number at a node's record is that of the pieces below the node
-in-below : {s u : Site} → In s u → Plain (tree u) → (r : ℕ) → first s + r + 1 ≡ first u + size (tree u)
+in-below : {s u : Site} → In s u → Not-stand-in (tree u) → (r : ℕ)
+    → first-record s + r + 1 ≡ first-record u + size (tree u)
     → getD (below-each (tree s)) r 0 ≡ run (tree u)
 in-below {s} here plain r e = root-below (tree s) plain r (omega arith)
 in-below {u = u} (step (catenation-left {x = x} {y = y}) m) plain r e =
@@ -145,7 +146,7 @@ in-below (step under m) plain r e = in-below m plain r e
 
 -- so is the slot that deciding on the list has left for it
 pub slot-below : {list cuts : List ℕ} {x : Nested Leaf} → Top list x → Counts-below list cuts → {u : Site}
-    → In (site x 0 0 1 0) u → Plain (tree u) → (r : ℕ) → r + 1 ≡ first u + size (tree u)
+    → In (site x 0 0 1 0) u → Not-stand-in (tree u) → (r : ℕ) → r + 1 ≡ first-record u + size (tree u)
     → getD cuts (r + 1) 0 ≡ run (tree u)
 slot-below {x = x} top counts m plain r e =
     let t = top .of-tree in

@@ -1,4 +1,4 @@
--- A good list is that of a cut tree whose pieces are small, so its tables can be made.
+-- A good list is that of a cut tree whose pieces are small, so its rows can be made.
 use Prim.Native.Nat.{ℕ, _+_, _*_, _-_, _/_, _≤_, _<_}
 use mathlib.Core.Path.{_≡_, refl, sym, ap, subst, _∙_}
 use mathlib.Core.List.{List, [], _++_, append-nil}
@@ -10,26 +10,27 @@ use Rattle.language.specs.Nested.{Nested, leaf, catenation, union, star, below,
 use Rattle.tree.specs.Leaf.{Leaf, character, class, empty-text}
 use Rattle.tree.specs.Limits.{most-pieces, most-records, most-states}
 use Rattle.tree.specs.Layout.{record-size}
-use Rattle.tree.specs.Records.{Good, Ranked, piece-count, class-numbers, class-count}
+use Rattle.tree.specs.Records.{Good, piece-count, class-numbers, class-count}
 use Rattle.tree.specs.Parts.{Small, Every-below}
 use Rattle.tree.specs.PlacesLaws.{length-bare}
 use Rattle.tree.specs.Stored.{stored}
 use Rattle.deciding.specs.Judged.{Counts-below}
 use Rattle.tree.specs.Pieces.{cut-up, stated, good-small, good-tells}
 use Rattle.tables.specs.Words.{width, run}
-use Rattle.tables.specs.Plan.{Planned}
-use Rattle.tables.specs.Tables.{Pieces-room}
+use Rattle.tables.specs.Plan.{row-size}
+use Rattle.tables.specs.Tables.{Prepared, Roomy}
 use Rattle.tables.specs.Standing.{
   here,
   size,
   size-positive,
   length-stored,
-  Plain,
+  Not-stand-in,
   Sound,
+  most-leaves,
   Low-numbers,
 }
-use Rattle.tables.specs.Filling.{tables}
-use Rattle.planning.specs.Below.{Top, Listed, slot-below}
+use Rattle.tables.specs.Filling.{Tables, tables}
+use Rattle.planning.specs.Below.{Top, slot-below}
 use Rattle.planning.specs.Making.{made-none, made-planned, Making, making-at, Total}
 
 -- two states for each node of a piece's own tree
@@ -45,7 +46,7 @@ pub small-narrow : (x : Nested Leaf) → Small x → width x ≤ most-states
 small-narrow x small = omega (arith, width-own x, small .few-own-nodes)
 
 -- its root is a node
-small-plain : (x : Nested Leaf) → Small x → Plain x
+small-plain : (x : Nested Leaf) → Small x → Not-stand-in x
 small-plain (leaf a) small = tt
 small-plain (catenation x y) small = tt
 small-plain (union x y) small = tt
@@ -60,8 +61,8 @@ small-sound (union x y) h = (small-sound x (h .0), small-sound y (h .1))
 small-sound (star x) h = small-sound x h
 small-sound (below x) h = (small-plain x (h .0), small-narrow x (h .0), small-sound x (h .1))
 
--- each node is a class leaf or is not
-few-classes : (t : Tree Leaf) → class-count t ≤ nodes t
+-- each class leaf is a leaf, and of n nodes at most (n + 1) / 2 are leaves
+few-classes : (t : Tree Leaf) → 2 * class-count t ≤ nodes t + 1
 few-classes (Tree.leaf (character c)) = omega arith
 few-classes (Tree.leaf (class k)) = omega arith
 few-classes (Tree.leaf empty-text) = omega arith
@@ -71,7 +72,7 @@ few-classes (Tree.star s) = omega (arith, few-classes s)
 
 -- all numbers of a list are low
 abbrev All-low : List ℕ → Type 0
-All-low l = (j : ℕ) → j < length l → getD l j 0 < most-records
+All-low l = (j : ℕ) → j < length l → getD l j 0 < most-leaves
 
 -- so are those of its parts
 low-first : (l m : List ℕ) → All-low (l ++ m) → All-low l
@@ -140,11 +141,6 @@ pub record Decided-good (list cuts : List ℕ) (pieces : ℕ) : Type 0 where
   pub cuts-room : length list / record-size < length cuts
   pub pieces-are : pieces ≡ piece-count some
 
--- the tables are those of t: of its pieces, and the number of the pieces
-pub record Laid (t : Tree Leaf) (codes runs stands tops : List ℕ) (count : ℕ) : Type 0 where
-  pub planned : Planned (record { codes = codes; runs = runs; stands = stands; tops = tops }) (cut-up t)
-  pub counted : count ≡ piece-count t
-
 -- the last record is the root's
 last-root : {list : List ℕ} {x : Nested Leaf} → Top list x → length list / record-size - 1 + 1 ≡ size x
 last-root {x = x} top = omega (arith, top .all, size-positive x)
@@ -177,35 +173,33 @@ module _ {list cuts : List ℕ} {pieces : ℕ} (known : Decided-good list cuts p
   }
 
 -- before the first piece
-pub making-none : {list cuts codes runs stands tops roots : List ℕ} {pieces : ℕ}
-    → Decided-good list cuts pieces → Pieces-room pieces codes runs stands tops → length roots ≡ most-pieces
-    → getD roots 0 0 ≡ length list / record-size - 1 → Making list cuts 0 (tables codes stands roots) runs tops
-making-none {runs = runs} {tops = tops} known roomy roots-room first =
+pub making-none : {list cuts codes stands roots rows : List ℕ} {pieces : ℕ}
+    → Decided-good list cuts pieces → Roomy pieces rows → length codes ≡ row-size → length stands ≡ most-pieces
+    → length roots ≡ most-pieces → getD roots 0 0 ≡ length list / record-size - 1
+    → Making list cuts 0 (tables codes stands roots) rows
+making-none {rows = rows} known roomy codes-room stands-room roots-room first =
     let total = total-of known in
     record {
       listed = record { some = cut-up (known .some); top = good-top (known .good) };
       counted = known .counted;
       cuts-room = known .cuts-room;
       room = λ x top. record {
-        of-codes = omega (arith, roomy .codes-room, total .counts-all x top);
-        of-stands = omega (arith, roomy .stands-room, total .counts-all x top);
+        of-codes = omega arith;
+        of-stands = omega (arith, stands-room, top .fine .low);
         of-roots = omega (arith, roots-room, top .fine .low);
       };
-      runs-room = λ x top. omega (arith, roomy .runs-room, total .counts-all x top);
-      tops-room = λ x top. omega (arith, roomy .tops-room, total .counts-all x top);
-      so-far = λ x top. made-none x _ runs tops (omega (arith, last-root top));
+      rows-room = λ x top. omega (arith, roomy, total .counts-all x top);
+      so-far = λ x top. made-none x _ rows (omega (arith, last-root top));
     }
 
 -- after the last
-pub laid : {list cuts codes runs stands tops roots : List ℕ} {total : ℕ}
-    → Making list cuts total (tables codes stands roots) runs tops → Total list total
-    → (t : Tree Leaf) → Good list t → Laid t codes runs stands tops total
-laid making all t good =
+pub prepared : {list cuts rows : List ℕ} {t : Tables} {total : ℕ} → Making list cuts total t rows → Total list total
+    → (tree : Tree Leaf) → Good list tree → Prepared tree rows total
+prepared making all tree good =
     let top = good-top good in
-    let count = all .counts-all (cut-up t) top in
-    let made = making-at making count .so-far (cut-up t) top in
+    let count = all .counts-all (cut-up tree) top in
     record {
-      planned = made-planned top (making .room (cut-up t) top) made;
-      counted =
-          count ∙ stated t .all-pieces;
+      planned = made-planned (making-at making count .so-far (cut-up tree) top);
+      counted = count ∙ stated tree .all-pieces;
+      few = good .few;
     }

@@ -1,2 +1,2 @@
-// Makes the tables of a good list.
+// Makes the rows of a good list.
 pub mod plan;

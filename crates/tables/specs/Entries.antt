@@ -1,52 +1,42 @@
 -- Parts of a table, entry by entry, and the rows that a piece's nodes have there.
-use Prim.Native.Nat.{ℕ, suc, _+_, _≤_, _<_}
+use Prim.Native.Nat.{ℕ, _+_, _≤_, _<_}
 use mathlib.Core.Path.{_≡_, refl, sym, ap, subst, _∙_}
 use mathlib.Core.List.{List, [], _∷_, _++_}
 use native.Mathlib.Omega.{arith}
-use native.Mathlib.Numerals.{add-one}
-use lib.ListN.{length, getD, set, take, drop, length-append, length-set}
-use lib.Seq.{getD-set-same, getD-set-other, drop-cons}
+use lib.ListN.{length, getD, set, length-append, length-set}
+use lib.Seq.{getD-set-same, getD-set-other}
 use Rattle.language.specs.Nested.{Nested, leaf, catenation, union, star, below}
 use Rattle.tree.specs.Leaf.{Leaf}
 use Rattle.tables.specs.Words.{width}
 use Rattle.tables.specs.Plan.{leads-on, jumps-to, leads-and-jumps, leaf-code, codes-of, takes}
 
 -- the list l stands in the table from the entry `at` on
-pub data Lies (table : List ℕ) : ℕ → List ℕ → Type 0 where
-  ends : {at : ℕ} → Lies table at []
-  entry : {at v : ℕ} {l : List ℕ} → getD table at 0 ≡ v → Lies table (at + 1) l → Lies table at (v ∷ l)
+pub data Lies (entries : List ℕ) : ℕ → List ℕ → Type 0 where
+  ends : {at : ℕ} → Lies entries at []
+  entry : {at v : ℕ} {l : List ℕ} → getD entries at 0 ≡ v → Lies entries (at + 1) l → Lies entries at (v ∷ l)
 
 -- told with another form of the place
-pub lies-at : {table : List ℕ} {at to : ℕ} {l : List ℕ} → Lies table at l → at ≡ to → Lies table to l
-lies-at {table} {l = l} h e = subst (λ (k : ℕ). Lies table k l) e h
+pub lies-at : {entries : List ℕ} {at to : ℕ} {l : List ℕ} → Lies entries at l → at ≡ to → Lies entries to l
+lies-at {entries} {l = l} h e = subst (λ (k : ℕ). Lies entries k l) e h
 
 -- told with another form of the list
-pub lies-is : {table : List ℕ} {at : ℕ} {l m : List ℕ} → Lies table at l → l ≡ m → Lies table at m
-lies-is {table} {at} h e = subst (λ (k : List ℕ). Lies table at k) e h
+pub lies-is : {entries : List ℕ} {at : ℕ} {l m : List ℕ} → Lies entries at l → l ≡ m → Lies entries at m
+lies-is {entries} {at} h e = subst (λ (k : List ℕ). Lies entries at k) e h
 
 -- one part behind another
-pub lies-append : {table : List ℕ} {at to : ℕ} {l m : List ℕ} → Lies table at l → Lies table to m → at + length l ≡ to
-    → Lies table at (l ++ m)
+pub lies-append : {entries : List ℕ} {at to : ℕ} {l m : List ℕ} → Lies entries at l → Lies entries to m
+    → at + length l ≡ to
+    → Lies entries at (l ++ m)
 lies-append ends g e = lies-at g (omega arith)
 lies-append (entry v h) g e = entry v (lies-append h g (omega arith))
 
 -- a part stands still where none of its entries changes
-pub lies-same : {table : List ℕ} (after : List ℕ) {at : ℕ} {l : List ℕ} → Lies table at l
-    → ((j : ℕ) → at ≤ j → j < at + length l → getD after j 0 ≡ getD table j 0) → Lies after at l
+pub lies-same : {entries : List ℕ} (after : List ℕ) {at : ℕ} {l : List ℕ} → Lies entries at l
+    → ((j : ℕ) → at ≤ j → j < at + length l → getD after j 0 ≡ getD entries j 0) → Lies after at l
 lies-same after ends same = ends
 lies-same after {at} (entry v h) same =
     entry (same at (omega arith) (omega arith) ∙ v)
     (lies-same after h (λ j low high. same j (omega arith) (omega arith)))
-
--- a part is what `take` and `drop` cut out
-pub lies-row : {table : List ℕ} {at : ℕ} {l : List ℕ} → Lies table at l → at + length l ≤ length table
-    → take (length l) (drop at table) ≡ l
-lies-row ends fits = refl
-lies-row {table} {at} (entry {v = v} {l = l} e h) fits =
-    ap (λ (m : List ℕ). take (suc (length l)) m) (drop-cons table at 0 (omega arith))
-    ∙ ap (λ (k : ℕ). k ∷ take (length l) (drop (suc at) table)) e
-    ∙ ap (λ (k : ℕ). v ∷ take (length l) (drop k table)) (sym (add-one at))
-    ∙ ap (λ (m : List ℕ). v ∷ m) (lies-row h (omega arith))
 
 -- the codes of x's states but for that of the accepting state
 abbrev pub fronts : Nested Leaf → ℕ → List ℕ
@@ -100,25 +90,25 @@ wide (below x) = omega arith
 
 -- a table with three entries set
 abbrev pub thrice : List ℕ → (a b c u v w : ℕ) → List ℕ
-thrice table a b c u v w = set (set (set table a u) b v) c w
+thrice entries a b c u v w = set (set (set entries a u) b v) c w
 
-module _ (table : List ℕ) (a b c u v w : ℕ) where
+module _ (entries : List ℕ) (a b c u v w : ℕ) where
   -- an entry that was not set
-  pub thrice-other : (j : ℕ) → (j ≡ a → ⊥) → (j ≡ b → ⊥) → (j ≡ c → ⊥) → getD (thrice table a b c u v w) j 0
-      ≡ getD table j 0
-  thrice-other j not-a not-b not-c = getD-set-other (set (set table a u) b v) c j w 0 not-c
-      ∙ getD-set-other (set table a u) b j v 0 not-b ∙ getD-set-other table a j u 0 not-a
+  pub thrice-other : (j : ℕ) → (j ≡ a → ⊥) → (j ≡ b → ⊥) → (j ≡ c → ⊥) → getD (thrice entries a b c u v w) j 0
+      ≡ getD entries j 0
+  thrice-other j not-a not-b not-c = getD-set-other (set (set entries a u) b v) c j w 0 not-c
+      ∙ getD-set-other (set entries a u) b j v 0 not-b ∙ getD-set-other entries a j u 0 not-a
 
   -- the entry set first, where it was not set again
-  pub thrice-first : a < length table → (a ≡ b → ⊥) → (a ≡ c → ⊥) → getD (thrice table a b c u v w) a 0 ≡ u
-  thrice-first fits not-b not-c = getD-set-other (set (set table a u) b v) c a w 0 not-c
-      ∙ getD-set-other (set table a u) b a v 0 not-b ∙ getD-set-same table a u 0 fits
+  pub thrice-first : a < length entries → (a ≡ b → ⊥) → (a ≡ c → ⊥) → getD (thrice entries a b c u v w) a 0 ≡ u
+  thrice-first fits not-b not-c = getD-set-other (set (set entries a u) b v) c a w 0 not-c
+      ∙ getD-set-other (set entries a u) b a v 0 not-b ∙ getD-set-same entries a u 0 fits
 
   -- the entry set second
-  pub thrice-second : b < length table → (b ≡ c → ⊥) → getD (thrice table a b c u v w) b 0 ≡ v
-  thrice-second fits not-c = getD-set-other (set (set table a u) b v) c b w 0 not-c
-      ∙ getD-set-same (set table a u) b v 0 (simp length-set fits)
+  pub thrice-second : b < length entries → (b ≡ c → ⊥) → getD (thrice entries a b c u v w) b 0 ≡ v
+  thrice-second fits not-c = getD-set-other (set (set entries a u) b v) c b w 0 not-c
+      ∙ getD-set-same (set entries a u) b v 0 (simp length-set fits)
 
   -- the entry set last
-  pub thrice-third : c < length table → getD (thrice table a b c u v w) c 0 ≡ w
-  thrice-third fits = getD-set-same (set (set table a u) b v) c w 0 (simp length-set fits)
+  pub thrice-third : c < length entries → getD (thrice entries a b c u v w) c 0 ≡ w
+  thrice-third fits = getD-set-same (set (set entries a u) b v) c w 0 (simp length-set fits)

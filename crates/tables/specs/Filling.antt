@@ -1,9 +1,9 @@
 -- What filling a node's part of its piece's row makes of the tables, from the parts of its children.
-use Prim.Native.Nat.{ℕ, _+_, _*_, _-_, _≤_, _<_}
+use Prim.Native.Nat.{ℕ, _+_, _-_, _≤_, _<_}
 use mathlib.Core.Path.{_≡_, refl, sym, ap, subst, _∙_}
 use mathlib.Core.Bool.{cond}
 use mathlib.Core.Logic.{_⊎_, inl, inr, ⊎-elim}
-use mathlib.Core.List.{List, [], _∷_, _++_}
+use mathlib.Core.List.{List, _∷_, _++_}
 use native.Mathlib.Omega.{arith}
 use lib.Dec.{eqb}
 use borrow.Author.Tests.{eq-eqb, ne-eqb}
@@ -13,7 +13,7 @@ use Rattle.language.specs.Nested.{Nested, leaf, catenation, union, star, below}
 use Rattle.tree.specs.Leaf.{Leaf}
 use Rattle.tree.specs.Layout.{catenation-kind, union-kind, star-kind}
 use Rattle.tables.specs.Words.{width, run}
-use Rattle.tables.specs.Plan.{row-size, leads-on, jumps-to, leads-and-jumps, start-code, leaf-code, codes-of}
+use Rattle.tables.specs.Plan.{row-size, leads-on, jumps-to, leads-and-jumps, leaf-code, codes-of}
 use Rattle.tables.specs.Entries.{
   Lies,
   ends,
@@ -38,9 +38,9 @@ use Rattle.tables.specs.Standing.{
   Site,
   site,
   tree,
-  first,
+  first-record,
   piece,
-  number,
+  start-number,
   Child,
   catenation-left,
   catenation-right,
@@ -51,7 +51,7 @@ use Rattle.tables.specs.Standing.{
   In,
   here,
   step,
-  Plain,
+  Not-stand-in,
   Fine,
   child-fine,
   piece-grows,
@@ -78,7 +78,7 @@ tables-same stands roots p = λ i. tables (p i) stands roots
 
 -- the tables have room for so many pieces of 64 states
 pub record Tables-room (room : ℕ) (t : Tables) : Type 0 where
-  pub of-codes : row-size * room ≤ length (t .codes)
+  pub of-codes : row-size ≤ length (t .codes)
   pub of-stands : room ≤ length (t .stands)
   pub of-roots : room ≤ length (t .roots)
 
@@ -96,8 +96,8 @@ pub record Own-stand-in (s u : Site) (k : ℕ) : Type 0 where
 
 -- the tables have the number of the stand-in u of the child piece k, and the child piece's root
 pub record Stand-in-placed (t : Tables) (u : Site) (k : ℕ) : Type 0 where
-  pub stand : getD (t .stands) k 0 ≡ number u
-  pub root : getD (t .roots) k 0 + 1 ≡ first u + size (tree u)
+  pub stand : getD (t .stands) k 0 ≡ start-number u
+  pub root : getD (t .roots) k 0 + 1 ≡ first-record u + size (tree u)
 
 -- of the child piece k the two tables have the same
 pub record Same-place (t after : Tables) (k : ℕ) : Type 0 where
@@ -107,10 +107,10 @@ pub record Same-place (t after : Tables) (k : ℕ) : Type 0 where
 -- the part of s has been filled but for the code of its accepting state, and `end` is the number after its last
 -- state's.
 -- What comes before it in the tables is as it was, and so is what is told of child pieces with no stand-in in this part
-pub record Filled (s : Site) (t after : Tables) (end : ℕ) : Type 0 where
-  pub ended : end ≡ number s + width (tree s)
-  pub front : Lies (after .codes) (row-size * piece s + number s) (fronts (tree s) (number s))
-  pub codes-before : (j : ℕ) → j < row-size * piece s + number s → getD (after .codes) j 0 ≡ getD (t .codes) j 0
+pub record Part-filled (s : Site) (t after : Tables) (end : ℕ) : Type 0 where
+  pub ended : end ≡ start-number s + width (tree s)
+  pub front : Lies (after .codes) (start-number s) (fronts (tree s) (start-number s))
+  pub codes-before : (j : ℕ) → j < start-number s → getD (after .codes) j 0 ≡ getD (t .codes) j 0
   pub placed : (u : Site) (k : ℕ) → Own-stand-in s u k → Stand-in-placed after u k
   pub others : (k : ℕ) → ((u : Site) → Own-stand-in s u k → ⊥) → Same-place t after k
 
@@ -119,7 +119,7 @@ abbrev pub start-entry : Tables → (at code : ℕ) → Tables
 start-entry t at code = tables (set (t .codes) at code) (t .stands) (t .roots)
 
 -- a node is no stand-in
-plain-no-stand-in : {u : Site} {k : ℕ} → Plain (tree u) → Stand-in u k → ⊥
+plain-no-stand-in : {u : Site} {k : ℕ} → Not-stand-in (tree u) → Stand-in u k → ⊥
 plain-no-stand-in plain stand-in = plain
 
 -- no stand-in is at or below a leaf
@@ -130,13 +130,13 @@ no-stand-in-at-leaf here m = plain-no-stand-in tt m
 pub fill-leaf : {list : List ℕ} {a : Leaf} {f p n i : ℕ} {room : ℕ} → Fine list room (site (leaf a) f p n i)
     → (t : Tables)
     → Tables-room room t
-    → Filled (site (leaf a) f p n i) t (start-entry t (row-size * p + i) (leaf-code a)) (i + 2)
+    → Part-filled (site (leaf a) f p n i) t (start-entry t i (leaf-code a)) (i + 2)
 fill-leaf {a = a} {p = p} {i = i} h t full =
     let r = full .of-codes in
     record {
       ended = refl;
-      front = entry (getD-set-same (t .codes) (row-size * p + i) (leaf-code a) 0 (omega arith)) ends;
-      codes-before = λ j low. getD-set-other (t .codes) (row-size * p + i) j (leaf-code a) 0 (λ e. omega arith);
+      front = entry (getD-set-same (t .codes) i (leaf-code a) 0 (omega arith)) ends;
+      codes-before = λ j low. getD-set-other (t .codes) i j (leaf-code a) 0 (λ e. omega arith);
       placed = λ u k m. absurd (no-stand-in-at-leaf (m .inside) (m .stands-for));
       others = λ k none. record { stand = refl; root = refl };
     }
@@ -150,7 +150,7 @@ stand-placed : {list : List ℕ} {x : Nested Leaf} {f p n i : ℕ} {room : ℕ} 
     → (t : Tables)
     → Tables-room room t → (node : ℕ) → node + 1 ≡ f + size x
     → {u : Site} {k : ℕ} → In (site (below x) f p n i) u → Stand-in u k → piece u ≡ p
-    → Stand-in-placed (stand-entries t (row-size * p + i) n i node) u k
+    → Stand-in-placed (stand-entries t i n i node) u k
 stand-placed {x = x} {n = n} {i = i} h t full node at here stand-in e =
     let r = full .of-stands in
     let q = full .of-roots in
@@ -164,13 +164,13 @@ stand-placed h t full node at (step under m) s e = absurd (omega (arith, piece-g
 pub fill-stand : {list : List ℕ} {x : Nested Leaf} {f p n i : ℕ} {room : ℕ} → Fine list room (site (below x) f p n i)
     → (t : Tables)
     → Tables-room room t → (node : ℕ) → node + 1 ≡ f + size x
-    → Filled (site (below x) f p n i) t (stand-entries t (row-size * p + i) n i node) (i + 2)
+    → Part-filled (site (below x) f p n i) t (stand-entries t i n i node) (i + 2)
 fill-stand {x = x} {f = f} {p = p} {n = n} {i = i} h t full node at =
     let r = full .of-codes in
     record {
       ended = refl;
-      front = entry (getD-set-same (t .codes) (row-size * p + i) 0 0 (omega arith)) ends;
-      codes-before = λ j low. getD-set-other (t .codes) (row-size * p + i) j 0 0 (λ e. omega arith);
+      front = entry (getD-set-same (t .codes) i 0 0 (omega arith)) ends;
+      codes-before = λ j low. getD-set-other (t .codes) i j 0 0 (λ e. omega arith);
       placed = λ u k m. stand-placed h t full node at (m .inside) (m .stands-for) (m .same-piece);
       others = λ k none.
           let other : k ≡ n
@@ -208,12 +208,12 @@ right-exit kind at = cond (eqb kind star-kind) (leads-and-jumps (at + 1)) leads-
 abbrev pub left-exit : (kind last : ℕ) → ℕ
 left-exit kind last = cond (eqb kind catenation-kind) leads-on (jumps-to last)
 
--- the entries of a node with children, when those of its children are there; the piece's row begins at `base`. An only
--- child is both the left and the right one
-abbrev pub joined : Tables → (base kind at middle last : ℕ) → Tables
-joined t base kind at middle last =
+-- the entries of a node with children, when those of its children are there. An only child is both the left and the
+-- right one
+abbrev pub joined : Tables → (kind at middle last : ℕ) → Tables
+joined t kind at middle last =
     tables
-    (thrice (t .codes) (base + at) (base + middle - 1) (base + last - 1) (begin-code kind middle)
+    (thrice (t .codes) at (middle - 1) (last - 1) (begin-code kind middle)
     (left-exit kind last) (right-exit kind at))
     (t .stands)
     (t .roots)
@@ -224,13 +224,13 @@ pub record Joint (kind : ℕ) (s l r : Site) : Type 0 where
   pub right : Child s r
   pub piece-left : piece l ≡ piece s
   pub piece-right : piece r ≡ piece s
-  pub number-left : number l ≡ number s + 1
-  pub number-right : number r ≡ number s + (1 + width (tree l))
+  pub number-left : start-number l ≡ start-number s + 1
+  pub number-right : start-number r ≡ start-number s + (1 + width (tree l))
   pub wide-as : width (tree s) ≡ 1 + width (tree l) + width (tree r) + 1
-  pub front-as : let last = number s + (1 + width (tree l) + width (tree r)) in
-      fronts (tree s) (number s) ≡ begin-code kind (number r)
-      ∷ (codes-of (tree l) (number l) (left-exit kind last)
-      ++ codes-of (tree r) (number r) (right-exit kind (number s)))
+  pub front-as : let last = start-number s + (1 + width (tree l) + width (tree r)) in
+      fronts (tree s) (start-number s) ≡ begin-code kind (start-number r)
+      ∷ (codes-of (tree l) (start-number l) (left-exit kind last)
+      ++ codes-of (tree r) (start-number r) (right-exit kind (start-number s)))
   pub either : (u : Site) (k : ℕ) → In s u → Stand-in u k → In l u ⊎ In r u
   pub apart : (k : ℕ) → Reaches-piece l k → Reaches-piece r k → ⊥
 
@@ -298,7 +298,8 @@ both-same a b = record { stand = b .stand ∙ a .stand; root = b .root ∙ a .ro
 
 module _ {list : List ℕ} {kind : ℕ} {s l r : Site} {room : ℕ} (j : Joint kind s l r) (h : Fine list room s)
     (t mid after : Tables)
-    (full : Tables-room room after) (middle last : ℕ) (a : Filled l t mid middle) (b : Filled r mid after last) where
+    (full : Tables-room room after) (middle last : ℕ) (a : Part-filled l t mid middle)
+    (b : Part-filled r mid after last) where
   -- what the children's parts tell of child pieces stands
   two-placed : (u : Site) (k : ℕ) → Own-stand-in s u k → Stand-in-placed after u k
   two-placed u k m =
@@ -315,19 +316,15 @@ module _ {list : List ℕ} {kind : ℕ} {s l r : Site} {room : ℕ} (j : Joint k
       (b .others k (λ u w. none u (up (j .right) (j .piece-right) w)))
 
   -- the numbers at which the children's parts end
-  middle-is : middle ≡ number r
+  middle-is : middle ≡ start-number r
   middle-is = omega (arith, a .ended, j .number-left, j .number-right)
 
-  last-is : last ≡ number s + (1 + width (tree l) + width (tree r))
+  last-is : last ≡ start-number s + (1 + width (tree l) + width (tree r))
   last-is = omega (arith, b .ended, j .number-right)
 
-  -- where the piece's row begins
-  abbrev two-base : ℕ
-  two-base = row-size * piece s
-
   -- the codes, from those of the children's parts
-  two-front : Lies (joined after two-base kind (number s) middle last .codes) (two-base + number s)
-      (fronts (tree s) (number s))
+  two-front : Lies (joined after kind (start-number s) middle last .codes) (start-number s)
+      (fronts (tree s) (start-number s))
   two-front =
       let e = middle-is in
       let g = last-is in
@@ -341,42 +338,42 @@ module _ {list : List ℕ} {kind : ℕ} {s l r : Site} {room : ℕ} (j : Joint k
       let number-r = j .number-right in
       let piece-l = j .piece-left in
       let piece-r = j .piece-right in
-      let long-l = length-fronts (tree l) (number l) in
-      let long-r = length-fronts (tree r) (number r) in
+      let long-l = length-fronts (tree l) (start-number l) in
+      let long-r = length-fronts (tree r) (start-number r) in
       let long-codes = full .of-codes in
-      let table = joined after two-base kind (number s) middle last .codes in
-      let x = two-base + number s in
-      let y = two-base + middle - 1 in
-      let z = two-base + last - 1 in
+      let stored = joined after kind (start-number s) middle last .codes in
+      let x = start-number s in
+      let y = middle - 1 in
+      let z = last - 1 in
       let u = begin-code kind middle in
       let v = left-exit kind last in
-      let w = right-exit kind (number s) in
-      let keeps : (k : ℕ) → (k ≡ x → ⊥) → (k ≡ y → ⊥) → (k ≡ z → ⊥) → getD table k 0 ≡ getD (after .codes) k 0 =
+      let w = right-exit kind (start-number s) in
+      let keeps : (k : ℕ) → (k ≡ x → ⊥) → (k ≡ y → ⊥) → (k ≡ z → ⊥) → getD stored k 0 ≡ getD (after .codes) k 0 =
       thrice-other (after .codes) x y z u v w in
-      let front-l : Lies table (x + 1) (fronts (tree l) (number l)) =
-      lies-at (lies-same table (a .front)
+      let front-l : Lies stored (x + 1) (fronts (tree l) (start-number l)) =
+      lies-at (lies-same stored (a .front)
       (λ k low high. keeps k (λ same. omega arith) (λ same. omega arith) (λ same. omega arith)
       ∙ b .codes-before k (omega arith))) (omega arith) in
-      let front-r : Lies table (y + 1) (fronts (tree r) (number r)) =
-      lies-at (lies-same table (b .front)
+      let front-r : Lies stored (y + 1) (fronts (tree r) (start-number r)) =
+      lies-at (lies-same stored (b .front)
       (λ k low high. keeps k (λ same. omega arith) (λ same. omega arith) (λ same. omega arith))) (omega arith) in
-      let part-l : Lies table (x + 1) (codes-of (tree l) (number l) v) =
+      let part-l : Lies stored (x + 1) (codes-of (tree l) (start-number l) v) =
       lies-is (lies-append front-l (entry (thrice-second (after .codes) x y z u v w (omega arith) (λ same. omega arith))
-      ends) (omega arith)) (sym (codes-fronts (tree l) (number l) v)) in
-      let part-r : Lies table (y + 1) (codes-of (tree r) (number r) w) =
+      ends) (omega arith)) (sym (codes-fronts (tree l) (start-number l) v)) in
+      let part-r : Lies stored (y + 1) (codes-of (tree r) (start-number r) w) =
       lies-is (lies-append front-r (entry (thrice-third (after .codes) x y z u v w (omega arith)) ends) (omega arith))
-      (sym (codes-fronts (tree r) (number r) w)) in
+      (sym (codes-fronts (tree r) (start-number r) w)) in
       lies-is
       (entry (thrice-first (after .codes) x y z u v w (omega arith) (λ same. omega arith) (λ same. omega arith))
-      (lies-append part-l part-r (omega (arith, length-codes (tree l) (number l) v))))
-      (ap (λ (n : ℕ). begin-code kind n ∷ (codes-of (tree l) (number l) (left-exit kind last)
-      ++ codes-of (tree r) (number r) w)) e
-      ∙ ap (λ (n : ℕ). begin-code kind (number r) ∷ (codes-of (tree l) (number l) (left-exit kind n)
-      ++ codes-of (tree r) (number r) w)) g
+      (lies-append part-l part-r (omega (arith, length-codes (tree l) (start-number l) v))))
+      (ap (λ (n : ℕ). begin-code kind n ∷ (codes-of (tree l) (start-number l) (left-exit kind last)
+      ++ codes-of (tree r) (start-number r) w)) e
+      ∙ ap (λ (n : ℕ). begin-code kind (start-number r) ∷ (codes-of (tree l) (start-number l) (left-exit kind n)
+      ++ codes-of (tree r) (start-number r) w)) g
       ∙ sym (j .front-as))
 
   -- the part of a node with two children
-  pub fill-two : Filled s t (joined after two-base kind (number s) middle last) (last + 1)
+  pub fill-two : Part-filled s t (joined after kind (start-number s) middle last) (last + 1)
   fill-two =
       let e = middle-is in
       let g = last-is in
@@ -387,12 +384,12 @@ module _ {list : List ℕ} {kind : ℕ} {s l r : Site} {room : ℕ} (j : Joint k
       let piece-r = j .piece-right in
       let wide-l = wide (tree l) in
       let wide-r = wide (tree r) in
-      let x = two-base + number s in
+      let x = start-number s in
       record {
         ended = omega arith;
         front = two-front;
         codes-before = λ k low.
-            thrice-other (after .codes) x (two-base + middle - 1) (two-base + last - 1) _ _ _ k (λ same. omega arith)
+            thrice-other (after .codes) x (middle - 1) (last - 1) _ _ _ k (λ same. omega arith)
             (λ same. omega arith) (λ same. omega arith)
             ∙ b .codes-before k (omega arith) ∙ a .codes-before k (omega arith);
         placed = λ u k m. still-placed (two-placed u k m) (record { stand = refl; root = refl });
@@ -407,9 +404,9 @@ operand-only (step operand m) s = m
 
 module _ {list : List ℕ} {x : Nested Leaf} {f p n i : ℕ} {room : ℕ} (h : Fine list room (site (star x) f p n i))
     (t after : Tables)
-    (full : Tables-room room after) (last : ℕ) (a : Filled (site x f p n (i + 1)) t after last) where
+    (full : Tables-room room after) (last : ℕ) (a : Part-filled (site x f p n (i + 1)) t after last) where
   -- a star's codes, from those of its operand's part
-  star-front : Lies (joined after (row-size * p) star-kind i last last .codes) (row-size * p + i) (fronts (star x) i)
+  star-front : Lies (joined after star-kind i last last .codes) i (fronts (star x) i)
   star-front =
       let few = h .few in
       let later = h .later in
@@ -418,24 +415,24 @@ module _ {list : List ℕ} {x : Nested Leaf} {f p n i : ℕ} {room : ℕ} (h : F
       let wide-x = wide x in
       let long = length-fronts x (i + 1) in
       let long-codes = full .of-codes in
-      let table = joined after (row-size * p) star-kind i last last .codes in
-      let z = row-size * p + last - 1 in
+      let stored = joined after star-kind i last last .codes in
+      let z = last - 1 in
       let u = leads-and-jumps last in
       let v = jumps-to last in
       let w = leads-and-jumps (i + 1) in
-      let front : Lies table (row-size * p + i + 1) (fronts x (i + 1)) =
-      lies-at (lies-same table (a .front)
-      (λ k low high. thrice-other (after .codes) (row-size * p + i) z z u v w k (λ same. omega arith)
+      let front : Lies stored (i + 1) (fronts x (i + 1)) =
+      lies-at (lies-same stored (a .front)
+      (λ k low high. thrice-other (after .codes) i z z u v w k (λ same. omega arith)
       (λ same. omega arith) (λ same. omega arith))) (omega arith) in
-      let part : Lies table (row-size * p + i + 1) (codes-of x (i + 1) w) =
-      lies-is (lies-append front (entry (thrice-third (after .codes) (row-size * p + i) z z u v w (omega arith)) ends)
+      let part : Lies stored (i + 1) (codes-of x (i + 1) w) =
+      lies-is (lies-append front (entry (thrice-third (after .codes) i z z u v w (omega arith)) ends)
       (omega arith)) (sym (codes-fronts x (i + 1) w)) in
-      lies-is (entry (thrice-first (after .codes) (row-size * p + i) z z u v w (omega arith) (λ same. omega arith)
+      lies-is (entry (thrice-first (after .codes) i z z u v w (omega arith) (λ same. omega arith)
       (λ same. omega arith)) part)
       (ap (λ (m : ℕ). leads-and-jumps m ∷ codes-of x (i + 1) w) (omega arith))
 
   -- the part of a star
-  pub fill-star : Filled (site (star x) f p n i) t (joined after (row-size * p) star-kind i last last) (last + 1)
+  pub fill-star : Part-filled (site (star x) f p n i) t (joined after star-kind i last last) (last + 1)
   fill-star =
       let e = a .ended in
       let wide-x = wide x in
@@ -443,7 +440,7 @@ module _ {list : List ℕ} {x : Nested Leaf} {f p n i : ℕ} {room : ℕ} (h : F
         ended = omega arith;
         front = star-front;
         codes-before = λ k low.
-            thrice-other (after .codes) (row-size * p + i) (row-size * p + last - 1) (row-size * p + last - 1) _ _ _ k
+            thrice-other (after .codes) i (last - 1) (last - 1) _ _ _ k
             (λ same. omega arith) (λ same. omega arith) (λ same. omega arith) ∙ a .codes-before k (omega arith);
         placed = λ u k m. still-placed (a .placed u k (down refl (operand-only (m .inside) (m .stands-for)) m))
             (record { stand = refl; root = refl });

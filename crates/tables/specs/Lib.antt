@@ -1,4 +1,4 @@
--- How words hold marks, what the tables of a list hold, and that a walk of each piece fills them.
+-- How words hold marks, what the rows of a list hold, and that a walk of each piece finds the codes of its states.
 pub mod Words
 pub mod Plan
 pub mod Tables

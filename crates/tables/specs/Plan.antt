@@ -1,20 +1,15 @@
--- What is made of a list once, before any byte is read: for each piece where its states, its leaves and its child
--- pieces are.
--- Entry row-size * k + i of a table speaks of state i of the piece k.
+-- What is made of a list once, before any byte is read: a row of words for each piece, which says where
+-- its states, its leaves and its child pieces are.
 use Prim.Native.Nat.{ℕ, _+_, _*_, _-_, _/_, _%_, _^_, _<_}
 use mathlib.Core.Path.{_≡_}
 use mathlib.Core.Bool.{cond}
 use mathlib.Core.Logic.{_↔_}
 use mathlib.Core.List.{List, [], _∷_, _++_}
-use lib.ListN.{getD, take, drop}
+use lib.ListN.{getD}
 use Rattle.language.specs.Automaton.{State, Path-of}
 use Rattle.language.specs.Nested.{Nested, leaf, catenation, union, star, below, Own-empty, Own-reads}
 use Rattle.tree.specs.Leaf.{Leaf, character, class, empty-text, has-empty, meaning, byteless}
 use Rattle.tables.specs.Words.{word-bits, Bit, width, run, Own, number}
-
--- how many entries a piece has in a table: one for each bit of a word, of which those of its states come first
-abbrev pub row-size : ℕ
-row-size = word-bits
 
 -- the code of a state says in its two lowest bits where empty transitions lead from it. Bit 0: to the next state
 abbrev pub leads-on : ℕ
@@ -75,39 +70,91 @@ takes (union x y) = 0 ∷ (takes x ++ takes y ++ (0 ∷ []))
 takes (star x) = 0 ∷ (takes x ++ (0 ∷ []))
 takes (below x) = 0 ∷ 0 ∷ []
 
--- the part of a table that speaks of the piece k, of n states
-abbrev pub row : List ℕ → ℕ → ℕ → List ℕ
-row table k n = take n (drop (row-size * k) table)
+-- the codes of one piece are made in so many entries: one for each bit of a word
+abbrev pub row-size : ℕ
+row-size = word-bits
 
--- the tables of the pieces: codes; for each piece how many pieces it and those below it are, the number of its
--- stand-in's start in its parent, and the number of its last state
-pub record Pieces : Type 0 where
-  pub codes : List ℕ
-  pub runs : List ℕ
-  pub stands : List ℕ
-  pub tops : List ℕ
+-- how many words the row of a piece has
+abbrev pub row-words : ℕ
+row-words = 13
 
--- the tables speak of the piece k, which is the top piece of x
-pub record Piece-at (tables : Pieces) (x : Nested Leaf) (k : ℕ) : Type 0 where
-  pub coded : row (tables .codes) k (width x) ≡ codes-of x 0 0
-  pub ran : getD (tables .runs) k 0 ≡ 1 + run x
-  pub topped : getD (tables .tops) k 0 ≡ width x - 1
+-- word j of the row of the piece k
+abbrev pub word-of : List ℕ → (k j : ℕ) → ℕ
+word-of rows k j = getD rows (row-words * k + j) 0
 
--- the tables speak of each child piece below x; x's own states are numbered from i, and the child pieces below it from
+-- words 0 to 3: the states that lead to the next one, those that jump, the starts of leaves that may take a byte, and
+-- those of them that are starts of classes
+abbrev pub leads-mask : List ℕ → ℕ → ℕ
+leads-mask rows k = word-of rows k 0
+
+abbrev pub jumps-mask : List ℕ → ℕ → ℕ
+jumps-mask rows k = word-of rows k 1
+
+abbrev pub leaves-mask : List ℕ → ℕ → ℕ
+leaves-mask rows k = word-of rows k 2
+
+abbrev pub classes-mask : List ℕ → ℕ → ℕ
+classes-mask rows k = word-of rows k 3
+
+-- word 4, a byte for each: how many pieces it and those below it are, the number of its stand-in's start in its parent,
+-- and the number of its last state
+abbrev pub run-of : List ℕ → ℕ → ℕ
+run-of rows k = word-of rows k 4 % 256
+
+abbrev pub stand-of : List ℕ → ℕ → ℕ
+stand-of rows k = word-of rows k 4 / 256 % 256
+
+abbrev pub top-of : List ℕ → ℕ → ℕ
+top-of rows k = word-of rows k 4 / 65536 % 256
+
+-- words 5 to 12: a byte for each state, eight to a word, from the low end
+abbrev pub byte-of : List ℕ → (k i : ℕ) → ℕ
+byte-of rows k i = word-of rows k (5 + i / 8) / 2 ^ (8 * (i % 8)) % 256
+
+-- the six low bits of a byte are the number of the state that its state jumps to
+abbrev pub target-of : List ℕ → (k i : ℕ) → ℕ
+target-of rows k i = byte-of rows k i % word-bits
+
+-- a leaf does not jump from its start, whose byte is its character, or the low byte of its class's number, of which the
+-- two high bits stand above the jump of the next state
+abbrev pub class-of : List ℕ → (k i : ℕ) → ℕ
+class-of rows k i = byte-of rows k i + 256 * (byte-of rows k (i + 1) / word-bits)
+
+-- the code is that of a class's start: its leaf's number is odd
+abbrev pub Is-class : ℕ → Type 0
+Is-class code = Is-leaf code × (code / 4 % 2 ≡ 1)
+
+-- the row of the piece k says of its n states what their codes say
+pub record Row-of (rows codes : List ℕ) (k n : ℕ) : Type 0 where
+  pub leading : (i : ℕ) → Bit (leads-mask rows k) i ↔ ((i < n) × Leads-on (getD codes i 0))
+  pub jumping : (i : ℕ) → Bit (jumps-mask rows k) i ↔ ((i < n) × Jumps (getD codes i 0))
+  pub leaves : (i : ℕ) → Bit (leaves-mask rows k) i ↔ ((i < n) × Is-leaf (getD codes i 0))
+  pub classes : (i : ℕ) → Bit (classes-mask rows k) i ↔ ((i < n) × Is-class (getD codes i 0))
+  pub target : (i : ℕ) → i < n → Jumps (getD codes i 0) → target-of rows k i ≡ getD codes i 0 / 4
+  pub character : (i : ℕ) → i < n → Is-leaf (getD codes i 0) → (Is-class (getD codes i 0) → ⊥)
+      → 2 * (byte-of rows k i + 1) ≡ getD codes i 0 / 4
+  pub class : (i : ℕ) → i < n → Is-class (getD codes i 0) → 2 * class-of rows k i + 1 ≡ getD codes i 0 / 4
+
+-- the rows speak of the piece k, which is the top piece of x
+pub record Piece-at (rows : List ℕ) (x : Nested Leaf) (k : ℕ) : Type 0 where
+  pub coded : Row-of rows (codes-of x 0 0) k (width x)
+  pub ran : run-of rows k ≡ 1 + run x
+  pub topped : top-of rows k ≡ width x - 1
+
+-- the rows speak of each child piece below x; x's own states are numbered from i, and the child pieces below it from
 -- new
-abbrev pub Children-at : Pieces → Nested Leaf → (i new : ℕ) → Type 0
-Children-at tables (leaf a) i new = Unit {0}
-Children-at tables (catenation x y) i new = Children-at tables x (i + 1) new
-    × Children-at tables y (i + (1 + width x)) (new + run x)
-Children-at tables (union x y) i new = Children-at tables x (i + 1) new
-    × Children-at tables y (i + (1 + width x)) (new + run x)
-Children-at tables (star x) i new = Children-at tables x (i + 1) new
-Children-at tables (below x) i new = (getD (tables .stands) new 0 ≡ i) × Piece-at tables x new
-    × Children-at tables x 0 (new + 1)
+abbrev pub Children-at : List ℕ → Nested Leaf → (i new : ℕ) → Type 0
+Children-at rows (leaf a) i new = Unit {0}
+Children-at rows (catenation x y) i new = Children-at rows x (i + 1) new
+    × Children-at rows y (i + (1 + width x)) (new + run x)
+Children-at rows (union x y) i new = Children-at rows x (i + 1) new
+    × Children-at rows y (i + (1 + width x)) (new + run x)
+Children-at rows (star x) i new = Children-at rows x (i + 1) new
+Children-at rows (below x) i new = (stand-of rows new ≡ i) × Piece-at rows x new × Children-at rows x 0 (new + 1)
 
--- the tables speak of every piece of x, whose top piece is 0
-abbrev pub Planned : Pieces → Nested Leaf → Type 0
-Planned tables x = Piece-at tables x 0 × Children-at tables x 0 1
+-- the rows speak of every piece of x, whose top piece is 0
+abbrev pub Planned : List ℕ → Nested Leaf → Type 0
+Planned rows x = Piece-at rows x 0 × Children-at rows x 0 1
 
 -- r is the word w of x's top piece, closed: its states that empty transitions of its own tree reach from the states of
 -- w

@@ -4,8 +4,7 @@ use mathlib.Core.Path.{_≡_, refl, sym, ap, subst, _∙_}
 use mathlib.Core.List.{List, [], _++_, append-assoc}
 use native.Mathlib.Omega.{arith}
 use native.Mathlib.Decide.{decLt}
-use lib.ListN.{length, getD, length-append}
-use lib.Seq.{getD-append-add}
+use lib.ListN.{length, length-append}
 use Rattle.language.specs.Tree.{Tree, nodes}
 use Rattle.language.specs.Nested.{Nested, leaf, catenation, union, star, below, whole}
 use Rattle.tree.specs.Leaf.{Leaf}
@@ -94,8 +93,8 @@ abbrev pub tree : Site → Nested Leaf
 tree (site x f p n i) = x
 
 -- the number of the site's first record
-abbrev pub first : Site → ℕ
-first (site x f p n i) = f
+abbrev pub first-record : Site → ℕ
+first-record (site x f p n i) = f
 
 -- the piece in which the site is
 abbrev pub piece : Site → ℕ
@@ -106,8 +105,8 @@ abbrev pub new : Site → ℕ
 new (site x f p n i) = n
 
 -- the number of the site's start in its piece
-abbrev pub number : Site → ℕ
-number (site x f p n i) = i
+abbrev pub start-number : Site → ℕ
+start-number (site x f p n i) = i
 
 -- the second site is a child of the first; a stand-in's child is the top of the child piece
 pub data Child : Site → Site → Type 0 where
@@ -131,12 +130,12 @@ in-child here c = step c here
 in-child (step d m) c = step d (in-child m c)
 
 -- the root is a node of the tree and no stand-in
-abbrev pub Plain : Nested Leaf → Type 0
-Plain (leaf a) = Unit {0}
-Plain (catenation x y) = Unit {0}
-Plain (union x y) = Unit {0}
-Plain (star x) = Unit {0}
-Plain (below x) = ⊥
+abbrev pub Not-stand-in : Nested Leaf → Type 0
+Not-stand-in (leaf a) = Unit {0}
+Not-stand-in (catenation x y) = Unit {0}
+Not-stand-in (union x y) = Unit {0}
+Not-stand-in (star x) = Unit {0}
+Not-stand-in (below x) = ⊥
 
 -- below each stand-in stands the top node of a child piece with at most 62 states
 abbrev pub Sound : Nested Leaf → Type 0
@@ -144,32 +143,36 @@ Sound (leaf a) = Unit {0}
 Sound (catenation x y) = Sound x × Sound y
 Sound (union x y) = Sound x × Sound y
 Sound (star x) = Sound x
-Sound (below x) = Plain x × (width x ≤ most-states) × Sound x
+Sound (below x) = Not-stand-in x × (width x ≤ most-states) × Sound x
 
--- the number of each class leaf is below 1,920
+-- how many leaves the tree of a good list has at most: of n nodes at most (n + 1) / 2 are leaves
+abbrev pub most-leaves : ℕ
+most-leaves = 960
+
+-- the number of each class leaf is below 960
 abbrev pub Low-numbers : Tree Leaf → Type 0
 Low-numbers (Tree.leaf (Leaf.character c)) = Unit {0}
-Low-numbers (Tree.leaf (Leaf.class k)) = k < most-records
+Low-numbers (Tree.leaf (Leaf.class k)) = k < most-leaves
 Low-numbers (Tree.leaf Leaf.empty-text) = Unit {0}
 Low-numbers (Tree.catenation s t) = Low-numbers s × Low-numbers t
 Low-numbers (Tree.union s t) = Low-numbers s × Low-numbers t
 Low-numbers (Tree.star s) = Low-numbers s
 
 -- the records of the site stand in the list, but for their places
-pub record Written (list : List ℕ) (s : Site) : Type 0 where
+pub record Site-stored (list : List ℕ) (s : Site) : Type 0 where
   pub before : List ℕ
   pub after : List ℕ
-  pub parts : bare list ≡ before ++ (stored (tree s) (first s) (piece s) (new s) ++ after)
-  pub begins : length before ≡ record-size * first s
+  pub parts : bare list ≡ before ++ (stored (tree s) (first-record s) (piece s) (new s) ++ after)
+  pub begins : length before ≡ record-size * first-record s
 
 -- the site stands in the list, and its numbers are within bounds: its pieces are among the first `room`
 pub record Fine (list : List ℕ) (room : ℕ) (s : Site) : Type 0 where
-  pub written : Written list s
+  pub written : Site-stored list s
   pub later : piece s < new s
   pub few : new s + run (tree s) ≤ room
   pub low : room ≤ most-pieces
-  pub narrow : number s + width (tree s) ≤ most-states
-  pub short : first s + size (tree s) ≤ most-records
+  pub narrow : start-number s + width (tree s) ≤ most-states
+  pub short : first-record s + size (tree s) ≤ most-records
   pub sound : Sound (tree s)
   pub numbers : Low-numbers (whole (tree s))
 
@@ -188,7 +191,7 @@ written-right : {list : List ℕ} (xs ys zs before after : List ℕ) → list �
 written-right xs ys zs before after e = e ∙ regroup before xs ys zs after ∙ sym (append-assoc before xs _)
 
 -- a child's records stand within its parent's
-child-written : {list : List ℕ} {s t : Site} → Child s t → Written list s → Written list t
+child-written : {list : List ℕ} {s t : Site} → Child s t → Site-stored list s → Site-stored list t
 child-written (catenation-left {x = x} {y = y} {f = f} {p = p} {n = n}) w =
     record {
       before = w .before;
@@ -307,9 +310,9 @@ in-fine here h = h
 in-fine (step c m) h = in-fine m (child-fine c h)
 
 -- the root's record of a site in the list
-root-shows : {list : List ℕ} {s : Site} → Written list s → (r kind character left right own : ℕ)
-    → r + 1 ≡ first s + size (tree s)
-    → root-record (tree s) (first s) (piece s) (new s) ≡ record-of kind character left right own
+root-shows : {list : List ℕ} {s : Site} → Site-stored list s → (r kind character left right own : ℕ)
+    → r + 1 ≡ first-record s + size (tree s)
+    → root-record (tree s) (first-record s) (piece s) (new s) ≡ record-of kind character left right own
     → left < two-bytes-limit
     → right < two-bytes-limit → own < two-bytes-limit
     → Shows list r kind character left right own
@@ -347,7 +350,8 @@ module _ {list : List ℕ} {f p n i : ℕ} {room : ℕ} where
   star-shows h r at = root-shows (h .written) r _ _ _ _ _ at refl (omega arith) (omega arith) (omega arith)
 
 -- the piece that a node's record shows is the node's
-pub piece-shows : {list : List ℕ} {f p n i : ℕ} {room : ℕ} (x : Nested Leaf) → Plain x → Fine list room (site x f p n i)
+pub piece-shows : {list : List ℕ} {f p n i : ℕ} {room : ℕ} (x : Nested Leaf) → Not-stand-in x
+    → Fine list room (site x f p n i)
     → (r : ℕ)
     → r + 1 ≡ f + size x → piece-at list r ≡ p
 piece-shows (leaf a) plain h r at = leaf-shows a h r at .piece-is
@@ -357,7 +361,7 @@ piece-shows (star x) plain h r at = star-shows h r at .piece-is
 piece-shows (below x) plain h r at = absurd plain
 
 -- the list holds the records of the site
-pub within : {list : List ℕ} {s : Site} {room : ℕ} → Fine list room s → record-size * (first s + size (tree s)) ≤
+pub within : {list : List ℕ} {s : Site} {room : ℕ} → Fine list room s → record-size * (first-record s + size (tree s)) ≤
     length list
 within {list} {s = site x f p n i} h =
     let w = h .written in

@@ -4,7 +4,7 @@ use mathlib.Core.Path.{_≡_, sym, ap, subst, _∙_}
 use mathlib.Core.Bool.{cond}
 use mathlib.Core.List.{List}
 use native.Mathlib.Omega.{arith}
-use lib.ListN.{length, getD, set}
+use lib.ListN.{length, set}
 use lib.Dec.{eqb}
 use Rattle.language.specs.Nested.{Nested, leaf, catenation, union, star, below}
 use Rattle.tree.specs.Leaf.{Leaf, character, class, empty-text}
@@ -30,7 +30,7 @@ use Rattle.tables.specs.Standing.{
   size-positive,
   Site,
   site,
-  number,
+  start-number,
   catenation-left,
   catenation-right,
   union-left,
@@ -54,7 +54,7 @@ use Rattle.tables.specs.Filling.{
   cond-different,
   Tables-room,
   Same-lengths,
-  Filled,
+  Part-filled,
   start-entry,
   stand-entries,
   begin-code,
@@ -107,14 +107,14 @@ below-differs h node e same = omega (arith, below-shows h node e, h .later)
 -- where the record shows another piece than the walk's, the site is a stand-in
 pub visit-stand : {list : List ℕ} {node piece at : ℕ} {s : Site} {room : ℕ} → Sits list room node piece at s
     → (piece-at list node ≡ piece → ⊥) → (t : Tables) → Tables-room room t
-    → Filled s t (stand-entries t (row-size * piece + at) (piece-at list node) at node) (at + 2)
+    → Part-filled s t (stand-entries t at (piece-at list node) at node) (at + 2)
 visit-stand (sits {x = leaf a} h e) other t full = absurd (other (piece-shows (leaf a) tt h _ e))
 visit-stand (sits {x = catenation x y} h e) other t full = absurd (other (piece-shows (catenation x y) tt h _ e))
 visit-stand (sits {x = union x y} h e) other t full = absurd (other (piece-shows (union x y) tt h _ e))
 visit-stand (sits {x = star x} h e) other t full = absurd (other (piece-shows (star x) tt h _ e))
 visit-stand {list} {node} {piece} {at} (sits {x = below x} {f = f} {n = n} h e) other t full =
     subst
-    (λ (k : ℕ). Filled (site (below x) f piece n at) t (stand-entries t (row-size * piece + at) k at node) (at + 2))
+    (λ (k : ℕ). Part-filled (site (below x) f piece n at) t (stand-entries t at k at node) (at + 2))
     (sym (below-shows h node e)) (fill-stand h t full node e)
 
 -- the piece that a record shows is one of those that there is room for
@@ -224,9 +224,9 @@ inner-code list node kind e other = no-code list node (subst No-leaf-kind (sym e
 -- where it shows a code, the site is a leaf
 pub visit-leaf : {list : List ℕ} {node piece at : ℕ} {s : Site} {room : ℕ} → Sits list room node piece at s
     → piece-at list node ≡ piece → (code-at list node ≡ 0 → ⊥) → (t : Tables) → Tables-room room t
-    → Filled s t (start-entry t (row-size * piece + at) (code-at list node)) (at + 2)
+    → Part-filled s t (start-entry t at (code-at list node)) (at + 2)
 visit-leaf {list} {node} {piece} {at} (sits {x = leaf a} {f = f} {n = n} h e) own code t full =
-    subst (λ (b : ℕ). Filled (site (leaf a) f piece n at) t (start-entry t (row-size * piece + at) b) (at + 2))
+    subst (λ (b : ℕ). Part-filled (site (leaf a) f piece n at) t (start-entry t at b) (at + 2))
     (sym (shown-code a h node e)) (fill-leaf h t full)
 visit-leaf {list} {node} (sits {x = catenation x y} h e) own code t full =
     absurd (code (inner-code list node _ (catenation-shows h node e .kind-is) catenation-no-leaf))
@@ -283,11 +283,11 @@ visit-left {node = node} (sits {x = below x} h e) own code = absurd (below-diffe
 -- what a child's visit has filled, whatever site with so many pieces sits there
 abbrev pub Visited-within : (list : List ℕ) (room child piece at : ℕ) → (t after : Tables) → ℕ → Type 0
 Visited-within list room child piece at t after end = (s : Site) → Sits list room child piece at s
-    → Filled s t after end
+    → Part-filled s t after end
 
 -- however many pieces the tables have room for
-abbrev pub Visited : (list : List ℕ) (child piece at : ℕ) → (t after : Tables) → ℕ → Type 0
-Visited list child piece at t after end =
+abbrev pub Site-visited : (list : List ℕ) (child piece at : ℕ) → (t after : Tables) → ℕ → Type 0
+Site-visited list child piece at t after end =
     (room : ℕ) → Tables-room room t → Visited-within list room child piece at t after end
 
 -- a child sits where its parent's record says
@@ -300,7 +300,7 @@ pub visit-star : {list : List ℕ} {node piece at : ℕ} {s : Site} {room : ℕ}
     → piece-at list node ≡ piece → kind-at list node ≡ star-kind → (t after : Tables) → Tables-room room after
     → (last : ℕ)
     → Visited-within list room (left-at list node) piece (at + 1) t after last
-    → Filled s t (joined after (row-size * piece) (kind-at list node) at last last) (last + 1)
+    → Part-filled s t (joined after (kind-at list node) at last last) (last + 1)
 visit-star {list} {node} (sits {x = leaf a} h e) own kind t after full last done =
     absurd (coded a (sym (shown-code a h node e) ∙ inner-code list node _ kind star-no-leaf))
 visit-star {node = node} (sits {x = catenation x y} h e) own kind t after full last done =
@@ -308,7 +308,7 @@ visit-star {node = node} (sits {x = catenation x y} h e) own kind t after full l
 visit-star {node = node} (sits {x = union x y} h e) own kind t after full last done =
     absurd (omega (arith, union-shows h node e .kind-is))
 visit-star {list} {node} {piece} {at} (sits {x = star x} {f = f} {n = n} h e) own kind t after full last done =
-    subst (λ (k : ℕ). Filled (site (star x) f piece n at) t (joined after (row-size * piece) k at last last) (last + 1))
+    subst (λ (k : ℕ). Part-filled (site (star x) f piece n at) t (joined after k at last last) (last + 1))
     (sym kind)
     (fill-star h t after full last
     (done _ (kid-sits (left-at list node) (child-fine operand h) (star-shows h node e .left-is))))
@@ -344,15 +344,15 @@ two-visited : {list : List ℕ} {kind node piece at : ℕ} {s l r : Site} {room 
     → Sits list room node piece at s → (t mid after : Tables) → Tables-room room after → (middle last : ℕ)
     → Sits list room (left-at list node) piece (at + 1) l → Visited-within list room (left-at list node) piece (at + 1)
     t mid middle
-    → ((k : ℕ) → number r ≡ k → Sits list room (right-at list node) piece k r)
+    → ((k : ℕ) → start-number r ≡ k → Sits list room (right-at list node) piece k r)
     → Visited-within list room (right-at list node) piece middle mid after last
     → kind-at list node ≡ kind
-    → Filled s t (joined after (row-size * piece) (kind-at list node) at middle last) (last + 1)
+    → Part-filled s t (joined after (kind-at list node) at middle last) (last + 1)
 two-visited {list} {node = node} {s = s} j h (sits {p = p} {i = i} g e) t mid after full middle last sits-l done-l
     sits-r done-r kind =
     let a = done-l _ sits-l in
     let b = done-r _ (sits-r middle (omega (arith, a .ended, j .number-left, j .number-right))) in
-    subst (λ (k : ℕ). Filled s t (joined after (row-size * p) k i middle last) (last + 1)) (sym kind)
+    subst (λ (k : ℕ). Part-filled s t (joined after k i middle last) (last + 1)) (sym kind)
     (fill-two j h t mid after full middle last a b)
 
 right-sits : {list : List ℕ} {x : Nested Leaf} {f p n i : ℕ} {room : ℕ} (child : ℕ) → Fine list room (site x f p n i)
@@ -367,7 +367,7 @@ pub visit-two : {list : List ℕ} {node piece at : ℕ} {s : Site} {room : ℕ} 
     → (t mid after : Tables) → Tables-room room after → (middle last : ℕ)
     → Visited-within list room (left-at list node) piece (at + 1) t mid middle
     → Visited-within list room (right-at list node) piece middle mid after last
-    → Filled s t (joined after (row-size * piece) (kind-at list node) at middle last) (last + 1)
+    → Part-filled s t (joined after (kind-at list node) at middle last) (last + 1)
 visit-two {node = node} (sits {x = leaf a} h e) own code other t mid after full middle last done-l done-r =
     absurd (coded a (sym (shown-code a h node e) ∙ code))
 visit-two {list} {node} (sits {x = catenation x y} h e) own code other t mid after full middle last done-l done-r =
@@ -388,11 +388,11 @@ visit-two {node = node} (sits {x = below x} h e) own code other t mid after full
 -- a part that was filled ends within the row
 pub filled-ends : {list : List ℕ} {node piece at end : ℕ} {s : Site} {t after : Tables} {room : ℕ}
     → Sits list room node piece at s
-    → Filled s t after end → (at + 2 ≤ end) × (end ≤ most-states)
+    → Part-filled s t after end → (at + 2 ≤ end) × (end ≤ most-states)
 filled-ends (sits {x = x} h e) filled = omega (arith, wide x, h .narrow, filled .ended)
 
 -- some site sits there, and the tables have room for its pieces
-pub record Visitable (list : List ℕ) (node piece at : ℕ) (t : Tables) : Type 0 where
+pub record Site-visitable (list : List ℕ) (node piece at : ℕ) (t : Tables) : Type 0 where
   pub room : ℕ
   pub some : Site
   pub sitting : Sits list room node piece at some
@@ -407,15 +407,16 @@ room-kept same full = record {
 }
 
 -- the row of a site's piece is within the codes
-pub row-within : {list : List ℕ} {node piece at : ℕ} {t : Tables} → Visitable list node piece at t
-    → row-size * piece + row-size ≤ length (t .codes)
+pub row-within : {list : List ℕ} {node piece at : ℕ} {t : Tables} → Site-visitable list node piece at t
+    → row-size ≤ length (t .codes)
 row-within ready = omega (arith, bounds (ready .sitting) .few-pieces, ready .full .of-codes)
 
 -- told with other forms of the tables and the end
-pub filled-as : {s : Site} {t after other : Tables} {end stop : ℕ} → Filled s t after end → other ≡ after → stop ≡ end
-    → Filled s t other stop
+pub filled-as : {s : Site} {t after other : Tables} {end stop : ℕ} → Part-filled s t after end → other ≡ after
+    → stop ≡ end
+    → Part-filled s t other stop
 filled-as {s} {t} {after} {other} {end} filled e f =
-    subst (λ (k : ℕ). Filled s t other k) (sym f) (subst (λ (k : Tables). Filled s t k end) (sym e) filled)
+    subst (λ (k : ℕ). Part-filled s t other k) (sym f) (subst (λ (k : Tables). Part-filled s t k end) (sym e) filled)
 
 -- the record was found to be of the walk's piece
 pub record Of-piece (list : List ℕ) (node piece own kind : ℕ) : Type 0 where
@@ -425,11 +426,11 @@ pub record Of-piece (list : List ℕ) (node piece own kind : ℕ) : Type 0 where
 
 -- a stand-in's record was visited
 pub visited-stand : {list : List ℕ} {node piece at own end : ℕ} {t after : Tables} → own ≡ piece-at list node
-    → (own ≡ piece → ⊥) → end ≡ at + 2 → after ≡ stand-entries t (row-size * piece + at) own at node
-    → Visited list node piece at t after end
+    → (own ≡ piece → ⊥) → end ≡ at + 2 → after ≡ stand-entries t at own at node
+    → Site-visited list node piece at t after end
 visited-stand {list} {node} {piece} {at} {t = t} shown other e f room full s here =
     filled-as (visit-stand here (λ same. other (shown ∙ same)) t full)
-    (f ∙ ap (λ (k : ℕ). stand-entries t (row-size * piece + at) k at node) shown) e
+    (f ∙ ap (λ (k : ℕ). stand-entries t at k at node) shown) e
 
 module _ {list : List ℕ} {node piece own kind : ℕ} (met : Of-piece list node piece own kind) where
   -- with the fields as they were read
@@ -454,28 +455,28 @@ module _ {list : List ℕ} {node piece own kind code : ℕ} (met : Of-piece list
     (code-is : code ≡ code-at list node) where
   -- a leaf's record was visited
   pub visited-leaf : {at end : ℕ} {codes after stands roots : List ℕ} → (code ≡ 0 → ⊥) → end ≡ at + 2
-      → after ≡ set codes (row-size * piece + at) code
-      → Visited list node piece at (tables codes stands roots) (tables after stands roots) end
+      → after ≡ set codes at code
+      → Site-visited list node piece at (tables codes stands roots) (tables after stands roots) end
   visited-leaf {at} {codes = codes} some g f room full s here =
       filled-as (visit-leaf here (met-own met) (λ none. some (code-is ∙ none)) _ full)
-      (tables-same _ _ (f ∙ ap (λ (c : ℕ). set codes (row-size * piece + at) c) code-is)) g
+      (tables-same _ _ (f ∙ ap (λ (c : ℕ). set codes at c) code-is)) g
 
   -- the children's records
   module _ {left : ℕ} (left-is : left ≡ left-at list node) (inner : code ≡ 0) {at : ℕ} {t : Tables}
-      (ready : Visitable list node piece at t) where
+      (ready : Site-visitable list node piece at t) where
     first-kid : Kid list (ready .room) node left piece (at + 1)
     first-kid = subst (λ (k : ℕ). Kid list (ready .room) node k piece (at + 1)) (sym left-is)
         (visit-left (ready .sitting) (met-own met) (sym code-is ∙ inner))
 
     -- the left or only child can be visited
-    pub left-ready : (left < node) × Visitable list left piece (at + 1) t
+    pub left-ready : (left < node) × Site-visitable list left piece (at + 1) t
     left-ready = let kid = first-kid in (
       kid .earlier,
       record { room = ready .room; some = kid .at-site; sitting = kid .sitting; full = ready .full },
     )
 
     module _ {mid : Tables} {middle : ℕ} (same : Same-lengths t mid)
-        (done : Visited list left piece (at + 1) t mid middle) where
+        (done : Site-visited list left piece (at + 1) t mid middle) where
       done-left : (room : ℕ) → Tables-room room t
           → Visited-within list room (left-at list node) piece (at + 1) t mid middle
       done-left room full =
@@ -491,7 +492,7 @@ module _ {list : List ℕ} {node piece own kind code : ℕ} (met : Of-piece list
 
       -- the numbers at a star are within the row
       pub star-bounds : kind ≡ star-kind
-          → (row-size * piece + row-size ≤ length (mid .codes)) × (at < middle) × (middle ≤ middle)
+          → (row-size ≤ length (mid .codes)) × (at < middle) × (middle ≤ middle)
           × (middle < most-states)
       star-bounds e =
           omega (
@@ -513,7 +514,7 @@ module _ {list : List ℕ} {node piece own kind code : ℕ} (met : Of-piece list
 
       -- the right child can be visited
       pub right-ready : {right : ℕ} → right ≡ right-at list node → (kind ≡ star-kind → ⊥)
-          → (right < node) × Visitable list right piece middle mid
+          → (right < node) × Site-visitable list right piece middle mid
       right-ready right-is other = let kid = second-kid right-is other in (
         kid .earlier,
         record { room = ready .room; some = kid .at-site; sitting = kid .sitting; full = full-left },
@@ -521,7 +522,7 @@ module _ {list : List ℕ} {node piece own kind code : ℕ} (met : Of-piece list
 
       -- the right child was visited, as its parent's record says
       done-right : {right last room : ℕ} {after : Tables} → right ≡ right-at list node
-          → Visited list right piece middle mid after last → Tables-room room t
+          → Site-visited list right piece middle mid after last → Tables-room room t
           → Visited-within list room (right-at list node) piece middle mid after last
       done-right {last = last} {room = room} {after = after} right-is done-second full =
           subst (λ (k : ℕ). Visited-within list room k piece middle mid after last) right-is
@@ -530,8 +531,8 @@ module _ {list : List ℕ} {node piece own kind code : ℕ} (met : Of-piece list
       -- the numbers at a node with two children are within the row
       pub two-bounds : {right last : ℕ} {after : Tables} → right ≡ right-at list node → (kind ≡ star-kind → ⊥)
           → Same-lengths mid after
-          → Visited list right piece middle mid after last
-          → (row-size * piece + row-size ≤ length (after .codes)) × (at < middle) × (middle ≤ last)
+          → Site-visited list right piece middle mid after last
+          → (row-size ≤ length (after .codes)) × (at < middle) × (middle ≤ last)
           × (last < most-states)
       two-bounds {right} {last} {after} right-is other again done-second =
           let kid = second-kid right-is other in
@@ -551,31 +552,31 @@ module _ {list : List ℕ} {node piece own kind code : ℕ} (met : Of-piece list
       -- the tables as they were stored are those of the joined parts
       joined-as : (last : ℕ) (after : Tables) {codes : List ℕ}
           → codes
-          ≡ thrice (after .codes) (row-size * piece + at) (row-size * piece + middle - 1) (row-size * piece + last - 1)
+          ≡ thrice (after .codes) at (middle - 1) (last - 1)
           (begin-code kind middle) (left-exit kind last) (right-exit kind at)
           → tables codes (after .stands) (after .roots)
-          ≡ joined after (row-size * piece) (kind-at list node) at middle last
-      joined-as last after e = tables-same _ _ e ∙ ap (λ (k : ℕ). joined after (row-size * piece) k at middle last)
+          ≡ joined after (kind-at list node) at middle last
+      joined-as last after e = tables-same _ _ e ∙ ap (λ (k : ℕ). joined after k at middle last)
           (met .of-kind)
 
       -- a star's record was visited
       pub visited-star : {codes : List ℕ} {end : ℕ} → kind ≡ star-kind → end ≡ middle + 1
           → codes
-          ≡ thrice (mid .codes) (row-size * piece + at) (row-size * piece + middle - 1) (row-size * piece + middle - 1)
+          ≡ thrice (mid .codes) at (middle - 1) (middle - 1)
           (begin-code kind middle) (left-exit kind middle) (right-exit kind at)
-          → Visited list node piece at t (tables codes (mid .stands) (mid .roots)) end
+          → Site-visited list node piece at t (tables codes (mid .stands) (mid .roots)) end
       visited-star e g f room full s here = filled-as
           (visit-star here (met-own met) (met-kind met star-kind e) t mid (room-kept same full) middle
           (done-left room full)) (joined-as middle mid f) g
 
       -- the record of a node with two children was visited
       pub visited-two : {codes : List ℕ} {right last end : ℕ} {after : Tables} → right ≡ right-at list node
-          → (kind ≡ star-kind → ⊥) → Same-lengths mid after → Visited list right piece middle mid after last
+          → (kind ≡ star-kind → ⊥) → Same-lengths mid after → Site-visited list right piece middle mid after last
           → end ≡ last + 1
           → codes
-          ≡ thrice (after .codes) (row-size * piece + at) (row-size * piece + middle - 1) (row-size * piece + last - 1)
+          ≡ thrice (after .codes) at (middle - 1) (last - 1)
           (begin-code kind middle) (left-exit kind last) (right-exit kind at)
-          → Visited list node piece at t (tables codes (after .stands) (after .roots)) end
+          → Site-visited list node piece at t (tables codes (after .stands) (after .roots)) end
       visited-two {last = last} {after = after} right-is other again done-second g f room full s here =
           filled-as
           (visit-two here (met-own met) (sym code-is ∙ inner)

@@ -1,6 +1,5 @@
 // A piece's codes, filled in by a walk of the piece's own tree: for each state where its empty transitions lead, or
 // which leaf starts there.
-use crate::ROW_SIZE;
 use tree::layout::CATENATION;
 use tree::layout::CHARACTER;
 use tree::layout::CLASS;
@@ -18,7 +17,7 @@ ghost use Rattle.tree.specs.Limits.{most-records, most-states};
 ghost use Rattle.tables.specs.Plan.{row-size, jumps-to, leads-and-jumps};
 ghost use Rattle.tables.specs.Entries.{thrice};
 ghost use Rattle.tables.specs.Filling.{begin-code, left-exit, right-exit, tables, stand-entries};
-ghost use Rattle.tables.specs.Walking.{code-at, Code-readable, Visited, Visitable};
+ghost use Rattle.tables.specs.Walking.{code-at, Code-readable, Site-visited, Site-visitable};
 
 // The code of a state that leads to the next one and nowhere else.
 const LEADS_ON: u16 = 1;
@@ -108,12 +107,12 @@ fn code_at(list: &[u8], node: usize, kind: u8) -> u16
 }
 
 // The code of a leaf's start, numbered `at`. Gives the number after its last state's.
-fn leaf(code: u16, piece: usize, at: usize, codes: &mut [u16]) -> usize
-    requires { ⌜ (row-size * piece + row-size ≤ length (now codes)) × (at + 2 ≤ most-states) ⌝ }
+fn leaf(code: u16, at: usize, codes: &mut [u16]) -> usize
+    requires { ⌜ (row-size ≤ length (now codes)) × (at + 2 ≤ most-states) ⌝ }
     ensures { λ r. ⌜ r ≡ at + 2 ⌝ }
-    ensures { λ _. ⌜ now (codes .exit) ≡ set (now (codes .entry)) (row-size * piece + at) code ⌝ }
+    ensures { λ _. ⌜ now (codes .exit) ≡ set (now (codes .entry)) at code ⌝ }
 {
-    codes[ROW_SIZE * piece + at] = code;
+    codes[at] = code;
     at + 2
 }
 
@@ -122,41 +121,39 @@ fn leaf(code: u16, piece: usize, at: usize, codes: &mut [u16]) -> usize
 fn stand(
     child: usize,
     node: usize,
-    piece: usize,
     at: usize,
     codes: &mut [u16],
     stands: &mut [u8],
     roots: &mut [u16],
 ) -> usize
     requires { ⌜ (child < length (now stands)) × (child < length (now roots)) × (node < most-records) ⌝ }
-    requires { ⌜ (row-size * piece + row-size ≤ length (now codes)) × (at + 2 ≤ most-states) ⌝ }
+    requires { ⌜ (row-size ≤ length (now codes)) × (at + 2 ≤ most-states) ⌝ }
     ensures { λ r. ⌜ r ≡ at + 2 ⌝ }
     ensures { λ _. ⌜ tables (now (codes .exit)) (now (stands .exit)) (now (roots .exit))
         ≡ stand-entries (tables (now (codes .entry)) (now (stands .entry)) (now (roots .entry)))
-        (row-size * piece + at) child at node ⌝ }
+        at child at node ⌝ }
 {
-    codes[ROW_SIZE * piece + at] = 0;
+    codes[at] = 0;
     stands[child] = at as u8;
     roots[child] = node as u16;
     at + 2
 }
 
 // The codes that a node gives when those of its children are there: its start's and its children's accepting states'.
-fn join(kind: u8, piece: usize, at: usize, middle: usize, last: usize, codes: &mut [u16]) -> usize
-    requires { ⌜ (row-size * piece + row-size ≤ length (now codes)) × (at < middle) × (middle ≤ last)
+fn join(kind: u8, at: usize, middle: usize, last: usize, codes: &mut [u16]) -> usize
+    requires { ⌜ (row-size ≤ length (now codes)) × (at < middle) × (middle ≤ last)
         × (last < most-states) ⌝ }
     ensures { λ r. ⌜ r ≡ last + 1 ⌝ }
     ensures { λ _. ⌜ now (codes .exit)
-        ≡ thrice (now (codes .entry)) (row-size * piece + at) (row-size * piece + middle - 1)
-        (row-size * piece + last - 1) (begin-code kind middle) (left-exit kind last) (right-exit kind at) ⌝ }
+        ≡ thrice (now (codes .entry)) at (middle - 1)
+        (last - 1) (begin-code kind middle) (left-exit kind last) (right-exit kind at) ⌝ }
 {
-    let base = ROW_SIZE * piece;
     let begin = begin_code(kind, middle);
     let left = left_exit(kind, last);
     let right = right_exit(kind, at);
-    codes[base + at] = begin;
-    codes[base + middle - 1] = left;
-    codes[base + last - 1] = right;
+    codes[at] = begin;
+    codes[middle - 1] = left;
+    codes[last - 1] = right;
     last + 1
 }
 
@@ -171,26 +168,26 @@ pub fn fill(
     stands: &mut [u8],
     roots: &mut [u16],
 ) -> usize
-    requires { ⌜ Visitable (now list) node piece at (tables (now codes) (now stands) (now roots)) ⌝ }
-    ensures { λ r. ⌜ Visited (now (list .entry)) node piece at
+    requires { ⌜ Site-visitable (now list) node piece at (tables (now codes) (now stands) (now roots)) ⌝ }
+    ensures { λ r. ⌜ Site-visited (now (list .entry)) node piece at
         (tables (now (codes .entry)) (now (stands .entry)) (now (roots .entry)))
         (tables (now (codes .exit)) (now (stands .exit)) (now (roots .exit))) r ⌝ }
 {
     let own = piece_at(list, node);
     if own != piece {
-        return stand(own, node, piece, at, codes, stands, roots);
+        return stand(own, node, at, codes, stands, roots);
     }
     let kind = kind_at(list, node);
     let code = code_at(list, node, kind);
     if code != 0 {
-        return leaf(code, piece, at, codes);
+        return leaf(code, at, codes);
     }
     let left = left_at(list, node);
     let middle = fill(list, left, piece, at + 1, codes, stands, roots);
     if kind == STAR {
-        return join(kind, piece, at, middle, middle, codes);
+        return join(kind, at, middle, middle, codes);
     }
     let right = right_at(list, node);
     let last = fill(list, right, piece, middle, codes, stands, roots);
-    join(kind, piece, at, middle, last, codes)
+    join(kind, at, middle, last, codes)
 }

@@ -11,37 +11,35 @@ use Rattle.planning.proofs.plan.pieces.Statement.{statement}
 use Rattle.planning.proofs.plan.pieces.Tie as tie
 
 abbrev Inv-loop : tie.InvT-loop
-Inv-loop list cuts total codes₀ runs₀ stands₀ tops₀ roots₀ k₀ codes runs stands tops roots k =
-    (k ≤ total) × Making list cuts k (tables codes stands roots) runs tops
-    × Same-lengths (tables codes₀ stands₀ roots₀) (tables codes stands roots) × (length runs ≡ length runs₀)
-    × (length tops ≡ length tops₀)
+Inv-loop list cuts total codes₀ stands₀ roots₀ rows₀ k₀ codes stands roots rows k =
+    (k ≤ total) × Making list cuts k (tables codes stands roots) rows
+    × Same-lengths (tables codes₀ stands₀ roots₀) (tables codes stands roots) × (length rows ≡ length rows₀)
 
 abbrev μ-loop : tie.MeasureT-loop
-μ-loop list cuts total codes₀ runs₀ stands₀ tops₀ roots₀ k₀ codes runs stands tops roots k =
+μ-loop list cuts total codes₀ stands₀ roots₀ rows₀ k₀ codes stands roots rows k =
     total - k
 
 -- where the call began, where a round began, and where its piece was made
 abbrev entry : tie.At-loop Inv-loop μ-loop → tie.Start Inv-loop μ-loop
-entry c = c .before .before .before .before .before .before .before .before
+entry c = c .before .before .before .before .before .before .before
 
 abbrev round : tie.After-piece Inv-loop μ-loop → tie.In-loop Inv-loop μ-loop
-round c = c .before .before .before .before .before .before
+round c = c .before .before .before .before .before
 
-abbrev piece-made : tie.After-slice-known10 Inv-loop μ-loop → tie.After-piece Inv-loop μ-loop
-piece-made c = c .before .before .before .before .before .before .before .before .before .before
+abbrev piece-made : tie.After-slice-known8 Inv-loop μ-loop → tie.After-piece Inv-loop μ-loop
+piece-made c = c .before .before .before .before .before .before .before .before
 
 loop-holds : tie.Need-loop-holds Inv-loop μ-loop
 loop-holds c = (
   omega arith,
-  c .before .before .before .before .before .before .before .pre .0,
+  c .before .before .before .before .before .before .pre .0,
   record { of-codes = refl; of-stands = refl; of-roots = refl },
-  refl,
   refl,
 )
 
 piece-requires : tie.Need-piece-requires Inv-loop μ-loop
 piece-requires c κs =
-    let going = c .before .before .before .before .before in
+    let going = c .before .before .before .before in
     (going .before .loop .inv .1, total-inside (entry (going .before) .pre .1) (going .loop-test .taken))
 
 add-k : tie.Need-add-k Inv-loop μ-loop
@@ -61,16 +59,15 @@ loop-again c =
     let inv = going .before .loop .inv in
     let same = inv .2 in (
       omega (arith, going .loop-test .taken),
-      making-more (inv .1) _ _ _ _ _
-          (record { of-codes = kept .0; of-stands = kept .1 .1 .0; of-roots = kept .1 .1 .1 .1 .0 }) (kept .1 .0)
-          (kept .1 .1 .1 .0) (made .piece .ensures),
+      making-more (inv .1) _ _ _ _
+          (record { of-codes = kept .0; of-stands = kept .1 .0; of-roots = kept .1 .1 .0 }) (kept .1 .1 .1 .0)
+          (made .piece .ensures),
       record {
         of-codes = kept .0 ∙ same .of-codes;
-        of-stands = kept .1 .1 .0 ∙ same .of-stands;
-        of-roots = kept .1 .1 .1 .1 .0 ∙ same .of-roots;
+        of-stands = kept .1 .0 ∙ same .of-stands;
+        of-roots = kept .1 .1 .0 ∙ same .of-roots;
       },
-      kept .1 .0 ∙ inv .3,
-      kept .1 .1 .1 .0 ∙ inv .4,
+      kept .1 .1 .1 .0 ∙ inv .3,
     )
 
 same-length : tie.Need-same-length Inv-loop μ-loop
@@ -84,9 +81,6 @@ same-length-3 c = search needs
 
 same-length-4 : tie.Need-same-length-4 Inv-loop μ-loop
 same-length-4 c = search needs
-
-same-length-5 : tie.Need-same-length-5 Inv-loop μ-loop
-same-length-5 c = search needs
 
 returns : tie.Need-returns Inv-loop μ-loop
 returns c = making-at (c .before .loop .inv .1) (omega arith)
@@ -106,5 +100,4 @@ pieces-spec =
     same-length-2
     same-length-3
     same-length-4
-    same-length-5
     returns)

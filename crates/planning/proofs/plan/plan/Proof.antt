@@ -1,23 +1,16 @@
 -- `planning::plan::plan` meets its contract: the root is the last record, and all pieces are made.
 use mathlib.Core.Path.{refl}
 use native.Mathlib.Omega.{arith}
-use Rattle.planning.specs.Given.{has-records, total-of, making-none, laid}
+use Rattle.planning.specs.Given.{has-records, total-of, making-none, prepared}
 use borrow.Author.Needs.{needs}
 use Rattle.planning.proofs.plan.plan.Statement.{statement}
 use Rattle.planning.proofs.plan.plan.Tie as tie
 
--- where the call began, from the first statement and from the call
-abbrev entry : tie.After-slice-known4 → tie.Start
-entry c = c .before .before .before .before .before .before
-
-abbrev entry-at-call : tie.After-roots → tie.Start
-entry-at-call c = entry (c .before .before .before .before .before)
-
 sub-last : tie.Need-sub-last
-sub-last c = omega (arith, has-records (entry c .pre .0))
+sub-last c = let start = c .before .before .before in omega (arith, has-records (start .pre .0))
 
 cast-roots : tie.Need-cast-roots
-cast-roots c = omega (arith, has-records (entry c .pre .0))
+cast-roots c = let start = c .before .before .before in omega (arith, has-records (start .pre .0))
 
 array-write-roots : tie.Need-array-write-roots
 array-write-roots c = search needs
@@ -25,26 +18,24 @@ array-write-roots c = search needs
 slice-aggregate-pieces : tie.Need-slice-aggregate-pieces
 slice-aggregate-pieces c = search needs
 
+slice-aggregate-pieces-2 : tie.Need-slice-aggregate-pieces-2
+slice-aggregate-pieces-2 c = search needs
+
+slice-aggregate-pieces-3 : tie.Need-slice-aggregate-pieces-3
+slice-aggregate-pieces-3 c = search needs
+
 pieces-requires : tie.Need-pieces-requires
-pieces-requires c κs = let start = entry-at-call c in
-    (making-none (start .pre .0) (start .pre .1) refl refl, total-of (start .pre .0))
+pieces-requires c κs = let start = c .before .before .before .before .before .before .before in
+    (making-none (start .pre .0) (start .pre .1) refl refl refl refl, total-of (start .pre .0))
 
 same-length : tie.Need-same-length
 same-length c = search needs
 
-same-length-2 : tie.Need-same-length-2
-same-length-2 c = search needs
-
-same-length-3 : tie.Need-same-length-3
-same-length-3 c = search needs
-
-same-length-4 : tie.Need-same-length-4
-same-length-4 c = search needs
-
 returns : tie.Need-returns
 returns c =
-    let made = c .before .before .before .before .before .before .before .before .before in
-    laid (made .pieces .ensures) (total-of (entry-at-call (made .before) .pre .0))
+    let made = c .before .before .before .before .before in
+    let start = made .before .before .before .before .before .before .before .before in
+    prepared (made .pieces .ensures) (total-of (start .pre .0))
 
 pub plan-spec : {M : Type 1} → statement M
 plan-spec =
@@ -54,9 +45,8 @@ plan-spec =
     cast-roots
     array-write-roots
     slice-aggregate-pieces
+    slice-aggregate-pieces-2
+    slice-aggregate-pieces-3
     pieces-requires
     same-length
-    same-length-2
-    same-length-3
-    same-length-4
     returns)

@@ -192,7 +192,8 @@ same-left t c = record {
 fill-join-requires : (t : ℕ) → fill-lts.Need-join-requires (fill-claims t) (fill-at t) fill.Post
 fill-join-requires t c κs =
     let made = left-filled t (c .before .before) in
-    star-bounds (met t (kind-read t made)) (code-read t made .code-at .ensures) (made .before .before .before .before .left-at .ensures)
+    star-bounds (met t (kind-read t made)) (code-read t made .code-at .ensures)
+    (made .before .before .before .before .left-at .ensures)
     (made .before .before .before .before .before .if2 .left)
     (entry-by-kind t (kind-read t made) .pre .1) (same-left t made)
     (made .fill .ensures) (c .before .if3 .taken)
@@ -211,7 +212,8 @@ fill-returns-3 t c =
     let done = c .before .before in
     let a-star = done .before .before in
     let made = left-filled t (a-star .before) in
-    visited-star (met t (kind-read t made)) (code-read t made .code-at .ensures) (made .before .before .before .before .left-at .ensures)
+    visited-star (met t (kind-read t made)) (code-read t made .code-at .ensures)
+    (made .before .before .before .before .left-at .ensures)
     (made .before .before .before .before .before .if2 .left)
     (entry-by-kind t (kind-read t made) .pre .1) (same-left t made)
     (made .fill .ensures) (a-star .if3 .taken) (done .join .ensures .0) (done .join .ensures .1)
@@ -225,7 +227,8 @@ fill-fill-requires-2 t c κs =
     let read = c .before .before .before in
     let made = left-filled t (read .before .before) in
     let start = entry-by-kind t (kind-read t made) in
-    let ready = right-ready (met t (kind-read t made)) (code-read t made .code-at .ensures) (made .before .before .before .before .left-at .ensures)
+    let ready = right-ready (met t (kind-read t made)) (code-read t made .code-at .ensures)
+    (made .before .before .before .before .left-at .ensures)
     (made .before .before .before .before .before .if2 .left)
     (entry-by-kind t (kind-read t made) .pre .1)
     (same-left t made) (made .fill .ensures) (read .right-at .ensures) (read .before .if3 .left) in
@@ -248,7 +251,8 @@ fill-join-requires-2 : (t : ℕ) → fill-lts.Need-join-requires-2 (fill-claims 
 fill-join-requires-2 t c κs =
     let last = right-filled t (c .before) in
     let made = left-filled t (not-star t last .before) in
-    two-bounds (met t (kind-read t made)) (code-read t made .code-at .ensures) (made .before .before .before .before .left-at .ensures)
+    two-bounds (met t (kind-read t made)) (code-read t made .code-at .ensures)
+    (made .before .before .before .before .left-at .ensures)
     (made .before .before .before .before .before .if2 .left)
     (entry-by-kind t (kind-read t made) .pre .1)
     (same-left t made) (made .fill .ensures) (last .before .before .before .before .right-at .ensures)
@@ -268,7 +272,8 @@ fill-returns-4 t c =
     let done = c .before .before in
     let last = right-filled t (done .before .before) in
     let made = left-filled t (not-star t last .before) in
-    visited-two (met t (kind-read t made)) (code-read t made .code-at .ensures) (made .before .before .before .before .left-at .ensures)
+    visited-two (met t (kind-read t made)) (code-read t made .code-at .ensures)
+    (made .before .before .before .before .left-at .ensures)
     (made .before .before .before .before .before .if2 .left)
     (entry-by-kind t (kind-read t made) .pre .1)
     (same-left t made) (made .fill .ensures) (last .before .before .before .before .right-at .ensures)

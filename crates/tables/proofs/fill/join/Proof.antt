@@ -6,9 +6,6 @@ use borrow.Author.Needs.{needs}
 use Rattle.tables.proofs.fill.join.Statement.{statement}
 use Rattle.tables.proofs.fill.join.Tie as tie
 
-mul-base : tie.Need-mul-base
-mul-base c = search needs
-
 begin-code-requires : tie.Need-begin-code-requires
 begin-code-requires c κs = search needs
 
@@ -18,17 +15,11 @@ left-exit-requires c κs = search needs
 right-exit-requires : tie.Need-right-exit-requires
 right-exit-requires c κs = search needs
 
-add-codes : tie.Need-add-codes
-add-codes c = search needs
-
 mul-codes : tie.Need-mul-codes
 mul-codes c = search needs
 
 slice-write-codes : tie.Need-slice-write-codes
 slice-write-codes c = search needs
-
-add-codes-2 : tie.Need-add-codes-2
-add-codes-2 c = search needs
 
 sub-codes : tie.Need-sub-codes
 sub-codes c = search needs
@@ -38,9 +29,6 @@ mul-codes-2 c = search needs
 
 slice-write-codes-2 : tie.Need-slice-write-codes-2
 slice-write-codes-2 c = simp length-set (omega arith)
-
-add-codes-3 : tie.Need-add-codes-3
-add-codes-3 c = search needs
 
 sub-codes-2 : tie.Need-sub-codes-2
 sub-codes-2 c = search needs
@@ -67,18 +55,14 @@ pub join-spec : {M : Type 1} → statement M
 join-spec =
     tie.close
     (tie.spec
-    mul-base
     begin-code-requires
     left-exit-requires
     right-exit-requires
-    add-codes
     mul-codes
     slice-write-codes
-    add-codes-2
     sub-codes
     mul-codes-2
     slice-write-codes-2
-    add-codes-3
     sub-codes-2
     mul-codes-3
     slice-write-codes-3
