@@ -1,4 +1,3 @@
-// Bits of a word, the masks of a piece, and closing the marks of one piece by passes over its states.
+// Bits of a word, and closing the marks of one piece by passes over its states.
 pub mod bits;
 pub mod close;
-pub mod masks;

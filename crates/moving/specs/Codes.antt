@@ -14,7 +14,7 @@ use Rattle.tables.specs.Words.{Bit, width, Own, number}
 use Rattle.tables.specs.Plan.{start-code, takes}
 use Rattle.tables.specs.Entries.{length-takes}
 use Rattle.closing.specs.BitsOfWords.Bits.{bit-zero, Tells, told-no}
-use Rattle.closing.specs.BitsOfWords.Parts.{one-inside, one-end, two-left, two-right, two-end}
+use Rattle.closing.specs.BitsOfWords.NodeParts.{one-inside, one-end, two-left, two-right, two-end}
 use Rattle.closing.specs.BitsOfWords.Numbers.{number-below}
 
 -- in the list for a node of two parts, where the codes of the parts' states are
@@ -43,6 +43,10 @@ module _ (x : Nested Leaf) where
   pub last-code : getD (takes (star x)) (1 + width x) 0 ≡ 0
   last-code = one-end 0 0 (takes x) (length-takes x) 0
 
+-- the number of a class is below this: a leaf's number stands in 16 bits, and its class's is half of it
+abbrev pub class-limit : ℕ
+class-limit = 32768
+
 -- a leaf of this code takes the byte b: an even code is that of one character, an odd one that of a class
 pub data Code-takes (classes : List ℕ) (code b : ℕ) : Type 0 where
   of-character : code ≡ 2 * (b + 1) → Code-takes classes code b
@@ -62,12 +66,12 @@ module _ {classes : List ℕ} {b : ℕ} where
   no-leaf-takes (of-class odd bit) none = omega arith
 
   -- an even code takes only the byte that it is the code of
-  even-takes : {code : ℕ} → Code-takes classes code b → code % 2 ≡ 0 → code ≡ 2 * (b + 1)
+  pub even-takes : {code : ℕ} → Code-takes classes code b → code % 2 ≡ 0 → code ≡ 2 * (b + 1)
   even-takes (of-character e) even = e
   even-takes (of-class odd bit) even = absurd (omega arith)
 
   -- an odd code takes the bytes of its class
-  odd-takes : {code : ℕ} → Code-takes classes code b → code % 2 ≡ 1 → In-class classes (code / 2) b
+  pub odd-takes : {code : ℕ} → Code-takes classes code b → code % 2 ≡ 1 → In-class classes (code / 2) b
   odd-takes (of-character e) odd = absurd (omega arith)
   odd-takes (of-class odd' bit) odd = bit
 

@@ -1,8 +1,8 @@
 -- The codes of leaves' starts: above the two lowest bits, which are 0, stands the leaf's number; no other state has
 -- such a code but 0.
-use Prim.Native.Nat.{ℕ, _+_, _*_, _%_, _<_}
-use mathlib.Core.Path.{_≡_, refl, sym, _∙_, subst}
-use mathlib.Core.Logic.{_⊎_, inl, inr, _↔_, ⊎-elim}
+use Prim.Native.Nat.{ℕ, _+_, _*_, _<_}
+use mathlib.Core.Path.{_≡_, sym, _∙_}
+use mathlib.Core.Logic.{_↔_}
 use native.Mathlib.Omega.{arith}
 use lib.ListN.{getD}
 use Rattle.language.specs.Automaton.{State, start, accepting, left, right}
@@ -31,19 +31,19 @@ both-leafless : (t : ℕ) → Leafless (leads-and-jumps t)
 both-leafless t = record { none = λ n some e. omega arith }
 
 -- a state's code is that of a leaf's number exactly where the leaf with this number starts there
-abbrev Same : (code taken : ℕ) → Type 0
-Same code taken = (n : ℕ) → 0 < n → (code ≡ 4 * n) ↔ (taken ≡ n)
+abbrev Same-leaf-number : (code taken : ℕ) → Type 0
+Same-leaf-number code taken = (n : ℕ) → 0 < n → (code ≡ 4 * n) ↔ (taken ≡ n)
 
 -- where both are none
-none-same : {code : ℕ} → Leafless code → Same code 0
+none-same : {code : ℕ} → Leafless code → Same-leaf-number code 0
 none-same leafless n some = (λ e. absurd (leafless .none n some e), λ e. absurd (omega arith))
 
 -- told with other forms
-same-as : {c d t u : ℕ} → d ≡ c → u ≡ t → Same c t → Same d u
+same-as : {c d t u : ℕ} → d ≡ c → u ≡ t → Same-leaf-number c t → Same-leaf-number d u
 same-as e f h n some = (λ g. f ∙ h n some .0 (sym e ∙ g), λ g. e ∙ h n some .1 (sym f ∙ g))
 
 leaf-numbers : (x : Nested Leaf) (i exit : ℕ) → Leafless exit → (p : State) → Own x p
-    → Same (getD (codes-of x i exit) (number x p) 0) (getD (takes x) (number x p) 0)
+    → Same-leaf-number (getD (codes-of x i exit) (number x p) 0) (getD (takes x) (number x p) 0)
 leaf-numbers (leaf (character c)) i exit none start o = λ n some. (λ e. omega arith, λ e. omega arith)
 leaf-numbers (leaf (character c)) i exit none accepting o = none-same none
 leaf-numbers (leaf (class k)) i exit none start o = λ n some. (λ e. omega arith, λ e. omega arith)
@@ -77,6 +77,6 @@ leaf-numbers (below x) i exit none start o = none-same zero-leafless
 leaf-numbers (below x) i exit none accepting o = none-same none
 
 -- in the whole piece
-pub leaf-number : (x : Nested Leaf) (p : State) → Own x p → (n : ℕ) → 0 < n
+pub leaf-by-number : (x : Nested Leaf) (p : State) → Own x p → (n : ℕ) → 0 < n
     → (getD (codes-of x 0 0) (number x p) 0 ≡ 4 * n) ↔ (getD (takes x) (number x p) 0 ≡ n)
-leaf-number x p o = leaf-numbers x 0 0 zero-leafless p o
+leaf-by-number x p o = leaf-numbers x 0 0 zero-leafless p o

@@ -1,10 +1,10 @@
 -- Where marks are left after a move: gathered word by word, as each piece is moved and closed.
 use Prim.Native.Nat.{ℕ, _+_, _-_, _≤_, _<_}
-use mathlib.Core.Path.{_≡_, refl, sym, ap, _∙_, subst}
+use mathlib.Core.Path.{_≡_, sym, ap, _∙_, subst}
 use mathlib.Core.Bool.{Bool, true, false}
 use mathlib.Core.List.{List}
 use native.Mathlib.Omega.{arith}
-use native.Mathlib.Decide.{ℕ-discrete, decLt}
+use native.Mathlib.Decide.{ℕ-discrete}
 use lib.ListN.{length, getD, set}
 use lib.Seq.{getD-set-same, getD-set-other}
 use Rattle.closing.specs.BitsOfWords.Bits.{Tells}
@@ -19,10 +19,10 @@ pub record Spans (words : List ℕ) (n from to : ℕ) : Type 0 where
   pub ordered : from ≤ to
 
 -- what one piece more makes of `from` and `to`, by whether its word is zero
-pub data Widened (from to piece : ℕ) (zero : Bool) : (from′ to′ : ℕ) → Type 0 where
-  no-mark : zero ≡ true → Widened from to piece zero from to
-  first-mark : zero ≡ false → to ≡ 0 → Widened from to piece zero piece (piece + 1)
-  later-mark : zero ≡ false → (to ≡ 0 → ⊥) → Widened from to piece zero from (piece + 1)
+pub data Span-widened (from to piece : ℕ) (zero : Bool) : (from′ to′ : ℕ) → Type 0 where
+  no-mark : zero ≡ true → Span-widened from to piece zero from to
+  first-mark : zero ≡ false → to ≡ 0 → Span-widened from to piece zero piece (piece + 1)
+  later-mark : zero ≡ false → (to ≡ 0 → ⊥) → Span-widened from to piece zero from (piece + 1)
 
 -- at first there are none
 pub spans-none : (words : List ℕ) → Spans words 0 0 0
@@ -43,7 +43,7 @@ module _ {words : List ℕ} {n from to : ℕ} (word : ℕ) (spans : Spans words 
   put = getD-set-same words n word 0 inside
 
   -- so one word more is gathered
-  pub spans-more : {zero : Bool} {from′ to′ : ℕ} → Tells (word ≡ 0) zero → Widened from to n zero from′ to′
+  pub spans-more : {zero : Bool} {from′ to′ : ℕ} → Tells (word ≡ 0) zero → Span-widened from to n zero from′ to′
       → Spans (set words n word) (n + 1) from′ to′
   spans-more told (no-mark none) = record {
     none-before = λ o l. kept o (omega (arith, spans .ordered, spans .within)) ∙ spans .none-before o l;

@@ -27,24 +27,24 @@ use Rattle.closing.specs.BitsOfWords.Spots.{Spot, own-spot, Lit, marked-lit, bi
 use Rattle.closing.specs.Within.{own-has}
 use Rattle.moving.specs.WordsMoved.{first-left}
 
--- each of the first n words is closed in itself, by the table's row of its piece; the others are as before
-pub record Closed-words (reach codes before after : List ℕ) (n : ℕ) : Type 0 where
+-- each of the first n words is closed in itself, by the row of its piece; the others are as before
+pub record Closed-words (rows before after : List ℕ) (n : ℕ) : Type 0 where
   pub same-length : length after ≡ length before
-  pub words : (k : ℕ) → k < n → (x : Nested Leaf) → width x ≤ most-states → Lays reach codes x k
+  pub words : (k : ℕ) → k < n → (x : Nested Leaf) → width x ≤ most-states → Lays rows x k
       → getD before k 0 < 2 ^ width x
       → Closes x (getD before k 0) (getD after k 0)
   pub others : (k : ℕ) → n ≤ k → getD after k 0 ≡ getD before k 0
 
 -- at first none is
-pub closed-none : (reach codes words : List ℕ) → Closed-words reach codes words words 0
-closed-none reach codes words = record { same-length = refl; words = λ k h. absurd (omega arith); others = λ k h. refl }
+pub closed-none : (rows words : List ℕ) → Closed-words rows words words 0
+closed-none rows words = record { same-length = refl; words = λ k h. absurd (omega arith); others = λ k h. refl }
 
 -- one more, whose word is v before its closing
-pub closed-more : {reach codes before after : List ℕ} {n v w : ℕ} → n < length before
-    → Closed-words reach codes before after n
-    → ((x : Nested Leaf) → width x ≤ most-states → Lays reach codes x n → v < 2 ^ width x → Closes x v w)
-    → Closed-words reach codes (set before n v) (set after n w) (n + 1)
-closed-more {reach} {codes} {before} {after} {n} {v} {w} inside so-far closes = record {
+pub closed-more : {rows before after : List ℕ} {n v w : ℕ} → n < length before
+    → Closed-words rows before after n
+    → ((x : Nested Leaf) → width x ≤ most-states → Lays rows x n → v < 2 ^ width x → Closes x v w)
+    → Closed-words rows (set before n v) (set after n w) (n + 1)
+closed-more {rows} {before} {after} {n} {v} {w} inside so-far closes = record {
   same-length = simp length-set (so-far .same-length);
   words = λ k h. elim (ℕ-discrete k n) [
     | yes e ↦ subst (λ (i : ℕ). At i (getD (set before n v) i 0) (getD (set after n w) i 0)) (sym e)
@@ -58,7 +58,7 @@ closed-more {reach} {codes} {before} {after} {n} {v} {w} inside so-far closes = 
 }
   where
     At : ℕ → ℕ → ℕ → Type 0
-    At k a c = (x : Nested Leaf) → width x ≤ most-states → Lays reach codes x k → a < 2 ^ width x → Closes x a c
+    At k a c = (x : Nested Leaf) → width x ≤ most-states → Lays rows x k → a < 2 ^ width x → Closes x a c
 
 -- the word w of a piece x has no bit past the last state, and r is w closed
 record Piece-closed (x : Nested Leaf) (w r : ℕ) : Type 0 where
@@ -171,9 +171,9 @@ clean-closed (below x) ws u = (u .0 .clean, clean-closed x (drop 1 ws) (u .1))
 pub each-closed-clean : (x : Nested Leaf) (words : List ℕ) → Each-closed x words → Clean x words
 each-closed-clean x words closed = (closed .0 .clean, clean-closed x (drop 1 words) (closed .1))
 
-module _ {reach codes before after : List ℕ} {n : ℕ} (closed : Closed-words reach codes before after n) where
+module _ {rows before after : List ℕ} {n : ℕ} (closed : Closed-words rows before after n) where
   -- the word of piece k is closed
-  piece-closed : (x : Nested Leaf) (k : ℕ) → k < n → Lays reach codes x k → width x ≤ most-states
+  piece-closed : (x : Nested Leaf) (k : ℕ) → k < n → Lays rows x k → width x ≤ most-states
       → getD (drop k before) 0 0 < 2 ^ width x
       → Piece-closed x (getD (drop k before) 0 0) (getD (drop k after) 0 0)
   piece-closed x k h reaches narrow small = record {
@@ -183,7 +183,7 @@ module _ {reach codes before after : List ℕ} {n : ℕ} (closed : Closed-words 
   }
 
   -- those of the child pieces below x are
-  below-closed : (x : Nested Leaf) (new : ℕ) → Lays-below reach codes x new → new + run x ≤ n → Narrow-below x
+  below-closed : (x : Nested Leaf) (new : ℕ) → Lays-below rows x new → new + run x ≤ n → Narrow-below x
       → Clean-below x (drop new before)
       → Below-closed x (drop new before) (drop new after)
   below-closed (leaf a) new reached h narrow clean = tt
@@ -209,7 +209,7 @@ module _ {reach codes before after : List ℕ} {n : ℕ} (closed : Closed-words 
         (subst (Clean-below x) (drop-drop 1 new before) (clean .1))),
   )
 
-  module _ (x : Nested Leaf) (reached : Lays-each reach codes x) (room : 1 + run x ≤ n) (narrow : width x ≤ most-states)
+  module _ (x : Nested Leaf) (reached : Lays-each rows x) (room : 1 + run x ≤ n) (narrow : width x ≤ most-states)
       (narrow-below : Narrow-below x) (clean : Clean x before) where
     top : Piece-closed x (getD before 0 0) (getD after 0 0)
     top = record { small = clean .0; closes = closed .words 0 (omega arith) x narrow (reached .0) (clean .0) }

@@ -30,7 +30,7 @@ use Rattle.tree.specs.Leaf.{Leaf, meaning}
 use Rattle.tables.specs.Words.{Bit, width, run, Own, number, Marked, Holds, Clean-below, Clean}
 use Rattle.tables.specs.Plan.{Moves}
 use Rattle.closing.specs.Passes.Laid.{Lays, Lays-below, Lays-each, Narrow-below}
-use Rattle.closing.specs.BitsOfWords.Rows.{Rows, rows-set-at}
+use Rattle.closing.specs.BitsOfWords.MadeAnew.{Made-anew, anew-set-at}
 use mathlib.Core.Logic.{Iff·trans as iff-trans}
 
 -- from a part of a node to the node: what stands at p in the part stands at e p in the node, and nothing else comes
@@ -320,19 +320,19 @@ module _ (classes : List ℕ) (b : ℕ) where
   clean-moved (star x) ws ws′ u = clean-moved x ws ws′ u
   clean-moved (below x) ws ws′ u = (u .0 .clean, clean-moved x (drop 1 ws) (drop 1 ws′) (u .1))
 
--- w is word k moved along b, for every tree that the codes and masks of piece k are those of
-pub record Word-moved (reach classes codes before : List ℕ) (b k w : ℕ) : Type 0 where
-  pub moves : (x : Nested Leaf) → width x ≤ most-states → Lays reach codes x k → getD before k 0 < 2 ^ width x
+-- w is word k moved along b, for every tree whose piece k is, by its row
+pub record Word-moved (rows classes before : List ℕ) (b k w : ℕ) : Type 0 where
+  pub moves : (x : Nested Leaf) → width x ≤ most-states → Lays rows x k → getD before k 0 < 2 ^ width x
       → Moves classes x b (getD before k 0) w
 
 -- one word more, moved from what it is now, which is what it was before
-pub moved-more : {reach classes codes before after : List ℕ} {b n w : ℕ} → n < length before
-    → Rows (Word-moved reach classes codes before b) before after 0 n
-    → ((x : Nested Leaf) → width x ≤ most-states → Lays reach codes x n → getD after n 0 < 2 ^ width x
+pub moved-more : {rows classes before after : List ℕ} {b n w : ℕ} → n < length before
+    → Made-anew (Word-moved rows classes before b) before after 0 n
+    → ((x : Nested Leaf) → width x ≤ most-states → Lays rows x n → getD after n 0 < 2 ^ width x
     → Moves classes x b (getD after n 0) w)
-    → Rows (Word-moved reach classes codes before b) before (set after n w) 0 (n + 1)
+    → Made-anew (Word-moved rows classes before b) before (set after n w) 0 (n + 1)
 moved-more {classes = classes} {before = before} {after = after} {b = b} {n = n} {w = w} h so-far moves =
-    rows-set-at so-far w (omega arith) (omega arith) record {
+    anew-set-at so-far w (omega arith) (omega arith) record {
       moves = λ x narrow at small. subst (λ (v : ℕ). Moves classes x b v w) as-before
           (moves x narrow at (subst (λ (v : ℕ). v < 2 ^ width x) (sym as-before) small));
     }
@@ -346,9 +346,9 @@ pub record Marks-moved (classes : List ℕ) (x : Nested Leaf) (b : ℕ) (before 
   pub clean : Clean x after
 
 -- the first n words are moved along b; the others are as before
-pub record Moved-all (reach classes codes before after : List ℕ) (b n : ℕ) : Type 0 where
+pub record Moved-all (rows classes before after : List ℕ) (b n : ℕ) : Type 0 where
   pub same-length : length after ≡ length before
-  pub marks : (x : Nested Leaf) → Lays-each reach codes x → 1 + run x ≤ n → width x ≤ most-states → Narrow-below x
+  pub marks : (x : Nested Leaf) → Lays-each rows x → 1 + run x ≤ n → width x ≤ most-states → Narrow-below x
       → Clean x before → Marks-moved classes x b before after
   pub others : (k : ℕ) → n ≤ k → getD after k 0 ≡ getD before k 0
 
@@ -356,10 +356,10 @@ pub record Moved-all (reach classes codes before after : List ℕ) (b n : ℕ) :
 pub first-left : (l : List ℕ) (k : ℕ) → getD (drop k l) 0 0 ≡ getD l k 0
 first-left l k = getD-drop k l 0 0 ∙ ap (λ (i : ℕ). getD l i 0) (add-zero k)
 
-module _ (reach classes codes before after : List ℕ) (b n : ℕ)
-    (rows : Rows (Word-moved reach classes codes before b) before after 0 n) where
+module _ (rows classes before after : List ℕ) (b n : ℕ)
+    (anew : Made-anew (Word-moved rows classes before b) before after 0 n) where
   -- the word of piece k is moved
-  word-moved : (x : Nested Leaf) (k : ℕ) → k < n → Lays reach codes x k → width x ≤ most-states
+  word-moved : (x : Nested Leaf) (k : ℕ) → k < n → Lays rows x k → width x ≤ most-states
       → getD (drop k before) 0 0
       < 2 ^ width x
       → Moves classes x b (getD (drop k before) 0 0) (getD (drop k after) 0 0)
@@ -367,10 +367,10 @@ module _ (reach classes codes before after : List ℕ) (b n : ℕ)
       subst₂ (λ (v w : ℕ). Moves classes x b v w) (sym (first-left before k))
       (ap (λ (i : ℕ). getD after i 0) (zero-add k)
       ∙ sym (first-left after k))
-      (rows .rows k h .moves x narrow at (subst (λ (v : ℕ). v < 2 ^ width x) (first-left before k) small))
+      (anew .anew k h .moves x narrow at (subst (λ (v : ℕ). v < 2 ^ width x) (first-left before k) small))
 
   -- the words of the child pieces below x are
-  below-moved : (x : Nested Leaf) (new : ℕ) → Lays-below reach codes x new → new + run x ≤ n → Narrow-below x
+  below-moved : (x : Nested Leaf) (new : ℕ) → Lays-below rows x new → new + run x ≤ n → Narrow-below x
       → Clean-below x (drop new before)
       → Below-moved classes b x (drop new before) (drop new after)
   below-moved (leaf a) new at h narrow clean = tt
@@ -397,7 +397,7 @@ module _ (reach classes codes before after : List ℕ) (b n : ℕ)
   )
 
   -- so the marks are
-  marks-moved : (x : Nested Leaf) → Lays-each reach codes x → 1 + run x ≤ n → width x ≤ most-states → Narrow-below x
+  marks-moved : (x : Nested Leaf) → Lays-each rows x → 1 + run x ≤ n → width x ≤ most-states → Narrow-below x
       → Clean x before → Marks-moved classes x b before after
   marks-moved x at h narrow-top narrow clean =
       let top = word-moved x 0 (omega arith) (at .0) narrow-top (clean .0) in
@@ -410,11 +410,11 @@ module _ (reach classes codes before after : List ℕ) (b n : ℕ)
       }
 
 -- word by word, every word is moved
-pub moved-all : {reach classes codes before after : List ℕ} {b n m : ℕ} → m ≡ n
-    → Rows (Word-moved reach classes codes before b) before after 0 m → Moved-all reach classes codes before after b n
-moved-all {reach} {classes} {codes} {before} {after} {b} {n} {m} e rows = record {
-  same-length = rows .same-length;
-  marks = marks-moved reach classes codes before after b n
-      (subst (λ (k : ℕ). Rows (Word-moved reach classes codes before b) before after 0 k) e rows);
-  others = λ k h. rows .others k (inr (omega arith));
+pub moved-all : {rows classes before after : List ℕ} {b n m : ℕ} → m ≡ n
+    → Made-anew (Word-moved rows classes before b) before after 0 m → Moved-all rows classes before after b n
+moved-all {rows} {classes} {before} {after} {b} {n} {m} e anew = record {
+  same-length = anew .same-length;
+  marks = marks-moved rows classes before after b n
+      (subst (λ (k : ℕ). Made-anew (Word-moved rows classes before b) before after 0 k) e anew);
+  others = λ k h. anew .others k (inr (omega arith));
 }

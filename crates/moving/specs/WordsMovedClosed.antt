@@ -16,7 +16,7 @@ use Rattle.tables.specs.Plan.{Moves, Closes}
 use Rattle.closing.specs.Passes.Laid.{Lays, Lays-each, Narrow-below}
 use Rattle.closing.specs.BitsOfWords.Bits.{bit-zero}
 use Rattle.closing.specs.WordClosed.{closes-none}
-use Rattle.closing.specs.BitsOfWords.Rows.{Rows, rows-none}
+use Rattle.closing.specs.BitsOfWords.MadeAnew.{Made-anew, anew-none}
 use Rattle.closing.specs.EachPieceClosed.{Each-closed}
 use Rattle.moving.specs.WordsMoved.{Word-moved, moved-more, Marks-moved, Moved-all, moved-all}
 use Rattle.moving.specs.WordsClosed.{
@@ -30,38 +30,38 @@ use Rattle.moving.specs.WordsClosed.{
 }
 
 -- the first n words are moved along b, and each is closed in itself; the others are as before
-pub record Moved-closed (reach classes codes before after : List ℕ) (b n : ℕ) : Type 0 where
+pub record Moved-closed (rows classes before after : List ℕ) (b n : ℕ) : Type 0 where
   pub moved : List ℕ
-  pub moves : Moved-all reach classes codes before moved b n
-  pub closes : Closed-words reach codes moved after n
+  pub moves : Moved-all rows classes before moved b n
+  pub closes : Closed-words rows moved after n
 
 -- so far, word by word
-pub record Moving-closing (reach classes codes before after : List ℕ) (b n : ℕ) : Type 0 where
+pub record Moving-closing (rows classes before after : List ℕ) (b n : ℕ) : Type 0 where
   pub moved : List ℕ
-  pub moves : Rows (Word-moved reach classes codes before b) before moved 0 n
-  pub closes : Closed-words reach codes moved after n
+  pub moves : Made-anew (Word-moved rows classes before b) before moved 0 n
+  pub closes : Closed-words rows moved after n
 
 -- at first none is
-pub moving-none : (reach classes codes words : List ℕ) (b : ℕ) → Moving-closing reach classes codes words words b 0
-moving-none reach classes codes words b =
+pub moving-none : (rows classes words : List ℕ) (b : ℕ) → Moving-closing rows classes words words b 0
+moving-none rows classes words b =
     record {
       moved = words;
-      moves = rows-none (Word-moved reach classes codes words b) words 0;
-      closes = closed-none reach codes words;
+      moves = anew-none (Word-moved rows classes words b) words 0;
+      closes = closed-none rows words;
     }
 
 -- r is the word of the piece after the byte b: moved, and closed in the piece
-pub record Word-after (reach classes codes : List ℕ) (piece word b r : ℕ) : Type 0 where
+pub record Word-after (rows classes : List ℕ) (piece word b r : ℕ) : Type 0 where
   pub moved : ℕ
-  pub moves : (x : Nested Leaf) → width x ≤ most-states → Lays reach codes x piece → word < 2 ^ width x
+  pub moves : (x : Nested Leaf) → width x ≤ most-states → Lays rows x piece → word < 2 ^ width x
       → Moves classes x b word moved
-  pub closes : (x : Nested Leaf) → width x ≤ most-states → Lays reach codes x piece → moved < 2 ^ width x
+  pub closes : (x : Nested Leaf) → width x ≤ most-states → Lays rows x piece → moved < 2 ^ width x
       → Closes x moved r
 
 -- a word of no marks stays one
-pub none-after : (reach classes codes : List ℕ) (piece word b : ℕ) → word ≡ 0 → Word-after reach classes codes piece
+pub none-after : (rows classes : List ℕ) (piece word b : ℕ) → word ≡ 0 → Word-after rows classes piece
     word b 0
-none-after reach classes codes piece word b none = subst (λ (w : ℕ). Word-after reach classes codes piece w b 0)
+none-after rows classes piece word b none = subst (λ (w : ℕ). Word-after rows classes piece w b 0)
     (sym none) record {
       moved = 0;
       moves = λ x narrow lays small. record {
@@ -72,30 +72,36 @@ none-after reach classes codes piece word b none = subst (λ (w : ℕ). Word-aft
     }
 
 -- one word more
-pub moving-more : {reach classes codes before after : List ℕ} {b n w : ℕ} → n < length before
-    → Moving-closing reach classes codes before after b n
-    → Word-after reach classes codes n (getD after n 0) b w → Moving-closing reach classes codes before (set after n w)
+pub moving-more : {rows classes before after : List ℕ} {b n w : ℕ} → n < length before
+    → Moving-closing rows classes before after b n
+    → Word-after rows classes n (getD after n 0) b w → Moving-closing rows classes before (set after n w)
     b (n + 1)
-moving-more {reach} {classes} {codes} {after = after} {b = b} {n = n} inside so-far next = record {
+moving-more {rows} {classes} {after = after} {b = b} {n = n} inside so-far next = record {
   moved = set (so-far .moved) n (next .moved);
   moves = moved-more inside (so-far .moves)
-      (subst (λ (u : ℕ). (x : Nested Leaf) → width x ≤ most-states → Lays reach codes x n → u < 2 ^ width x
+      (subst (λ (u : ℕ). (x : Nested Leaf) → width x ≤ most-states → Lays rows x n → u < 2 ^ width x
       → Moves classes x b u (next .moved))
       (so-far .closes .others n (omega arith)) (next .moves));
   closes = closed-more (omega (arith, so-far .moves .same-length)) (so-far .closes) (next .closes);
 }
 
 -- at last all are
-pub moving-all : {reach classes codes before after : List ℕ} {b n m : ℕ} → m ≡ n → Moving-closing reach classes codes
+pub moving-all : {rows classes before after : List ℕ} {b n m : ℕ} → m ≡ n → Moving-closing rows classes
     before after b m
-    → Moved-closed reach classes codes before after b n
-moving-all {reach} {codes = codes} {after = after} e all = record {
+    → Moved-closed rows classes before after b n
+moving-all {rows} {after = after} e all = record {
   moved = all .moved;
   moves = moved-all e (all .moves);
-  closes = subst (λ (k : ℕ). Closed-words reach codes (all .moved) after k) e (all .closes);
+  closes = subst (λ (k : ℕ). Closed-words rows (all .moved) after k) e (all .closes);
 }
 
-module _ {reach classes codes before after : List ℕ} {b n : ℕ} (went : Moved-closed reach classes codes before after b
+-- a single word
+pub moved-single : {rows classes words : List ℕ} {b r : ℕ} → 0 < length words
+    → Word-after rows classes 0 (getD words 0 0) b r → Moved-closed rows classes words (set words 0 r) b 1
+moved-single {rows} {classes} {words} {b} some after =
+    moving-all (omega arith) (moving-more some (moving-none rows classes words b) after)
+
+module _ {rows classes before after : List ℕ} {b n : ℕ} (went : Moved-closed rows classes before after b
     n) where
   -- no word is added or taken away
   pub moved-length : length after ≡ length before
@@ -105,7 +111,7 @@ module _ {reach classes codes before after : List ℕ} {b n : ℕ} (went : Moved
   pub moved-others : (k : ℕ) → n ≤ k → getD after k 0 ≡ getD before k 0
   moved-others k past = omega (arith, went .moves .others k past, went .closes .others k past)
 
-  module _ (x : Nested Leaf) (laid : Lays-each reach codes x) (room : 1 + run x ≤ n)
+  module _ (x : Nested Leaf) (laid : Lays-each rows x) (room : 1 + run x ≤ n)
       (narrow : width x ≤ most-states) (narrow-below : Narrow-below x) (clean : Clean x before) where
     alone : Marks-moved classes x b before (went .moved)
     alone = went .moves .marks x laid room narrow narrow-below clean

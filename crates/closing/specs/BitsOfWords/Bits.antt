@@ -4,8 +4,8 @@
 use Prim.Native.Nat.{ℕ, zero, suc, _+_, _*_, _/_, _%_, _^_, _≤_, _<_, min, max}
 use mathlib.Core.Path.{_≡_, refl, sym, ap, _∙_, subst}
 use mathlib.Core.Logic.{_⊎_, inl, inr, _↔_, ⊎-elim}
-use mathlib.Core.Bool.{Bool, true, false}
-use native.Mathlib.Nat.{zero-div, div-eq-of-lt, mod-lt, pow-suc, one-mul, lt-of-lt-of-le}
+use mathlib.Core.Bool.{Bool, true, false, false≢true}
+use native.Mathlib.Nat.{zero-div, div-eq-of-lt, mod-lt, pow-suc, zero-mul, one-mul, lt-of-lt-of-le}
 use native.Mathlib.Decide.{ℕ-discrete, decLt}
 use native.Mathlib.Omega.{arith}
 use lib.Arith.{bin-ind, digits-mod}
@@ -136,6 +136,21 @@ bit-with w j i = (
   λ b. ⊎-elim inl (λ c. inr (bit-power j i .0 c)) (bit-or w (2 ^ j) i .0 b),
   λ b. bit-or w (2 ^ j) i .1 (⊎-elim inl (λ e. inr (bit-power j i .1 e)) b),
 )
+
+-- a word with one bit joined to it, or none, by what a test says
+pub joined-bit : (w i j : ℕ) → i < 64 → Bit (bitOr w (1 * 2 ^ i % 2 ^ 64)) j ↔ (Bit w j ⊎ ((j ≡ i) × (true ≡ true)))
+joined-bit w i j inside = subst (λ (n : ℕ). Bit (bitOr w n) j ↔ (Bit w j ⊎ ((j ≡ i) × (true ≡ true))))
+    (sym (one-shifted 64 i inside)) (
+      λ b. ⊎-elim inl (λ e. inr (e, refl)) (bit-with w i j .0 b),
+      λ b. bit-with w i j .1 (⊎-elim inl (λ h. inr (h .0)) b),
+    )
+
+pub njoined-bit : (w i j : ℕ) → Bit (bitOr w (0 * 2 ^ i % 2 ^ 64)) j ↔ (Bit w j ⊎ ((j ≡ i) × (false ≡ true)))
+njoined-bit w i j = subst (λ (n : ℕ). Bit (bitOr w (n % 2 ^ 64)) j ↔ (Bit w j ⊎ ((j ≡ i) × (false ≡ true))))
+    (sym (zero-mul (2 ^ i))) (
+      λ b. ⊎-elim inl (λ z. absurd (bit-zero j z)) (bit-or w 0 j .0 b),
+      ⊎-elim (λ b. bit-or w 0 j .1 (inl b)) (λ h. absurd (false≢true (h .1))),
+    )
 
 -- two bits are equal exactly when one is set where the other is
 pub equal-bits : (v i w j : ℕ) → (v / 2 ^ i % 2 ≡ w / 2 ^ j % 2) ↔ (Bit v i ↔ Bit w j)

@@ -7,7 +7,7 @@ use lib.ListN.{length, getD, length-map, List·getD-map}
 use Rattle.language.specs.Automaton.{State, start, accepting, left, right}
 use Rattle.language.specs.Nested.{Nested, leaf, catenation, union, star, below}
 use Rattle.tables.specs.Words.{width, Own, number}
-use Rattle.closing.specs.BitsOfWords.Parts.{
+use Rattle.closing.specs.BitsOfWords.NodeParts.{
   one-length,
   one-inside,
   one-end,

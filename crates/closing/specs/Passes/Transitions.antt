@@ -22,35 +22,35 @@ use Rattle.tables.specs.Plan.{
   codes-of,
 }
 use Rattle.tables.specs.Entries.{length-codes}
-use Rattle.closing.specs.BitsOfWords.Parts.{one-inside, one-end, two-left, two-right, two-end}
+use Rattle.closing.specs.BitsOfWords.NodeParts.{one-inside, one-end, two-left, two-right, two-end}
 use Rattle.closing.specs.BitsOfWords.Numbers.{number-accepting, number-below}
 
 -- the code of state i leads to state j: to the next one, or by its jump
-abbrev pub Leads : (code i j : ℕ) → Type 0
-Leads code i j = (Leads-on code × (j ≡ i + 1)) ⊎ (Jumps code × (j ≡ code / 4))
+abbrev pub Code-leads : (code i j : ℕ) → Type 0
+Code-leads code i j = (Leads-on code × (j ≡ i + 1)) ⊎ (Jumps code × (j ≡ code / 4))
 
 -- where each code leads
-none-leads : (i j : ℕ) → Leads 0 i j → ⊥
+none-leads : (i j : ℕ) → Code-leads 0 i j → ⊥
 none-leads i j (inl h) = omega (arith, h .0)
 none-leads i j (inr h) = omega (arith, h .0)
 
-on-leads : (i j : ℕ) → Leads leads-on i j ↔ (j ≡ i + 1)
+on-leads : (i j : ℕ) → Code-leads leads-on i j ↔ (j ≡ i + 1)
 on-leads i j = (⊎-elim (λ h. h .1) (λ h. absurd (omega (arith, h .0))), λ e. inl (refl, e))
 
-jump-leads : (t i j : ℕ) → Leads (jumps-to t) i j ↔ (j ≡ t)
+jump-leads : (t i j : ℕ) → Code-leads (jumps-to t) i j ↔ (j ≡ t)
 jump-leads t i j = (
   ⊎-elim (λ h. absurd (omega (arith, h .0))) (λ h. omega (arith, h .1)),
   λ e. inr (omega arith, omega (arith, e)),
 )
 
-both-lead : (t i j : ℕ) → Leads (leads-and-jumps t) i j ↔ ((j ≡ i + 1) ⊎ (j ≡ t))
+both-lead : (t i j : ℕ) → Code-leads (leads-and-jumps t) i j ↔ ((j ≡ i + 1) ⊎ (j ≡ t))
 both-lead t i j = (
   ⊎-elim (λ h. inl (h .1)) (λ h. inr (omega (arith, h .1))),
   ⊎-elim (λ e. inl (omega arith, e)) (λ e. inr (omega arith, omega (arith, e))),
 )
 
 -- a leaf's start leads on where the leaf has the empty text
-leaf-leads : (test : Bool) (n i j : ℕ) → Leads (cond test leads-on (4 * n)) i j ↔ ((test ≡ true) × (j ≡ i + 1))
+leaf-leads : (test : Bool) (n i j : ℕ) → Code-leads (cond test leads-on (4 * n)) i j ↔ ((test ≡ true) × (j ≡ i + 1))
 leaf-leads true n i j = (λ h. (refl, on-leads i j .0 h), λ (_, e). on-leads i j .1 e)
 leaf-leads false n i j = (
   ⊎-elim (λ h. absurd (omega (arith, h .0))) (λ h. absurd (omega (arith, h .0))),
@@ -90,15 +90,15 @@ module _ (s e : ℕ) (x : Nested Leaf) (i m : ℕ) where
 -- a transition out of a state of x, or, where that is the accepting state, where the code that it has around x leads
 abbrev Out : Nested Leaf → ℕ → ℕ → State → ℕ → Type 0
 Out x i exit p j = ((q : State) × Own x q × (i + number x q ≡ j) × Own-empty byteless x p q)
-    ⊎ ((p ≡ accepting) × Leads exit (i + number x accepting) j)
+    ⊎ ((p ≡ accepting) × Code-leads exit (i + number x accepting) j)
 
 -- told with another form of the code and of the state's number
-same-leads : {c d i k : ℕ} (j : ℕ) → c ≡ d → i ≡ k → Leads c i j → Leads d k j
-same-leads {c} {d} {i} {k} j e f h = subst (λ (n : ℕ). Leads n k j) e (subst (λ (n : ℕ). Leads c n j) f h)
+same-leads : {c d i k : ℕ} (j : ℕ) → c ≡ d → i ≡ k → Code-leads c i j → Code-leads d k j
+same-leads {c} {d} {i} {k} j e f h = subst (λ (n : ℕ). Code-leads n k j) e (subst (λ (n : ℕ). Code-leads c n j) f h)
 
 -- each code leads along a transition
 out : (x : Nested Leaf) (i exit : ℕ) (p : State) → Own x p → (j : ℕ)
-    → Leads (getD (codes-of x i exit) (number x p) 0) (i + number x p) j → Out x i exit p j
+    → Code-leads (getD (codes-of x i exit) (number x p) 0) (i + number x p) j → Out x i exit p j
 out (leaf a) i exit start o j b =
     let (has, e) = leaf-leads (has-empty a) (start-code a) (i + 0) j .0 b in
     inl (accepting, tt, omega (arith, e), Empty.leaf-past has)
@@ -191,7 +191,7 @@ exit-code (below x) i exit = refl
 
 -- each transition is where a code leads
 along : (x : Nested Leaf) (i exit : ℕ) {p q : State} → Own-empty byteless x p q → Own x p → Own x q → (j : ℕ)
-    → i + number x q ≡ j → Leads (getD (codes-of x i exit) (number x p) 0) (i + number x p) j
+    → i + number x q ≡ j → Code-leads (getD (codes-of x i exit) (number x p) 0) (i + number x p) j
 along (leaf a) i exit (Empty.leaf-past has) o o′ j h =
     leaf-leads (has-empty a) (start-code a) (i + 0) j .1 (has, omega arith)
 along (catenation x y) i exit Empty.catenation-in o o′ j h = on-leads (i + 0) j .1 (omega arith)
@@ -256,7 +256,7 @@ transition-own (below x) (Empty.leaf-past has) = absurd has
 
 -- the code of p leads to the state numbered j exactly where a transition leads there from p
 pub leads-exactly : (x : Nested Leaf) (p : State) → Own x p → (j : ℕ)
-    → Leads (getD (codes-of x 0 0) (number x p) 0) (number x p) j
+    → Code-leads (getD (codes-of x 0 0) (number x p) 0) (number x p) j
     ↔ ((q : State) × Own x q × (number x q ≡ j) × Own-empty byteless x p q)
 leads-exactly x p o j = (
   λ b. ⊎-elim (λ g. (g .0, g .1, omega (arith, g .2), g .3)) (λ g. absurd (none-leads _ j (g .1)))

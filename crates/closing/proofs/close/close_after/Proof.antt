@@ -1,20 +1,19 @@
--- `closing::close::close_after` meets its contract. The loop's invariant: what is marked can be reached, marks are carried on, and
--- each jump was taken or is left. The measure is the jumps that are left.
+-- `closing::close::close_after` meets its contract. The loop's invariant: what is marked can be reached, marks are
+-- carried on, and each jump was taken or is left. The measure is the jumps that are left. At the end the word is
+-- compared with 0.
 use mathlib.Core.Path.{refl}
 use native.Mathlib.Omega.{arith}
-use Rattle.closing.specs.Passes.Closing.{Passing, passing-none, passing-more, fewer-left, closed-by-passes}
+use borrow.Author.Tests.{eqb-true, eqb-false}
+use Rattle.closing.specs.Passes.Closing.{Passed-so-far, passing-none, passing-more, fewer-left, closed-by-passes}
 use Rattle.closing.proofs.close.close_after.Statement.{statement}
 use Rattle.closing.proofs.close.close_after.Tie as tie
 
 abbrev Inv-loop : tie.InvT-loop
-Inv-loop reach codes piece word done base at on jumps left₀ closed₀ left closed =
-    Passing on jumps codes base word done left closed
+Inv-loop rows piece word done at on jumps left₀ closed₀ left closed =
+    Passed-so-far on jumps rows piece word done left closed
 
 abbrev μ-loop : tie.MeasureT-loop
-μ-loop reach codes piece word done base at on jumps left₀ closed₀ left closed = left
-
-mul-base : tie.Need-mul-base Inv-loop μ-loop
-mul-base c = omega arith
+μ-loop rows piece word done at on jumps left₀ closed₀ left closed = left
 
 mul-at : tie.Need-mul-at Inv-loop μ-loop
 mul-at c = omega arith
@@ -55,7 +54,10 @@ loop-again : tie.Need-loop-again Inv-loop μ-loop
 loop-again c = passing-more (c .before .before .before .loop .inv) (c .before .targets .ensures) (c .run-on2 .ensures)
 
 returns : tie.Need-returns Inv-loop μ-loop
-returns c = closed-by-passes _ _ _ _ _ _ _ _ _ refl refl (c .before .loop .inv) (c .loop-test .left)
+returns c = (
+  closed-by-passes _ _ _ _ _ _ _ _ refl refl (c .before .loop .inv) (c .loop-test .left),
+  record { holds = λ e. omega (arith, eqb-true); fails = λ e none. omega (arith, eqb-false) },
+)
 
 pub close-after-spec : {M : Type 1} → statement M
 close-after-spec =
@@ -63,7 +65,6 @@ close-after-spec =
     (tie.spec
     Inv-loop
     μ-loop
-    mul-base
     mul-at
     mul-on
     shared-slice-read-on

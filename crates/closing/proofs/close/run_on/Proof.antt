@@ -1,4 +1,5 @@
--- `closing::close::run_on` meets its contract: both terms of the sum are below 2 ^ 63, and the addition carries the marks on.
+-- `closing::close::run_on` meets its contract: both terms of the sum are below 2 ^ 63, and the addition carries the
+-- marks on.
 use native.Mathlib.Omega.{arith}
 use lib.Bits.{and-le-r}
 use Rattle.closing.specs.Passes.RunOn.{ran-on}

@@ -1,18 +1,19 @@
--- `closing::close::targets` meets its contract. The loop's invariant: the jumps of the states that are no longer in `rest`
--- are taken. The measure is `rest`, which loses its lowest bit.
-use mathlib.Core.Path.{refl, _∙_}
-use native.Mathlib.Nat.{mod-lt}
+-- `closing::close::targets` meets its contract. The loop's invariant: the jumps of the states that are no longer in
+-- `rest` are taken. The measure is `rest`, which loses its lowest bit.
+use Prim.Native.Nat.{ℕ, _%_}
+use mathlib.Core.Path.{refl, ap}
 use native.Mathlib.Omega.{arith}
+use Rattle.tables.specs.Words.{word-bits}
 use Rattle.closing.specs.BitsOfWords.LowestBit.{left-smaller}
 use Rattle.closing.specs.Passes.Jumping.{Jumped, jumped-none, jumped-more, jumped-all}
 use Rattle.closing.proofs.close.targets.Statement.{statement}
 use Rattle.closing.proofs.close.targets.Tie as tie
 
 abbrev Inv-loop : tie.InvT-loop
-Inv-loop codes base from rest₀ reached₀ rest reached = Jumped codes base from rest reached
+Inv-loop rows piece from rest₀ reached₀ rest reached = Jumped rows piece from rest reached
 
 abbrev μ-loop : tie.MeasureT-loop
-μ-loop codes base from rest₀ reached₀ rest reached = rest
+μ-loop rows piece from rest₀ reached₀ rest reached = rest
 
 loop-holds : tie.Need-loop-holds Inv-loop μ-loop
 loop-holds c = jumped-none _ _ _
@@ -20,17 +21,8 @@ loop-holds c = jumped-none _ _ _
 lowest-requires : tie.Need-lowest-requires Inv-loop μ-loop
 lowest-requires c κs = omega arith
 
-add-target : tie.Need-add-target Inv-loop μ-loop
-add-target c = omega (arith, c .lowest .ensures .1)
-
-mul-target : tie.Need-mul-target Inv-loop μ-loop
-mul-target c = omega (arith, c .lowest .ensures .1)
-
-shared-slice-read-target : tie.Need-shared-slice-read-target Inv-loop μ-loop
-shared-slice-read-target c = omega (arith, c .before .lowest .ensures .1)
-
-cast-with-bit : tie.Need-cast-with-bit Inv-loop μ-loop
-cast-with-bit c = omega arith
+byte-of-requires : tie.Need-byte-of-requires Inv-loop μ-loop
+byte-of-requires c κs = omega (arith, c .lowest .ensures .1)
 
 with-bit-requires : tie.Need-with-bit-requires Inv-loop μ-loop
 with-bit-requires c κs = omega arith
@@ -43,8 +35,8 @@ loop-less c = left-smaller (c .before .before .lowest .ensures .0)
 
 loop-again : tie.Need-loop-again Inv-loop μ-loop
 loop-again c =
-    jumped-more (c .before .before .before .before .loop .inv) (c .before .before .lowest .ensures .0) refl
-    (c .with-bit .ensures) refl
+    jumped-more (c .before .before .before .before .loop .inv) (c .before .before .lowest .ensures .0)
+    (ap (λ (n : ℕ). n % word-bits) (c .before .byte-of .ensures)) (c .with-bit .ensures) refl
 
 returns : tie.Need-returns Inv-loop μ-loop
 returns c = jumped-all (c .loop-test .left) (c .before .loop .inv)
@@ -57,10 +49,7 @@ targets-spec =
     μ-loop
     loop-holds
     lowest-requires
-    add-target
-    mul-target
-    shared-slice-read-target
-    cast-with-bit
+    byte-of-requires
     with-bit-requires
     sub-rest
     loop-less

@@ -1,5 +1,5 @@
--- `moving::classes::in_class` meets its contract: the bit is the parity of what is left of its byte after a shift, and a
--- byte past the buffer's end, which counts as 0, has none.
+-- `moving::classes::in_class` meets its contract: the bit is the parity of what is left of its byte after a shift, and
+-- a byte past the buffer's end, which counts as 0, has none.
 use native.Mathlib.Omega.{arith}
 use borrow.Author.Needs.{needs}
 use borrow.Author.Tests.{eqb-true, eqb-false}

@@ -19,7 +19,7 @@ returns-2 : tie.Need-returns-2
 returns-2 c = told-even (c .if2 .taken) (c .before .if1 .left)
 
 in-class-requires : tie.Need-in-class-requires
-in-class-requires c κs = search needs
+in-class-requires c κs = omega arith
 
 returns-3 : tie.Need-returns-3
 returns-3 c = told-odd (omega (arith, c .before .if2 .left)) (c .in-class .ensures)

@@ -2,21 +2,20 @@
 -- marks are gathered in the span.
 use Prim.Native.Nat.{_≤_, _-_}
 use native.Mathlib.Omega.{arith}
-use borrow.Author.Needs.{needs}
 use Rattle.moving.specs.WordsMovedClosed.{Moving-closing, moving-none, moving-more, moving-all}
 use Rattle.moving.specs.Spans.{Spans, spans-none, spans-more, spans-all}
 use Rattle.moving.proofs.moves.move_all.Statement.{statement}
 use Rattle.moving.proofs.moves.move_all.Tie as tie
 
 abbrev Inv-loop : tie.InvT-loop
-Inv-loop reach codes classes words₀ byte pieces span₀ piece₀ words span piece = (piece ≤ pieces)
-    × Moving-closing reach classes codes words₀ words byte piece × Spans words piece (span .from) (span .to)
+Inv-loop rows classes words₀ byte pieces span₀ piece₀ words span piece = (piece ≤ pieces)
+    × Moving-closing rows classes words₀ words byte piece × Spans words piece (span .from) (span .to)
 
 abbrev μ-loop : tie.MeasureT-loop
-μ-loop reach codes classes words₀ byte pieces span₀ piece₀ words span piece = pieces - piece
+μ-loop rows classes words₀ byte pieces span₀ piece₀ words span piece = pieces - piece
 
 loop-holds : tie.Need-loop-holds Inv-loop μ-loop
-loop-holds c = (omega arith, moving-none _ _ _ _ _, spans-none _)
+loop-holds c = (omega arith, moving-none _ _ _ _, spans-none _)
 
 mul-word-after : tie.Need-mul-word-after Inv-loop μ-loop
 mul-word-after c = omega arith
@@ -25,7 +24,7 @@ slice-read-word-after : tie.Need-slice-read-word-after Inv-loop μ-loop
 slice-read-word-after c = omega arith
 
 word-after-requires : tie.Need-word-after-requires Inv-loop μ-loop
-word-after-requires c κs = (omega arith, omega arith)
+word-after-requires c κs = omega arith
 
 mul-words : tie.Need-mul-words Inv-loop μ-loop
 mul-words c = omega arith

@@ -33,9 +33,9 @@ use Rattle.closing.specs.BitsOfWords.Spots.{
 use Rattle.closing.specs.Within.{own-has}
 
 -- bit b of word k of a run, as a spot
-abbrev pub at : ℕ → ℕ → Spot
-at zero b = own b
-at (suc o) b = under o b
+abbrev pub spot-at : ℕ → ℕ → Spot
+spot-at zero b = own b
+spot-at (suc o) b = under o b
 
 -- some state has this spot
 abbrev Some-state : {A : Type 0} → Nested A → Spot → Type 0
@@ -83,12 +83,12 @@ under-onto (below x) (suc o) b h k = let (q, has, e) = under-onto x o b (omega a
 
 -- every bit of a run that is below its piece's number of states is some state's
 pub spot-onto : {A : Type 0} (x : Nested A) (k b : ℕ) → k < 1 + run x → b < getD (width x ∷ widths x) k 0
-    → Some-state x (at k b)
+    → Some-state x (spot-at k b)
 spot-onto x zero b h l = let (q, o, e) = number-onto x b l in (q, own-has x q o, own-spot x q o ∙ ap own e)
 spot-onto x (suc o) b h l = under-onto x o b (omega arith) l
 
 -- the bit of that spot
-held-bit : (k b : ℕ) (words : List ℕ) → Set-at (at k b) words ↔ Bit (getD words k 0) b
+held-bit : (k b : ℕ) (words : List ℕ) → Set-at (spot-at k b) words ↔ Bit (getD words k 0) b
 held-bit zero b words = (λ h. h, λ h. h)
 held-bit (suc o) b words = (λ h. h, λ h. h)
 

@@ -55,14 +55,14 @@ module _ {A : Type 0} (s e : A) (a b : List A) {m n : ℕ} (hm : length a ≡ m)
     two-end = moved (1 + m + n) (1 + (m + n)) (omega arith) ∙ one-end s e (a ++ b) both d
 
 -- which part of a node of two parts the number i falls in
-pub data Place (m n i : ℕ) : Type 0 where
-  at-start : i ≡ 0 → Place m n i
-  in-left : (j : ℕ) → j < m → 1 + j ≡ i → Place m n i
-  in-right : (j : ℕ) → j < n → 1 + m + j ≡ i → Place m n i
-  at-end : 1 + m + n ≡ i → Place m n i
+pub data Falls-in (m n i : ℕ) : Type 0 where
+  at-start : i ≡ 0 → Falls-in m n i
+  in-left : (j : ℕ) → j < m → 1 + j ≡ i → Falls-in m n i
+  in-right : (j : ℕ) → j < n → 1 + m + j ≡ i → Falls-in m n i
+  at-end : 1 + m + n ≡ i → Falls-in m n i
 
 -- each number falls in one of them
-pub place : (m n i : ℕ) → i < 1 + m + n + 1 → Place m n i
+pub place : (m n i : ℕ) → i < 1 + m + n + 1 → Falls-in m n i
 place m n zero h = at-start refl
 place m n (suc i) h = elim (decLt i m) [
   | yes l ↦ in-left i l (omega arith)
