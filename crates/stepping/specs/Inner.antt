@@ -1,8 +1,8 @@
--- The layer inside: the marks of a start and of a step over the tables of a list, which are made once.
-use Prim.Native.Nat.{ℕ, zero, suc, _+_, _-_, _≤_, _<_}
+-- The layer inside: the marks of a start and of a step over the rows of a list, which are made once.
+use Prim.Native.Nat.{ℕ, zero, suc, _+_, _*_, _-_, _≤_, _<_}
 use native.Mathlib.Omega.{arith}
 use mathlib.Core.Path.{_≡_, refl, sym, ap, _∙_, subst}
-use mathlib.Core.Bool.{Bool, true, false, false≢true}
+use mathlib.Core.Bool.{Bool, true, false}
 use mathlib.Core.Logic.{_↔_, ⊎-elim, Iff·trans, Iff·symm}
 use mathlib.Core.List.{List, [], _∷_, _++_}
 use native.Mathlib.Numerals.{add-one}
@@ -15,32 +15,28 @@ use Rattle.language.specs.Same.{Agree, models-same}
 use Rattle.language.specs.Simulation.{_⊆_, stepped-more}
 use Rattle.language.specs.Acceptance.{accepts-exactly}
 use Rattle.language.specs.Models.{State-of, alike-models, models-alike, models-origins}
-use Rattle.language.specs.Along.{reached-state}
+use Rattle.language.specs.AlongText.{reached-state}
 use Rattle.tree.specs.Limits.{most-pieces, most-states}
 use Rattle.tree.specs.Leaf.{Leaf, meaning, byteless}
-use Rattle.tree.specs.Records.{Good, piece-count}
+use Rattle.tree.specs.Records.{piece-count}
 use Rattle.tree.specs.Nesting.{every-below}
 use Rattle.tree.specs.Pieces.{cut-up, stated}
 use Rattle.tables.specs.Words.{word-bits, Bit, width, run, Holds, Clean, Agreeing, Set-of}
-use Rattle.tables.specs.Plan.{Pieces, Planned}
-use Rattle.closing.specs.BitsOfWords.Bits.{Tells, bit-zero, told-no}
+use Rattle.tables.specs.Plan.{row-words, top-of, Planned, Closes}
+use Rattle.closing.specs.BitsOfWords.Bits.{Tells, bit-zero, told-no, told-yes}
 use Rattle.tables.specs.Tables.{Prepared, Roomy, Ready, Holding, Answered}
 use Rattle.language.specs.Unmoved.{sweep-none}
 use Rattle.closing.specs.BitsOfWords.Zero.{All-zero}
 use Rattle.closing.specs.BitsOfWords.AllZero.{zero-holds}
-use Rattle.closing.specs.BitsOfWords.Alike.{zero-alike}
 use Rattle.moving.specs.Spans.{Spans}
-use Rattle.closing.specs.Within.{sweep-extends}
 use Rattle.stepping.specs.Hold.{Hold, Marks-of}
-use Rattle.closing.specs.EachPieceClosed.{Each-closed-below}
-use Rattle.sweeping.specs.Swept.{Nearly-closed, Quiet, In-tables}
+use Rattle.closing.specs.EachPieceClosed.{Each-closed, Each-closed-below}
+use Rattle.sweeping.specs.Swept.{Nearly-closed, Quiet, In-rows}
 use Rattle.sweeping.specs.ClosedFromState.{closed-nearly}
-use Rattle.planning.specs.Given
 use Rattle.planning.specs.Given.{small-narrow}
-use Rattle.closing.specs.Passes.Masks.{Pieces-noted}
 use Rattle.closing.specs.Passes.Laid.{Lays-each, Narrow-below, lays-each}
-use Rattle.stepping.specs.SharedStates.Low.{low-tops, checkable}
-use Rattle.stepping.specs.SharedStates.Checked.{Checkable}
+use Rattle.stepping.specs.SharedStates.Low.{checkable}
+use Rattle.stepping.specs.SharedStates.WordsChecked.{Checkable}
 use Rattle.moving.specs.WordsMovedClosed.{
   Moved-closed,
   moved-length,
@@ -50,7 +46,7 @@ use Rattle.moving.specs.WordsMovedClosed.{
   moved-each-closed,
   moved-clean,
 }
-use Rattle.sweeping.specs.Twice.{Run-of, Closable, Closed-twice, front-holds, front-clean}
+use Rattle.sweeping.specs.Twice.{Run-of, Closable, Swept-twice, Closed-twice, swept-alone, front-holds, front-clean}
 use Rattle.sweeping.specs.Simulated.{
   laid-whole,
   Start-marked,
@@ -65,12 +61,12 @@ use Rattle.sweeping.specs.Simulated.{
 use Rattle.stepping.specs.Texts.{all-words, holding-first, holding-next, accepting-answer}
 use Rattle.sweeping.specs.Visiting.{accepting-holds}
 
--- lists of so few pieces take small tables, and those of so many tables of half the largest size
-abbrev pub few-pieces : ℕ
-few-pieces = 16
+-- lists of so few pieces take few rows, and those of so many half the largest number
+abbrev pub small-table-pieces : ℕ
+small-table-pieces = 16
 
-abbrev pub some-pieces : ℕ
-some-pieces = 64
+abbrev pub half-table-pieces : ℕ
+half-table-pieces = 64
 
 -- a test that tells a fact passes exactly when the fact holds
 pub told-exactly : {P : Type 0} (answer : Bool) → Tells P answer → (answer ≡ true) ↔ P
@@ -103,6 +99,22 @@ all-narrow t = every-below small-narrow (cut-up t) (stated t .every-small .1)
 pub narrow : (t : Tree Leaf) → width (cut-up t) ≤ most-states
 narrow t = small-narrow (cut-up t) (stated t .every-small .0)
 
+-- 128 words of zero, then the root's start marked
+abbrev pub start-words : List ℕ
+start-words = set (replicate most-pieces 0) 0 1
+
+zeros : (n o : ℕ) → _≡_ {A = ℕ} (getD (replicate n 0) o 0) 0
+zeros zero o = refl
+zeros (suc n) zero = refl
+zeros (suc n) (suc o) = zeros n o
+
+begins-zero : (o : ℕ) → 0 < o → getD start-words o 0 ≡ 0
+begins-zero zero l = absurd (omega arith)
+begins-zero (suc o) l = zeros 127 o
+
+pub begins-marked : (x : Nested Leaf) → Start-marked x start-words
+begins-marked x = record { first = refl; others = λ o inside. zeros 127 o }
+
 -- the start is among the marks to start with, so that their words are not all 0
 pub some-started : (classes : List ℕ) (t : Tree Leaf) (after : List ℕ)
     → Models (cut-up t) (Holds (cut-up t) after) (Started (meaning classes) t) → All-zero (piece-count t) after → ⊥
@@ -123,17 +135,44 @@ pub record Advanced (classes : List ℕ) (t : Tree Leaf) (byte : ℕ) (before af
     pub answer : (yes' ≡ true) ↔ Stepped (meaning classes) t byte (Set-of (cut-up t) before) accepting
     pub left : (nothing ≡ true) ↔ All-zero (piece-count t) after
 
--- the tables are those of a tree of which the words are marks, but for agreement
-pub record Running (reach codes runs stands tops : List ℕ) (count : ℕ) (words : List ℕ) : Type 0 where
-  pub ready : Ready reach codes runs stands tops count
+-- rows that are ready have a first one
+pub first-row : {rows : List ℕ} {count : ℕ} → Ready rows count → row-words * 0 + row-words ≤ length rows
+first-row ready = let tree = ready .of-tree in omega (arith, all-words (tree .0), tree .1 .counted, ready .roomy)
+
+-- what closing makes of words that were moved, so that each piece is closed in itself: those of the pieces are swept
+-- twice, the others are as before
+pub record Closed-moved (rows : List ℕ) (count : ℕ) (before after : List ℕ) : Type 0 where
+  pub swept : (x : Nested Leaf) → Run-of rows count x before → Closes x (getD before 0 0) (getD before 0 0)
+      → Swept-twice x before after
+  pub others : drop count after ≡ drop count before
+
+-- two sweeps close them
+pub closed-moved : {rows : List ℕ} {count : ℕ} {before after : List ℕ} → Closed-twice rows count before after
+    → Closed-moved rows count before after
+closed-moved twice = record { swept = λ x on closed. twice .swept x on; others = twice .others }
+
+-- a single piece is closed as it is
+pub moved-alone : {rows words : List ℕ} {count : ℕ} → count ≡ 1 → Closed-moved rows count words words
+moved-alone {words = words} one = record {
+  swept = λ x on closed. swept-alone x words (omega (arith, on .counted)) (on .clean) closed;
+  others = refl;
+}
+
+-- where marks are left, the words are not all 0
+pub some-left : {words : List ℕ} {count from to : ℕ} → Spans words count from to → 0 < to → All-zero count words → ⊥
+some-left {to = to} spans some zeros = spans .some-last some (zeros (to - 1) (omega (arith, spans .within)))
+
+-- the rows are those of a tree of which the words are marks, but for agreement
+pub record Running (rows : List ℕ) (count : ℕ) (words : List ℕ) : Type 0 where
+  pub ready : Ready rows count
   pub enough : count ≤ length words
   pub clean : Clean (cut-up (ready .of-tree .0)) words
 
--- 128 words that are clean for every tree that the tables are of can be stepped
-pub running : {reach codes runs stands tops words : List ℕ} {count : ℕ} → Ready reach codes runs stands tops count
+-- 128 words that are clean for every tree that the rows are of can be stepped
+pub running : {rows words : List ℕ} {count : ℕ} → Ready rows count
     → length words ≡ most-pieces
-    → ((t : Tree Leaf) → Prepared t reach codes runs stands tops count → Clean (cut-up t) words)
-    → Running reach codes runs stands tops count words
+    → ((t : Tree Leaf) → Prepared t rows count → Clean (cut-up t) words)
+    → Running rows count words
 running ready long clean =
     let prepared = ready .of-tree .1 in
     record {
@@ -143,26 +182,24 @@ running ready long clean =
           clean (ready .of-tree .0) prepared;
     }
 
-module _ {t : Tree Leaf} {reach codes runs stands tops : List ℕ} {count : ℕ}
-    (prepared : Prepared t reach codes runs stands tops count) where
+module _ {t : Tree Leaf} {rows : List ℕ} {count : ℕ}
+    (prepared : Prepared t rows count) where
   -- there is a word for each piece
   pub prepared-count : count ≡ 1 + run (cut-up t)
   prepared-count = prepared .counted ∙ sym (all-words t)
 
-  -- the codes and masks are those of every piece
-  laid-pieces : Lays-each reach codes (cut-up t)
-  laid-pieces = lays-each reach (record { codes = codes; runs = runs; stands = stands; tops = tops }) count
-      (prepared .noted) (cut-up t) (prepared .planned) (omega (arith, prepared-count))
+  -- its rows are those of every piece
+  laid-pieces : Lays-each rows (cut-up t)
+  laid-pieces = lays-each rows (cut-up t) (prepared .planned)
 
-  -- the tables speak of every piece
-  pub prepared-laid : In-tables reach codes runs stands tops (cut-up t) 0
-  prepared-laid = laid-whole reach codes runs stands tops (cut-up t) (prepared .planned) laid-pieces (narrow t)
-      (all-narrow t)
+  -- the rows speak of every piece
+  pub prepared-laid : In-rows rows (cut-up t) 0
+  prepared-laid = laid-whole rows (cut-up t) (prepared .planned) (narrow t) (all-narrow t)
 
   -- words that are clean, and closed piece by piece but for the root's start, are the run of the pieces
   pub prepared-run : {words : List ℕ} → Clean (cut-up t) words → Nearly-closed (cut-up t) start (getD words 0 0)
       → Each-closed-below (cut-up t) (drop 1 words)
-      → Run-of reach codes runs stands tops count (cut-up t) words
+      → Run-of rows count (cut-up t) words
   prepared-run clean nearly closed = record {
     laid = prepared-laid;
     counted = prepared-count;
@@ -173,17 +210,13 @@ module _ {t : Tree Leaf} {reach codes runs stands tops : List ℕ} {count : ℕ}
   }
 
   -- and can be closed
-  pub prepared-closable : {words : List ℕ} {from to : ℕ} → Roomy count reach codes runs stands tops
+  pub prepared-closable : {words : List ℕ} {from to : ℕ} → Roomy count rows
       → count ≤ length words
-      → Run-of reach codes runs stands tops count (cut-up t) words
-      → Quiet 0 from to (take count words) → Closable reach codes runs stands tops count from to words
+      → Run-of rows count (cut-up t) words
+      → Quiet from to (take count words) → Closable rows count from to words
   prepared-closable {words} roomy enough on quiet = record {
     sized = record {
-      reach-sized = omega (arith, length-take-le count words enough, roomy .reach-room);
-      codes-sized = omega (arith, length-take-le count words enough, roomy .codes-room);
-      runs-sized = omega (arith, length-take-le count words enough, roomy .runs-room);
-      stands-sized = omega (arith, length-take-le count words enough, roomy .stands-room);
-      tops-sized = omega (arith, length-take-le count words enough, roomy .tops-room);
+      rows-sized = omega (arith, length-take-le count words enough, roomy);
       within = omega (arith, length-take-le count words enough, prepared .counted, prepared .few);
     };
     enough = enough;
@@ -193,92 +226,110 @@ module _ {t : Tree Leaf} {reach codes runs stands tops : List ℕ} {count : ℕ}
   }
 
   -- the last state of the top piece is its accepting state, and its bit is one of the word
-  pub top-low : getD tops 0 0 < word-bits
+  pub top-low : top-of rows 0 < word-bits
   top-low = omega (arith, prepared .planned .0 .topped, narrow t)
 
   -- the bit of the last state of the top piece tells whether the accepting state is marked
   pub answer-told : (words : List ℕ) (X : States) (yes' : Bool) → Models (cut-up t) (Holds (cut-up t) words) X
-      → Tells (Bit (getD words 0 0) (getD tops 0 0)) yes' → (yes' ≡ true) ↔ X accepting
-  answer-told words X yes' models told =
+      → (top : ℕ) → top ≡ top-of rows 0 → Tells (Bit (getD words 0 0) top) yes' → (yes' ≡ true) ↔ X accepting
+  answer-told words X yes' models top top-is told =
       Iff·trans (told-exactly yes' told)
-      (Iff·trans (same-bit (prepared .planned .0 .topped)) (accepting-bit (cut-up t) words X models))
+      (Iff·trans (same-bit (top-is ∙ prepared .planned .0 .topped)) (accepting-bit (cut-up t) words X models))
     where
       same-bit : {i j : ℕ} → i ≡ j → Bit (getD words 0 0) i ↔ Bit (getD words 0 0) j
       same-bit e = (subst (λ (i : ℕ). Bit (getD words 0 0) i) e, subst (λ (i : ℕ). Bit (getD words 0 0) i) (sym e))
 
   -- whether words are marks can be tested
-  pub prepared-checkable : {words : List ℕ} → Roomy count reach codes runs stands tops → count ≤ length words
-      → Checkable runs stands tops words count
+  pub prepared-checkable : {words : List ℕ} → Roomy count rows → count ≤ length words → Checkable rows words count
   prepared-checkable {words} roomy enough =
-      checkable (record { codes = codes; runs = runs; stands = stands; tops = tops }) (cut-up t) count
-      (prepared .planned) (sym prepared-count) (narrow t) (all-narrow t) words
-      (roomy .runs-room) (roomy .stands-room) (roomy .tops-room) enough
+      checkable rows (cut-up t) count (prepared .planned) (sym prepared-count) (narrow t) (all-narrow t) words roomy
+      enough
 
   -- and what the test tells
   pub prepared-told : (words : List ℕ) {answer : Bool}
-      → ((tables : Pieces) (x : Nested Leaf) → tables .runs ≡ runs → tables .stands ≡ stands → tables .tops ≡ tops
-      → Planned tables x → 1 + run x ≡ count → Tells (Clean x words × Agreeing x words) answer)
+      → ((x : Nested Leaf) → Planned rows x → 1 + run x ≡ count → Tells (Clean x words × Agreeing x words) answer)
       → Tells (Clean (cut-up t) words × Agreeing (cut-up t) words) answer
-  prepared-told words tells = tells (record { codes = codes; runs = runs; stands = stands; tops = tops }) (cut-up t)
-      refl refl refl (prepared .planned) (sym prepared-count)
+  prepared-told words tells = tells (cut-up t) (prepared .planned) (sym prepared-count)
 
-  -- from words with the root's start alone marked, closed twice, and the first of them put into the lent words
-  pub begun : (classes marked closed lent after : List ℕ) (yes' : Bool) → Start-marked (cut-up t) marked
-      → Closed-twice reach codes runs stands tops count marked closed
-      → count ≤ length closed → count ≤ length lent → after ≡ take count closed ++ drop count lent
-      → Tells (Bit (getD after 0 0) (getD tops 0 0)) yes' → Begun classes t lent after yes'
-  begun classes marked closed lent after yes' starts twice enough room put told =
+  -- from 128 words of zero, with the root's start alone marked, closed twice
+  pub begun : (classes words after : List ℕ) (yes' : Bool) → words ≡ replicate most-pieces 0
+      → Closed-twice rows count (set words 0 1) after → length after ≡ length words
+      → (top : ℕ) → top ≡ top-of rows 0 → Tells (Bit (getD after 0 0) top) yes' → Begun classes t words after yes'
+  begun classes words after yes' zero-words closed long top top-is told =
       let x = cut-up t in
-      let on = prepared-run (start-clean x marked starts) (start-nearly x marked starts)
-      (start-closed x marked starts) in
-      let front : length (take count closed) ≡ count = length-take-le count closed enough in
-      let same : take count after ≡ take count closed = ap (take count) put
-      ∙ take-at (take count closed) (drop count lent) count front in
-      let agree : Agree x (Holds x after) (Holds x closed) = same-front x count after closed prepared-count same in
+      let starts = begins-marked x in
+      let twice = subst (λ (l : List ℕ). Closed-twice rows count (set l 0 1) after) zero-words closed in
+      let swept = twice .swept x
+      (prepared-run (start-clean x start-words starts) (start-nearly x start-words starts)
+      (start-closed x start-words starts)) in
       let models : Models x (Holds x after) (Started (meaning classes) t) =
       subst (λ (s : Tree Leaf). Models x (Holds x after) (Started (meaning classes) s)) (stated t .same-tree)
-      (models-same x (Started (meaning classes) (whole x)) agree
-      (closed-start reach codes runs stands tops count x marked closed twice on classes (start-holds x marked starts)))
-      in
+      (closed-start x start-words after swept classes (start-holds x start-words starts)) in
+      let past : drop count start-words ≡ drop count (replicate most-pieces 0) = ext-drop count start-words _ refl
+      (λ k h. begins-zero k (omega (arith, prepared-count)) ∙ sym (zeros most-pieces k)) in
       record {
         hold = record {
           marks = models;
-          clean = same-clean x count after closed prepared-count same (twice .clean x on);
-          others = subst (λ (n : ℕ). drop n after ≡ drop n lent) (prepared .counted)
-              (ap (drop count) put ∙ drop-at (take count closed) (drop count lent) count front);
-          same-length = ap length put ∙ length-append (take count closed) (drop count lent)
-              ∙ omega (arith, front, length-drop count lent);
+          clean = swept .clean;
+          others = subst (λ (n : ℕ). drop n after ≡ drop n words) (prepared .counted)
+              (twice .others ∙ past ∙ ap (drop count) (sym zero-words));
+          same-length = long;
         };
-        answer = answer-told after (Started (meaning classes) t) yes' models told;
+        answer = answer-told after (Started (meaning classes) t) yes' models top top-is told;
         some = some-started classes t after models;
       }
 
-  -- words that were moved are the run of the pieces
-  pub moved-run : {classes : List ℕ} {byte : ℕ} {before moved : List ℕ} → Moved-closed reach classes codes before moved
-      byte count
-      → Clean (cut-up t) before → Run-of reach codes runs stands tops count (cut-up t) moved
-  moved-run went clean =
+  -- and the first of them put into the lent words
+  pub begun-copy : {classes words marks lent after : List ℕ} {yes' : Bool} → Begun classes t words marks yes'
+      → count ≤ length marks → count ≤ length lent → after ≡ take count marks ++ drop count lent
+      → Begun classes t lent after yes'
+  begun-copy {classes} {words} {marks} {lent} {after} marked enough room put =
       let x = cut-up t in
-      let room : 1 + run x ≤ count = omega (arith, prepared-count) in
-      let closed = moved-each-closed went x laid-pieces room (narrow t) (all-narrow t) clean in
-      prepared-run (moved-clean went x laid-pieces room (narrow t) (all-narrow t) clean) (closed-nearly (closed .0))
-      (closed .1)
+      let front : length (take count marks) ≡ count = length-take-le count marks enough in
+      let same : take count after ≡ take count marks = ap (take count) put
+      ∙ take-at (take count marks) (drop count lent) count front in
+      let models : Models x (Holds x after) (Started (meaning classes) t) =
+      models-same x (Started (meaning classes) t) (same-front x count after marks prepared-count same)
+      (marked .hold .marks) in
+      record {
+        hold = record {
+          marks = models;
+          clean = same-clean x count after marks prepared-count same (marked .hold .clean);
+          others = subst (λ (n : ℕ). drop n after ≡ drop n lent) (prepared .counted)
+              (ap (drop count) put ∙ drop-at (take count marks) (drop count lent) count front);
+          same-length = ap length put ∙ length-append (take count marks) (drop count lent)
+              ∙ omega (arith, front, length-drop count lent);
+        };
+        answer = marked .answer;
+        some = some-started classes t after models;
+      }
 
-  -- from words moved along the byte, and closed twice
-  pub advanced : {classes : List ℕ} (byte : ℕ) (before moved after : List ℕ) (yes' : Bool) → Marks-of t before
-      → Moved-closed reach classes codes before moved byte count → Closed-twice reach codes runs stands tops count
-      moved after
-      → length after ≡ length moved → Tells (Bit (getD after 0 0) (getD tops 0 0)) yes' → {nothing : Bool}
-      → (nothing ≡ true) ↔ All-zero (piece-count t) after → Advanced classes t byte before after yes' nothing
-  advanced {classes} byte before moved after yes' marks went twice long told left =
+  module _ {classes : List ℕ} {byte : ℕ} {before moved : List ℕ}
+      (went : Moved-closed rows classes before moved byte count) (clean : Clean (cut-up t) before) where
+    -- words that were moved are closed piece by piece
+    moved-closed : Each-closed (cut-up t) moved
+    moved-closed = moved-each-closed went (cut-up t) laid-pieces (omega (arith, prepared-count)) (narrow t)
+        (all-narrow t) clean
+
+    -- and are the run of the pieces
+    pub moved-run : Run-of rows count (cut-up t) moved
+    moved-run = prepared-run
+        (moved-clean went (cut-up t) laid-pieces (omega (arith, prepared-count)) (narrow t) (all-narrow t) clean)
+        (closed-nearly (moved-closed .0)) (moved-closed .1)
+
+  -- from words moved along the byte, and closed
+  pub advanced : {classes : List ℕ} (byte : ℕ) (before moved after : List ℕ) (yes' nothing : Bool) → Marks-of t before
+      → Moved-closed rows classes before moved byte count → Closed-moved rows count moved after
+      → length after ≡ length moved → (top : ℕ) → top ≡ top-of rows 0 → Tells (Bit (getD after 0 0) top) yes'
+      → Tells (All-zero count after) nothing → Advanced classes t byte before after yes' nothing
+  advanced {classes} byte before moved after yes' nothing marks went closed long top top-is told left =
       let x = cut-up t in
       let room : 1 + run x ≤ count = omega (arith, prepared-count) in
-      let on = moved-run went (marks .clean) in
+      let swept = closed .swept x (moved-run went (marks .clean)) (moved-closed went (marks .clean) .0) in
       let models : Models x (Holds x after) (Stepped (meaning classes) t byte (Set-of x before)) =
       subst (λ (s : Tree Leaf). Models x (Holds x after) (Stepped (meaning classes) s byte (Set-of x before)))
       (stated t .same-tree)
-      (closed-step reach codes runs stands tops count x moved after twice on classes byte (Holds x before)
-      (Set-of x before)
+      (closed-step x moved after swept classes byte (Holds x before) (Set-of x before)
       (alike-models x (Holds x before) (marks .agreeing))
       (moved-keeps went x laid-pieces room (narrow t) (all-narrow t) (marks .clean))
       (moved-within went x laid-pieces room (narrow t) (all-narrow t) (marks .clean)))
@@ -286,59 +337,39 @@ module _ {t : Tree Leaf} {reach codes runs stands tops : List ℕ} {count : ℕ}
       record {
         hold = record {
           marks = models;
-          clean = twice .clean x on;
+          clean = swept .clean;
           others = subst (λ (n : ℕ). drop n after ≡ drop n before) (prepared .counted)
-              (twice .others ∙ ext-drop count moved before (moved-length went) (moved-others went));
+              (closed .others ∙ ext-drop count moved before (moved-length went) (moved-others went));
           same-length = long ∙ moved-length went;
         };
-        answer = answer-told after (Stepped (meaning classes) t byte (Set-of x before)) yes' models told;
-        left = left;
+        answer = answer-told after (Stepped (meaning classes) t byte (Set-of x before)) yes' models top top-is told;
+        left = told-exactly nothing (subst (λ (n : ℕ). Tells (All-zero n after) nothing) (prepared .counted) left);
       }
 
-  module _ {classes : List ℕ} {byte from to : ℕ} {before moved : List ℕ} (marks : Marks-of t before)
-      (went : Moved-closed reach classes codes before moved byte count) (spans : Spans moved count from to)
-      (enough : count ≤ length before) where
-    -- where no word has a mark after the move, closing makes none
-    pub advanced-none : to ≡ 0 → Advanced classes t byte before moved false true
-    advanced-none none =
-        let zeros : All-zero count moved = λ k h. spans .none-after k (omega arith) h in
-        let empty : (x : Nested Leaf) → Run-of reach codes runs stands tops count x moved → (q : State) → Has x q
-        → Holds x moved q → ⊥ =
-        λ x on. zero-holds x moved (subst (λ (n : ℕ). All-zero n moved) (on .counted) zeros) in
-        advanced byte before moved moved false marks went
-        record {
-          marks = λ x on q h. (
+  -- where no word has a mark after the move, closing makes none
+  pub advanced-none : {classes : List ℕ} {byte from to : ℕ} {before moved : List ℕ} → Marks-of t before
+      → Moved-closed rows classes before moved byte count → Spans moved count from to → to ≡ 0
+      → Advanced classes t byte before moved false true
+  advanced-none {byte = byte} {before = before} {moved = moved} marks went spans none =
+      let zeros : All-zero count moved = λ k h. spans .none-after k (omega arith) h in
+      let empty : (x : Nested Leaf) → Run-of rows count x moved → (q : State) → Has x q → Holds x moved q → ⊥ =
+      λ x on. zero-holds x moved (subst (λ (n : ℕ). All-zero n moved) (on .counted) zeros) in
+      advanced byte before moved moved false true marks went
+      record {
+        swept = λ x on closed. record {
+          marks = λ q h. (
             λ held. absurd (empty x on q h held),
             λ m. absurd (sweep-none byteless x (Sweep byteless x (Holds x moved))
                 (sweep-none byteless x (Holds x moved) (empty x on)) q h m),
           );
-          clean = λ x on. on .clean;
-          others = refl;
-        }
-        refl
-        (told-no (λ b. bit-zero (getD tops 0 0)
-        (subst (λ (v : ℕ). Bit v (getD tops 0 0)) (zeros 0 (omega (arith, prepared-count))) b)))
-        (λ e. subst (λ (n : ℕ). All-zero n moved) (prepared .counted) zeros, λ all. refl)
-
-    -- where one has, closing keeps it
-    pub advanced-some : (after : List ℕ) (yes' : Bool) → 0 < to
-        → Closed-twice reach codes runs stands tops count moved after → length after ≡ length moved
-        → Tells (Bit (getD after 0 0) (getD tops 0 0)) yes' → Advanced classes t byte before after yes' false
-    advanced-some after yes' some twice long told =
-        advanced byte before moved after yes' marks went twice long told
-        (λ e. absurd (false≢true e), λ zeros. absurd (spans .some-last some (gone zeros)))
-      where
-        gone : All-zero (piece-count t) after → getD moved (to - 1) 0 ≡ 0
-        gone zeros =
-            let x = cut-up t in
-            let on = moved-run went (marks .clean) in
-            let all : All-zero (1 + run x) after = rw (all-words t) zeros in
-            zero-alike x moved after (on .clean) (twice .clean x on)
-            (λ q has held. zero-holds x after all q has (twice .marks x on q has .1
-            (sweep-extends x (Sweep byteless x (Holds x moved)) q (sweep-extends x (Holds x moved) q held))))
-            (omega (arith, prepared-count, moved-length went, enough))
-            (omega (arith, prepared-count, moved-length went, long, enough)) all (to - 1)
-            (omega (arith, prepared-count, spans .within))
+          clean = on .clean;
+        };
+        others = refl;
+      }
+      refl (top-of rows 0) refl
+      (told-no (λ b. bit-zero (top-of rows 0)
+      (subst (λ (v : ℕ). Bit v (top-of rows 0)) (zeros 0 (omega (arith, prepared-count))) b)))
+      (told-yes zeros)
 
 -- words that hold the marks after a text are marks
 pub holding-marks : {classes : List ℕ} {t : Tree Leaf} {w words : List ℕ} → Holding classes t w words → Marks-of t words
@@ -361,9 +392,9 @@ answered-first {classes} {t} begins =
     }
 
 -- words of which the first are put in the place of others answer the same
-pub answered-copy : {classes : List ℕ} {t : Tree Leaf} {reach codes runs stands tops w after : List ℕ} {count : ℕ}
+pub answered-copy : {classes : List ℕ} {t : Tree Leaf} {rows w after : List ℕ} {count : ℕ}
     {yes' : Bool}
-    (from to : List ℕ) → Prepared t reach codes runs stands tops count
+    (from to : List ℕ) → Prepared t rows count
     → count ≤ length from → after ≡ take count from ++ drop count to → Answered classes t w from yes'
     → Answered classes t w after yes'
 answered-copy {classes} {t} {w = w} {after = after} {count = count} from to prepared enough put answered =
@@ -406,10 +437,9 @@ answered-next {classes} {t} {w} {before} {after} {b} {yes'} {nothing} holding we
     }
 
 -- words that were moved can be closed, where the marks are from `from` up to `to`
-pub moved-closable : {reach classes codes runs stands tops : List ℕ} {count byte from to : ℕ} {before moved : List ℕ}
-    → Running reach codes runs stands tops count before
-    → Moved-closed reach classes codes before moved byte count → Spans moved count from to
-    → Closable reach codes runs stands tops count from to moved
+pub moved-closable : {rows classes : List ℕ} {count byte from to : ℕ} {before moved : List ℕ}
+    → Running rows count before → Moved-closed rows classes before moved byte count → Spans moved count from to
+    → Closable rows count from to moved
 moved-closable {count = count} {moved = moved} running went spans =
     let prepared = running .ready .of-tree .1 in
     let enough : count ≤ length moved = omega (arith, moved-length went, running .enough) in
@@ -418,54 +448,18 @@ moved-closable {count = count} {moved = moved} running went spans =
     getD-take count moved o 0 inside
     ∙ ⊎-elim (λ g. spans .none-before o (omega arith)) (λ g. spans .none-after o (omega arith) inside) out)
 
--- 128 words of zero, then the root's start marked
-abbrev pub begins : List ℕ
-begins = set (replicate most-pieces 0) 0 1
-
-zeros : (n o : ℕ) → _≡_ {A = ℕ} (getD (replicate n 0) o 0) 0
-zeros zero o = refl
-zeros (suc n) zero = refl
-zeros (suc n) (suc o) = zeros n o
-
-pub begins-marked : (x : Nested Leaf) → Start-marked x begins
-begins-marked x = record { first = refl; others = λ o inside. zeros 127 o }
-
 -- words with the root's start alone marked can be closed
-pub start-closable : {reach codes runs stands tops : List ℕ} {count : ℕ} → Ready reach codes runs stands tops count
-    → Closable reach codes runs stands tops count 0 0 begins
+pub start-closable : {rows : List ℕ} {count : ℕ} → Ready rows count
+    → Closable rows count 0 0 start-words
 start-closable {count = count} ready =
     let x = cut-up (ready .of-tree .0) in
     let prepared = ready .of-tree .1 in
     let enough : count ≤ most-pieces = omega (arith, prepared .counted, prepared .few) in
     prepared-closable prepared (ready .roomy) enough
-    (prepared-run prepared (start-clean x begins (begins-marked x)) (start-nearly x begins (begins-marked x))
-    (start-closed x begins (begins-marked x)))
-    (λ o l h out. getD-take count begins o 0 (omega (arith, length-take-le count begins enough)) ∙ later o l)
-  where
-    later : (o : ℕ) → 0 < o → getD begins o 0 ≡ 0
-    later zero l = absurd (omega arith)
-    later (suc o) l = zeros 127 o
-
--- the tables that were made are those of t, once the masks are made
-pub prepared-of : {list reach codes runs stands tops : List ℕ} {count : ℕ} (t : Tree Leaf) → Good list t
-    → Given.Laid t codes runs stands tops count → Pieces-noted codes tops reach count
-    → Prepared t reach codes runs stands tops count
-prepared-of t good made notes = record {
-  planned = made .planned;
-  noted = notes .noted;
-  counted = made .counted;
-  few = good .few;
-}
-
--- every top is a number of a state
-pub tops-low : {codes runs stands tops : List ℕ} {count : ℕ} (t : Tree Leaf)
-    → Given.Laid t codes runs stands tops count → (k : ℕ) → k < count → getD tops k 0 < word-bits
-tops-low {count = count} t made k inside =
-    omega (
-      arith,
-      low-tops _ (cut-up t) count (made .planned) (all-words t ∙ sym (made .counted)) (narrow t)
-          (all-narrow t) k inside,
-    )
+    (prepared-run prepared (start-clean x start-words (begins-marked x)) (start-nearly x start-words (begins-marked x))
+    (start-closed x start-words (begins-marked x)))
+    (λ o l h out. getD-take count start-words o 0 (omega (arith, length-take-le count start-words enough))
+    ∙ begins-zero o l)
 
 -- the first i of `count` words are put in the place of the old ones
 pub record Copying (from old : List ℕ) (count : ℕ) (new : List ℕ) (i : ℕ) : Type 0 where

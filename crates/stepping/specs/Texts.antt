@@ -11,7 +11,7 @@ use Rattle.language.specs.Automaton.{State, accepting, States, Started, Stepped
 use Rattle.language.specs.Nested.{Nested, Models}
 use Rattle.language.specs.Acceptance.{accepts-exactly}
 use Rattle.language.specs.Models.{origin-onto}
-use Rattle.language.specs.Along.{after-step, reached-state, none-longer}
+use Rattle.language.specs.AlongText.{after-step, reached-state, none-longer}
 use Rattle.tree.specs.Leaf.{Leaf, meaning, Matches}
 use Rattle.tree.specs.Records.{piece-count}
 use Rattle.tree.specs.Pieces.{cut-up, stated}

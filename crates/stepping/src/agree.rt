@@ -1,16 +1,19 @@
 // Refusal 13: whether a bit past a last state is set, or the two bits of a shared state differ.
-ghost use Prim.Native.Nat.{ℕ, _+_, _^_, _≤_, _<_};
+use tables::rows::run_of;
+use tables::rows::stand_of;
+use tables::rows::top_of;
+ghost use Prim.Native.Nat.{ℕ, _+_, _*_, _^_, _≤_, _<_};
 ghost use mathlib.Core.Logic.{_↔_};
 ghost use mathlib.Core.Path.{_≡_};
-ghost use lib.ListN.{length, getD};
+ghost use lib.ListN.{length};
 ghost use Rattle.language.specs.Nested.{Nested};
 ghost use Rattle.tree.specs.Leaf.{Leaf};
 ghost use Rattle.tables.specs.Words.{word-bits, Bit, run, Clean, Agreeing};
 ghost use Rattle.tree.specs.Limits.{most-states};
-ghost use Rattle.tables.specs.Plan.{Pieces, Planned};
+ghost use Rattle.tables.specs.Plan.{row-words, run-of, Planned};
 ghost use Rattle.closing.specs.BitsOfWords.Bits.{Tells};
 ghost use Rattle.stepping.specs.SharedStates.Parents.{Parent};
-ghost use Rattle.stepping.specs.SharedStates.Checked.{Pair-agrees, Child-agrees, Checkable};
+ghost use Rattle.stepping.specs.SharedStates.WordsChecked.{Pair-agrees, Child-agrees, Checkable};
 
 // Whether bit i of one word is as bit j of another.
 fn same_bit(one: u64, i: usize, other: u64, j: usize) -> bool
@@ -29,12 +32,12 @@ fn none_past(word: u64, top: usize) -> bool
 }
 
 // The piece that a child piece hangs below: the last one before it whose run reaches past it.
-fn parent(runs: &[u8], child: usize) -> usize
-    requires { ⌜ (0 < child) × (child < getD (now runs) 0 0) × (child ≤ length (now runs)) ⌝ }
-    ensures { λ r. ⌜ Parent (now (runs .entry)) child r ⌝ }
+fn parent(rows: &[u64], child: usize) -> usize
+    requires { ⌜ (0 < child) × (child < run-of (now rows) 0) × (row-words * child ≤ length (now rows)) ⌝ }
+    ensures { λ r. ⌜ Parent (now (rows .entry)) child r ⌝ }
 {
     let mut at = child - 1;
-    while at + runs[at] as usize <= child {
+    while at + run_of(rows, at) <= child {
         at -= 1;
     }
     at
@@ -55,37 +58,26 @@ fn pair_agrees(above: u64, stand: usize, word: u64, top: usize) -> bool
 }
 
 // Whether the child piece's bits are those of its stand-in.
-fn child_agrees(
-    runs: &[u8],
-    stands: &[u8],
-    tops: &[u8],
-    words: &[u64],
-    pieces: usize,
-    child: usize,
-) -> bool
-    requires { ⌜ Checkable (now runs) (now stands) (now tops) (now words) pieces × (0 < child) × (child < pieces) ⌝ }
-    ensures { λ r.
-        ⌜ Tells (Child-agrees (now (runs .entry)) (now (stands .entry)) (now (tops .entry)) (now (words .entry)) child)
-        r ⌝ }
+fn child_agrees(rows: &[u64], words: &[u64], pieces: usize, child: usize) -> bool
+    requires { ⌜ Checkable (now rows) (now words) pieces × (0 < child) × (child < pieces) ⌝ }
+    ensures { λ r. ⌜ Tells (Child-agrees (now (rows .entry)) (now (words .entry)) child) r ⌝ }
 {
-    let over = parent(runs, child);
-    let stand = stands[child] as usize;
-    let top = tops[child] as usize;
+    let over = parent(rows, child);
+    let stand = stand_of(rows, child);
+    let top = top_of(rows, child);
     pair_agrees(words[over], stand, words[child], top)
 }
 
 // Whether the words may be stepped: no bit past a last state is set, and the two bits of each shared state agree.
-pub fn agreeing(runs: &[u8], stands: &[u8], tops: &[u8], words: &[u64], pieces: usize) -> bool
-    requires { ⌜ Checkable (now runs) (now stands) (now tops) (now words) pieces ⌝ }
-    ensures { λ r. ⌜ ((tables : Pieces) (x : Nested Leaf) → tables .runs ≡ now (runs .entry)
-        → tables .stands ≡ now (stands .entry) → tables .tops ≡ now (tops .entry) → Planned tables x
-        → 1 + run x ≡ pieces → Tells (Clean x (now (words .entry)) × Agreeing x (now (words .entry))) r) ⌝ }
+pub fn agreeing(rows: &[u64], words: &[u64], pieces: usize) -> bool
+    requires { ⌜ Checkable (now rows) (now words) pieces ⌝ }
+    ensures { λ r. ⌜ ((x : Nested Leaf) → Planned (now (rows .entry)) x → 1 + run x ≡ pieces
+        → Tells (Clean x (now (words .entry)) × Agreeing x (now (words .entry))) r) ⌝ }
 {
-    let top = tops[0] as usize;
-    if none_past(words[0], top) {
+    if none_past(words[0], top_of(rows, 0)) {
         let mut child = 1;
         while child < pieces {
-            if child_agrees(runs, stands, tops, words, pieces, child) {
+            if child_agrees(rows, words, pieces, child) {
                 child += 1;
             } else {
                 return false;

@@ -18,8 +18,8 @@ use Rattle.sweeping.specs.Swept.{passed, Nearly-closed}
 use Rattle.sweeping.specs.Passing.{bit-passed}
 
 -- r closes the word, for every tree in which it is closed but for what its state of that number reaches
-pub record Closes-from (reach codes : List ℕ) (piece word state r : ℕ) : Type 0 where
-  pub closes : (x : Nested Leaf) (s : State) → width x ≤ most-states → Lays reach codes x piece → word < 2 ^ width x
+pub record Closes-from (rows : List ℕ) (piece word state r : ℕ) : Type 0 where
+  pub closes : (x : Nested Leaf) (s : State) → width x ≤ most-states → Lays rows x piece → word < 2 ^ width x
       → Own x s → number x s ≡ state → Nearly-closed x s word → Closes x word r
 
 module _ {x : Nested Leaf} {s : State} {word : ℕ} (small : word < 2 ^ width x) (nearly : Nearly-closed x s word) where
@@ -56,17 +56,17 @@ module _ {x : Nested Leaf} {s : State} {word : ℕ} (small : word < 2 ^ width x)
   }
 
 -- the two cases, for the state of a number
-pub closes-unmarked : (reach codes : List ℕ) (k word state : ℕ) → (Bit word state → ⊥)
-    → Closes-from reach codes k word state word
-closes-unmarked reach codes k word state none = record {
+pub closes-unmarked : (rows : List ℕ) (k word state : ℕ) → (Bit word state → ⊥)
+    → Closes-from rows k word state word
+closes-unmarked rows k word state none = record {
   closes = λ x s narrow lays small own-s at nearly. unmarked-closed small nearly (λ b. none (subst (Bit word) at b));
 }
 
-pub closes-marked : (reach codes : List ℕ) (k word state alone row : ℕ) → Bit word state
+pub closes-marked : (rows : List ℕ) (k word state alone row : ℕ) → Bit word state
     → alone ≡ bitOr 0 (2 ^ state)
-    → ((x : Nested Leaf) → width x ≤ most-states → Lays reach codes x k → alone < 2 ^ width x → Closes x alone row)
-    → Closes-from reach codes k word state (bitOr word row)
-closes-marked reach codes k word state alone row marked e closes = record {
+    → ((x : Nested Leaf) → width x ≤ most-states → Lays rows x k → alone < 2 ^ width x → Closes x alone row)
+    → Closes-from rows k word state (bitOr word row)
+closes-marked rows k word state alone row marked e closes = record {
   closes = λ x s narrow lays small own-s at nearly.
       marked-closed small nearly alone row (only x s at) own-s (subst (Bit word) (sym at) marked)
       (closes x narrow lays (below-of-bits (width x) alone (λ j b.
@@ -81,6 +81,11 @@ closes-marked reach codes k word state alone row marked e closes = record {
 
     only : (x : Nested Leaf) (s : State) → number x s ≡ state → (i : ℕ) → Bit alone i ↔ (i ≡ number x s)
     only x s at i = subst (λ (v : ℕ). Bit v i ↔ (i ≡ number x s)) (sym e) (one x s at i)
+
+-- a word with a mark, and whatever is joined to it, is not 0
+pub marked-joined : (word row state : ℕ) → Bit word state → bitOr word row ≡ 0 → ⊥
+marked-joined word row state b e =
+    bit-zero state (subst (λ (v : ℕ). Bit v state) e (bit-or word row state .1 (inl b)))
 
 -- a closed word is closed but for nothing
 pub closed-nearly : {x : Nested Leaf} {s : State} {w : ℕ} → Closes x w w → Nearly-closed x s w

@@ -14,7 +14,7 @@ use Rattle.tree.specs.Leaf.{Leaf, byteless}
 use Rattle.tables.specs.Words.{Bit, width, run, Holds}
 use Rattle.tables.specs.Plan.{Closes}
 use Rattle.closing.specs.BitsOfWords.Bits.{dec-bit, bit-zero, same-bits}
-use Rattle.sweeping.specs.Swept.{passed, Missed, Child, part, started, Visited}
+use Rattle.sweeping.specs.Swept.{passed, Missed, Child-piece, child-run, started, Visited}
 use Rattle.sweeping.specs.Passing.{bit-passed, passed-below}
 use Rattle.closing.specs.BitsOfWords.AllZero.{zero-holds}
 use Rattle.closing.specs.Within.{sweep-extends}
@@ -22,8 +22,8 @@ use Rattle.sweeping.specs.Visiting.{own-holds, part-at, started-own, sta
 use Rattle.sweeping.specs.ClosedFromState.{closes-keeps}
 use Rattle.sweeping.specs.RunOfChildren.{Gone, Further, Visitable}
 
-module _ {reach codes runs stands tops : List ℕ} {x : Nested Leaf} {c : Child} {k at : ℕ} {words : List ℕ}
-    (can : Visitable reach codes runs stands tops x c k at words) where
+module _ {rows : List ℕ} {x : Nested Leaf} {c : Child-piece} {at : ℕ} {words : List ℕ}
+    (can : Visitable rows x c at words) where
   -- the own word with the accepting state passed up has no bit past the last state
   raised-small : (after : List ℕ)
       → passed (getD after (c .from) 0) (width (c .tree) - 1) (getD words 0 0) (c .stand + 1) < 2 ^ width x
@@ -45,7 +45,7 @@ module _ {reach codes runs stands tops : List ℕ} {x : Nested Leaf} {c : Child}
     }
 
     -- its first word is that of its run
-    first : getD (part c after) 0 0 ≡ getD after (c .from) 0
+    first : getD (child-run c after) 0 0 ≡ getD after (c .from) 0
     first = part-at c after 0 (omega arith) ∙ ap (λ (o : ℕ). getD after o 0) (omega arith)
 
     -- a marked start was passed down
@@ -53,17 +53,17 @@ module _ {reach codes runs stands tops : List ℕ} {x : Nested Leaf} {c : Child}
     started-down b =
         let begun : Bit (getD (started c words) 0 0) 0 =
         subst (λ (w : ℕ). Bit w 0) (sym (started-own c words (omega (arith, can .here, can .room))))
-        (bit-passed (getD words 0 0) (c .stand) (getD (part c words) 0 0) 0 0 .1 (inr (refl, b)))
+        (bit-passed (getD words 0 0) (c .stand) (getD (child-run c words) 0 0) 0 0 .1 (inr (refl, b)))
         in
-        let kept : Holds (c .tree) (part c after) start =
+        let kept : Holds (c .tree) (child-run c after) start =
         visited .swept .marks start tt .1
         (sweep-extends (c .tree) (Holds (c .tree) (started c words)) start
         (own-holds (c .tree) (started c words) start tt tt .1 begun))
         in
-        subst (λ (w : ℕ). Bit w 0) first (own-holds (c .tree) (part c after) start tt tt .0 kept)
+        subst (λ (w : ℕ). Bit w 0) first (own-holds (c .tree) (child-run c after) start tt tt .0 kept)
 
     -- and the child piece stands as one that was gone through
-    pub gone : (settled' ≡ true → Settled byteless (c .tree) (Holds (c .tree) (part c after)))
+    pub gone : (settled' ≡ true → Settled byteless (c .tree) (Holds (c .tree) (child-run c after)))
         → Gone after waiting' settled' (at + (1 + run (c .tree))) c
     gone rests = record {
       behind = omega (arith, can .here);
@@ -80,11 +80,11 @@ module _ {reach codes runs stands tops : List ℕ} {x : Nested Leaf} {c : Child}
       at-rest = rests;
     }
 
-module _ {reach codes runs stands tops : List ℕ} {x : Nested Leaf} {c : Child} {k at : ℕ} {words : List ℕ}
-    (can : Visitable reach codes runs stands tops x c k at words)
+module _ {rows : List ℕ} {x : Nested Leaf} {c : Child-piece} {at : ℕ} {words : List ℕ}
+    (can : Visitable rows x c at words)
     (unmarked : Bit (getD words 0 0) (c .stand) → ⊥) (none : (o : ℕ) → o < 1 + run (c .tree)
     → getD words (at + o) 0 ≡ 0) where
-  zero-part : (o : ℕ) → o < 1 + run (c .tree) → getD (part c words) o 0 ≡ 0
+  zero-part : (o : ℕ) → o < 1 + run (c .tree) → getD (child-run c words) o 0 ≡ 0
   zero-part o l = part-at c words o l ∙ ap (λ (a : ℕ). getD words (a + o) 0) (can .here) ∙ none o l
 
   zero-first : getD words (c .from) 0 ≡ 0
@@ -95,7 +95,7 @@ module _ {reach codes runs stands tops : List ℕ} {x : Nested Leaf} {c : Child}
   start-same = same-bits (getD (started c words) 0 0) 0 (λ i. (
     λ b. absurd (⊎-elim (λ m. bit-zero i (subst (λ (w : ℕ). Bit w i) (zero-part 0 (omega arith)) m))
         (λ m. unmarked (m .1))
-        (bit-passed (getD words 0 0) (c .stand) (getD (part c words) 0 0) 0 i .0
+        (bit-passed (getD words 0 0) (c .stand) (getD (child-run c words) 0 0) 0 i .0
         (subst (λ (w : ℕ). Bit w i) (started-own c words (omega (arith, can .here, can .room))) b))),
     λ b. absurd (bit-zero i b),
   ))
@@ -119,7 +119,7 @@ module _ {reach codes runs stands tops : List ℕ} {x : Nested Leaf} {c : Child}
   visited-at-rest = record {
     swept = record {
       marks = λ q h. (
-        λ m. absurd (zero-holds (c .tree) (part c words) zero-part q h m),
+        λ m. absurd (zero-holds (c .tree) (child-run c words) zero-part q h m),
         λ m. absurd (sweep-none byteless (c .tree) (Holds (c .tree) (started c words))
             (zero-holds (c .tree) (started c words) zero-started) q h m),
       );
@@ -132,7 +132,7 @@ module _ {reach codes runs stands tops : List ℕ} {x : Nested Leaf} {c : Child}
   }
 
   -- and it is settled
-  pub settled-at-rest : Settled byteless (c .tree) (Holds (c .tree) (part c words))
+  pub settled-at-rest : Settled byteless (c .tree) (Holds (c .tree) (child-run c words))
   settled-at-rest = settled-agree byteless (c .tree)
-      (λ q h. (λ m. absurd m, zero-holds (c .tree) (part c words) zero-part q h))
+      (λ q h. (λ m. absurd m, zero-holds (c .tree) (child-run c words) zero-part q h))
       (settled-none byteless (c .tree))

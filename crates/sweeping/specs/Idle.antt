@@ -16,24 +16,24 @@ use Rattle.sweeping.specs.Passing.{missed-with}
 use Rattle.sweeping.specs.RunOfChildren.{Under-way, waiting-child}
 use Rattle.sweeping.specs.GoneThrough.{further, gone, visited-at-rest, settled-at-rest}
 
-module _ (reach codes runs stands tops : List ℕ) (x : Nested Leaf) (k : ℕ) (begun : List ℕ)
-    (sweepable : Sweepable reach codes runs stands tops x k begun)
+module _ (rows : List ℕ) (x : Nested Leaf) (begun : List ℕ)
+    (sweepable : Sweepable rows x begun)
     (words : List ℕ) (settled : Bool) (same : length words ≡ length begun) (unmarked : getD words 0 0 ≡ 0) where
   -- a sweep under way that has come to its end
   pub record Ended : Type 0 where
     pub at : ℕ
     pub waiting : ℕ
     pub past : length words ≤ at
-    pub way : Under-way reach codes runs stands tops x k begun words at waiting settled
+    pub way : Under-way rows x begun words at waiting settled
 
   -- each child piece that is left is passed over
   finish : (m at waiting : ℕ) → length words ≤ at + m → ((o : ℕ) → at ≤ o → o < length words → getD words o 0 ≡ 0)
-      → Under-way reach codes runs stands tops x k begun words at waiting settled → Ended
+      → Under-way rows x begun words at waiting settled → Ended
   finish zero at waiting h none way = record { at = at; waiting = waiting; past = omega arith; way = way }
   finish (suc m) at waiting h none way = elim (decLt at (length words)) [
     | no l ↦ record { at = at; waiting = waiting; past = omega arith; way = way }
     | yes l ↦
-        let w = waiting-child reach codes runs stands tops x k begun sweepable words at waiting settled same way l in
+        let w = waiting-child rows x begun sweepable words at waiting settled same way l in
         let c = w .child in
         let rest : Bit (getD words 0 0) (c .stand)
         → ⊥ = λ b. bit-zero (c .stand) (subst (λ (v : ℕ). Bit v (c .stand)) unmarked b) in
@@ -50,5 +50,5 @@ module _ (reach codes runs stands tops : List ℕ) (x : Nested Leaf) (k : ℕ) (
   ]
 
   pub finished : (at waiting : ℕ) → ((o : ℕ) → at ≤ o → o < length words → getD words o 0 ≡ 0)
-      → Under-way reach codes runs stands tops x k begun words at waiting settled → Ended
+      → Under-way rows x begun words at waiting settled → Ended
   finished at waiting none way = finish (length words) at waiting (omega arith) none way

@@ -14,25 +14,24 @@ use Rattle.language.specs.Settled.{Settled}
 use Rattle.tree.specs.Limits.{most-states}
 use Rattle.tree.specs.Leaf.{Leaf, byteless}
 use Rattle.tables.specs.Words.{Bit, width, run, Holds, Clean}
-use Rattle.tables.specs.Plan.{Children-at, Closes}
-use Rattle.closing.specs.Passes.Laid.{Lays, Lays-below, Narrow-below}
+use Rattle.tables.specs.Plan.{stand-of, Children-at, Closes}
+use Rattle.closing.specs.Passes.Laid.{Lays, Narrow-below, lays}
 use Rattle.closing.specs.EachPieceClosed.{Each-closed, Each-closed-below, closed-same}
 use Rattle.sweeping.specs.Swept.{
   Apart,
-  tables,
-  In-tables,
+  In-rows,
   Sweepable,
   Swept,
-  Child,
+  Child-piece,
   children-of,
-  part,
+  child-run,
   Visited,
   Visits,
 }
 use Rattle.closing.specs.WordClosed.{closes-again}
 use Rattle.sweeping.specs.ClosedFromState.{closed-nearly}
 use Rattle.closing.specs.BitsOfWords.Spots.{widths, Bounded, clean-words, below-power}
-use Rattle.sweeping.specs.Places.{
+use Rattle.sweeping.specs.PartPlaces.{
   Part-seat,
   seat-in,
   place-whole,
@@ -52,7 +51,7 @@ use Rattle.sweeping.specs.Settling.{
   settled-words,
 }
 
-module _ (x : Nested Leaf) (c : Child) (n : ℕ) (seat : Part-seat x (below (c .tree)) (c .stand) n)
+module _ (x : Nested Leaf) (c : Child-piece) (n : ℕ) (seat : Part-seat x (below (c .tree)) (c .stand) n)
     (from : c .from ≡ suc n)
   where
     -- the widths of the child piece and of those below it, among the parent's
@@ -61,8 +60,8 @@ module _ (x : Nested Leaf) (c : Child) (n : ℕ) (seat : Part-seat x (below (c .
     seat-widths o l = seat .same-widths o l
 
     -- a child's run has no bit past a last state, where the parent's has none
-    pub part-clean : (words : List ℕ) → Clean x words → Clean (c .tree) (part c words)
-    part-clean words clean = clean-words (c .tree) (part c words) .1 (λ o l.
+    pub part-clean : (words : List ℕ) → Clean x words → Clean (c .tree) (child-run c words)
+    part-clean words clean = clean-words (c .tree) (child-run c words) .1 (λ o l.
         below-power (part-at c words o l ∙ ap (λ (k : ℕ). getD words k 0) (omega arith)) (sym (seat-widths o l))
         (clean-words x words .0 clean (suc (n + o)) (omega (arith, seat .long))))
 
@@ -80,7 +79,7 @@ module _ (x : Nested Leaf) (c : Child) (n : ℕ) (seat : Part-seat x (below (c .
         within : (o : ℕ) → o < 1 + run (c .tree) → getD after (suc (n + o)) 0 < 2 ^ getD (widths x) (n + o) 0
         within o l =
             below-power (ap (λ (k : ℕ). getD after k 0) (omega arith) ∙ sym (part-at c after o l)) (seat-widths o l)
-            (clean-words (c .tree) (part c after) .0 (visited .swept .clean) o l)
+            (clean-words (c .tree) (child-run c after) .0 (visited .swept .clean) o l)
 
         each : Bounded (1 + run x) after (width x ∷ widths x)
         each zero l = visited .closed .clean
@@ -94,19 +93,19 @@ module _ (x : Nested Leaf) (c : Child) (n : ℕ) (seat : Part-seat x (below (c .
         ]
 
 -- a run is the same in words that are as many, and the same there
-part-same : (c : Child) (before after : List ℕ) → length after ≡ length before
+part-same : (c : Child-piece) (before after : List ℕ) → length after ≡ length before
     → ((o : ℕ) → o < 1 + run (c .tree) → getD after (c .from + o) 0 ≡ getD before (c .from + o) 0)
-    → part c after ≡ part c before
-part-same c before after long same = ext-getD 0 (part c after) (part c before) as-many each
+    → child-run c after ≡ child-run c before
+part-same c before after long same = ext-getD 0 (child-run c after) (child-run c before) as-many each
   where
-    as-many : length (part c after) ≡ length (part c before)
+    as-many : length (child-run c after) ≡ length (child-run c before)
     as-many =
         length-take (1 + run (c .tree)) (drop (c .from) after)
         ∙ ap (min (1 + run (c .tree))) (length-drop (c .from) after ∙ ap (λ (n : ℕ). n - c .from) long
         ∙ sym (length-drop (c .from) before))
         ∙ sym (length-take (1 + run (c .tree)) (drop (c .from) before))
 
-    each : (o : ℕ) → o < length (part c after) → getD (part c after) o 0 ≡ getD (part c before) o 0
+    each : (o : ℕ) → o < length (child-run c after) → getD (child-run c after) o 0 ≡ getD (child-run c before) o 0
     each o l =
         let inside : o < 1 + run (c .tree) = omega (arith, length-take (1 + run (c .tree)) (drop (c .from) after)) in
         part-at c after o inside ∙ same o inside ∙ sym (part-at c before o inside)
@@ -114,13 +113,13 @@ part-same c before after long same = ext-getD 0 (part c after) (part c before) a
 -- a child piece that was gone through, as it stands in the words now: its start is marked, or waits for a mark of its
 -- stand-in's; its accepting state was passed up; each piece of its run is closed in itself, and the run is settled
 -- where all are said to be
-pub record Gone (words : List ℕ) (waiting : ℕ) (settled : Bool) (at : ℕ) (c : Child) : Type 0 where
+pub record Gone (words : List ℕ) (waiting : ℕ) (settled : Bool) (at : ℕ) (c : Child-piece) : Type 0 where
   pub behind : c .from + (1 + run (c .tree)) ≤ at
   pub after-own : 0 < c .from
   pub started : Bit (getD words (c .from) 0) 0 ⊎ Bit waiting (c .stand)
   pub raised : Bit (getD words (c .from) 0) (width (c .tree) - 1) → Bit (getD words 0 0) (c .stand + 1)
-  pub closed : Each-closed (c .tree) (part c words)
-  pub at-rest : settled ≡ true → Settled byteless (c .tree) (Holds (c .tree) (part c words))
+  pub closed : Each-closed (c .tree) (child-run c words)
+  pub at-rest : settled ≡ true → Settled byteless (c .tree) (Holds (c .tree) (child-run c words))
 
 -- what one more child piece gone through adds: starts that wait still do, the own word loses no mark, and what was
 -- behind is as before
@@ -133,7 +132,7 @@ pub record Further (before after : List ℕ) (waiting waiting' : ℕ) (settled s
 
 gone-further : {before after : List ℕ} {waiting waiting' : ℕ} {settled settled' : Bool} {at at' : ℕ}
     → Further before after waiting waiting' settled settled' at → at ≤ at'
-    → (c : Child) → Gone before waiting settled at c → Gone after waiting' settled' at' c
+    → (c : Child-piece) → Gone before waiting settled at c → Gone after waiting' settled' at' c
 gone-further {before} {after} {settled' = settled'} {at = at} further on c gone = record {
   behind = omega (arith, gone .behind);
   after-own = gone .after-own;
@@ -149,142 +148,126 @@ gone-further {before} {after} {settled' = settled'} {at = at} further on c gone 
     first : getD after (c .from) 0 ≡ getD before (c .from) 0
     first = further .behind-kept (c .from) (gone .after-own) (omega (arith, gone .behind))
 
-    run-same : part c after ≡ part c before
+    run-same : child-run c after ≡ child-run c before
     run-same = part-same c before after (further .as-long)
         (λ o l. further .behind-kept (c .from + o) (omega (arith, gone .after-own)) (omega (arith, gone .behind)))
 
-module _ (reach codes runs stands tops : List ℕ) where
-  -- the child piece c of x, whose top piece is the piece k of the tables, is where its numbers say, and its run is
+module _ (rows : List ℕ) where
+  -- the child piece c of x, whose top piece is piece 0 of the table, is where its numbers say, and its run is
   -- closed piece by piece
-  pub record Child-stands (begun : List ℕ) (x : Nested Leaf) (k : ℕ) (c : Child) : Type 0 where
+  pub record Child-stands (begun : List ℕ) (x : Nested Leaf) (c : Child-piece) : Type 0 where
     pub place : ℕ
     pub placed : c .from ≡ suc place
     pub seat : Part-seat x (below (c .tree)) (c .stand) place
-    pub stood : getD stands (k + c .from) 0 ≡ c .stand
-    pub laid : In-tables reach codes runs stands tops (c .tree) (k + c .from)
-    pub closed : Each-closed (c .tree) (part c begun)
+    pub stood : stand-of rows (c .from) ≡ c .stand
+    pub laid : In-rows rows (c .tree) (c .from)
+    pub closed : Each-closed (c .tree) (child-run c begun)
 
   -- the child pieces stand one after the other, the first at `at`, and the last ends at `end`
-  abbrev pub Lined-up : List ℕ → Nested Leaf → ℕ → List Child → ℕ → ℕ → Type 0
-  Lined-up begun x k [] at end = at ≡ end
-  Lined-up begun x k (c ∷ cs) at end = (c .from ≡ at) × Child-stands begun x k c
-      × Lined-up begun x k cs (at + (1 + run (c .tree))) end
+  abbrev pub Lined-up : List ℕ → Nested Leaf → List Child-piece → ℕ → ℕ → Type 0
+  Lined-up begun x [] at end = at ≡ end
+  Lined-up begun x (c ∷ cs) at end = (c .from ≡ at) × Child-stands begun x c
+      × Lined-up begun x cs (at + (1 + run (c .tree))) end
 
-  chain-append : (begun : List ℕ) (x : Nested Leaf) (k : ℕ) (cs ds : List Child) (at between end : ℕ)
-      → Lined-up begun x k cs at between → Lined-up begun x k ds between end → Lined-up begun x k (cs ++ ds) at end
-  chain-append begun x k [] ds at between end first second =
-      subst (λ (a : ℕ). Lined-up begun x k ds a end) (sym first) second
-  chain-append begun x k (c ∷ cs) ds at between end (here, standing, rest) second =
-      (here, standing, chain-append begun x k cs ds (at + (1 + run (c .tree))) between end rest second)
+  chain-append : (begun : List ℕ) (x : Nested Leaf) (cs ds : List Child-piece) (at between end : ℕ)
+      → Lined-up begun x cs at between → Lined-up begun x ds between end → Lined-up begun x (cs ++ ds) at end
+  chain-append begun x [] ds at between end first second =
+      subst (λ (a : ℕ). Lined-up begun x ds a end) (sym first) second
+  chain-append begun x (c ∷ cs) ds at between end (here, standing, rest) second =
+      (here, standing, chain-append begun x cs ds (at + (1 + run (c .tree))) between end rest second)
 
-  chain-length : (begun : List ℕ) (x : Nested Leaf) (k : ℕ) (cs : List Child) (at end : ℕ)
-      → Lined-up begun x k cs at end
+  chain-length : (begun : List ℕ) (x : Nested Leaf) (cs : List Child-piece) (at end : ℕ)
+      → Lined-up begun x cs at end
       → at ≤ end
-  chain-length begun x k [] at end e = omega arith
-  chain-length begun x k (c ∷ cs) at end (here, standing, rest) =
-      omega (arith, chain-length begun x k cs (at + (1 + run (c .tree))) end rest)
+  chain-length begun x [] at end e = omega arith
+  chain-length begun x (c ∷ cs) at end (here, standing, rest) =
+      omega (arith, chain-length begun x cs (at + (1 + run (c .tree))) end rest)
 
   -- the child pieces below a part of the piece
-  chain-of : (begun : List ℕ) (whole x : Nested Leaf) (k i n f new end : ℕ) → Part-seat whole x i n
-      → f ≡ suc n → new ≡ k + f → end ≡ f + run x
-      → Children-at (tables codes runs stands tops) x i new → Lays-below reach codes x new → Narrow-below x
-      → Each-closed-below x (drop f begun) → Lined-up begun whole k (children-of x i f) f end
-  chain-of begun whole (leaf a) k i n f new end seat from number ends at lays narrow closed = omega arith
-  chain-of begun whole (catenation x y) k i n f new end seat from number ends at lays narrow closed =
-      chain-append begun whole k (children-of x (i + 1) f) (children-of y (i + (1 + width x)) (f + run x)) f (f + run x)
+  chain-of : (begun : List ℕ) (whole x : Nested Leaf) (i n f end : ℕ) → Part-seat whole x i n → f ≡ suc n
+      → end ≡ f + run x → Children-at rows x i f → Narrow-below x → Each-closed-below x (drop f begun)
+      → Lined-up begun whole (children-of x i f) f end
+  chain-of begun whole (leaf a) i n f end seat from ends at narrow closed = omega arith
+  chain-of begun whole (catenation x y) i n f end seat from ends at narrow closed =
+      chain-append begun whole (children-of x (i + 1) f) (children-of y (i + (1 + width x)) (f + run x)) f (f + run x)
       end
-      (chain-of begun whole x k (i + 1) n f new (f + run x)
-      (seat-in (i + 1) n refl (omega arith) seat (catenation-left x y .seat)) from number refl (at .0) (lays .0)
-      (narrow .0) (closed .0))
-      (chain-of begun whole y k (i + (1 + width x)) (n + run x) (f + run x) (new + run x) end
+      (chain-of begun whole x (i + 1) n f (f + run x)
+      (seat-in (i + 1) n refl (omega arith) seat (catenation-left x y .seat)) from refl (at .0) (narrow .0)
+      (closed .0))
+      (chain-of begun whole y (i + (1 + width x)) (n + run x) (f + run x) end
       (seat-in (i + (1 + width x)) (n + run x) refl refl seat (catenation-right x y .seat)) (omega arith)
-      (omega arith) (omega arith) (at .1) (lays .1) (narrow .1)
-      (subst (Each-closed-below y) (drop-drop (run x) f begun) (closed .1)))
-  chain-of begun whole (union x y) k i n f new end seat from number ends at lays narrow closed =
-      chain-append begun whole k (children-of x (i + 1) f) (children-of y (i + (1 + width x)) (f + run x)) f (f + run x)
+      (omega arith) (at .1) (narrow .1) (subst (Each-closed-below y) (drop-drop (run x) f begun) (closed .1)))
+  chain-of begun whole (union x y) i n f end seat from ends at narrow closed =
+      chain-append begun whole (children-of x (i + 1) f) (children-of y (i + (1 + width x)) (f + run x)) f (f + run x)
       end
-      (chain-of begun whole x k (i + 1) n f new (f + run x)
-      (seat-in (i + 1) n refl (omega arith) seat (union-left x y .seat)) from number refl (at .0) (lays .0)
-      (narrow .0) (closed .0))
-      (chain-of begun whole y k (i + (1 + width x)) (n + run x) (f + run x) (new + run x) end
+      (chain-of begun whole x (i + 1) n f (f + run x)
+      (seat-in (i + 1) n refl (omega arith) seat (union-left x y .seat)) from refl (at .0) (narrow .0) (closed .0))
+      (chain-of begun whole y (i + (1 + width x)) (n + run x) (f + run x) end
       (seat-in (i + (1 + width x)) (n + run x) refl refl seat (union-right x y .seat)) (omega arith) (omega arith)
-      (omega arith) (at .1) (lays .1) (narrow .1)
-      (subst (Each-closed-below y) (drop-drop (run x) f begun) (closed .1)))
-  chain-of begun whole (star x) k i n f new end seat from number ends at lays narrow closed =
-      chain-of begun whole x k (i + 1) n f new end
-      (seat-in (i + 1) n refl (omega arith) seat (star-inside x .seat)) from number ends at lays narrow closed
-  chain-of begun whole (below x) k i n f new end seat from number ends at lays narrow closed =
-      (refl, standing, omega arith)
+      (at .1) (narrow .1) (subst (Each-closed-below y) (drop-drop (run x) f begun) (closed .1)))
+  chain-of begun whole (star x) i n f end seat from ends at narrow closed =
+      chain-of begun whole x (i + 1) n f end (seat-in (i + 1) n refl (omega arith) seat (star-inside x .seat)) from
+      ends at narrow closed
+  chain-of begun whole (below x) i n f end seat from ends at narrow closed = (refl, standing, omega arith)
     where
-      laid : In-tables reach codes runs stands tops x new
-      laid = record {
-        piece = at .1;
-        children = at .2;
-        lays = lays .0;
-        lays-below = lays .1;
-        narrow = narrow .0;
-        narrow-below = narrow .1;
-      }
-
-      standing : Child-stands begun whole k (record { stand = i; from = f; tree = x })
+      standing : Child-stands begun whole (record { stand = i; from = f; tree = x })
       standing = record {
         place = n;
         placed = from;
         seat = seat;
-        stood = subst (λ (m : ℕ). getD stands m 0 ≡ i) number (at .0);
-        laid = subst (In-tables reach codes runs stands tops x) number laid;
-        closed = closed-same x (drop f begun) (part (record { stand = i; from = f; tree = x }) begun)
+        stood = at .0;
+        laid = record { piece = at .1; children = at .2; narrow = narrow .0; narrow-below = narrow .1 };
+        closed = closed-same x (drop f begun) (child-run (record { stand = i; from = f; tree = x }) begun)
             (λ o l. getD-drop f begun o 0 ∙ sym (part-at (record { stand = i; from = f; tree = x }) begun o l)) closed;
       }
 
   -- the child piece c of x can be visited: its run stands at `at` in the words, the run of x's top piece, which is the
-  -- piece k of the tables
-  pub record Visitable (x : Nested Leaf) (c : Child) (k at : ℕ) (words : List ℕ) : Type 0 where
+  -- piece 0 of the table
+  pub record Visitable (x : Nested Leaf) (c : Child-piece) (at : ℕ) (words : List ℕ) : Type 0 where
     pub here : c .from ≡ at
     pub after-own : 0 < at
-    pub stood : getD stands (k + at) 0 ≡ c .stand
+    pub stood : stand-of rows at ≡ c .stand
     pub inside : c .stand + 1 < width x
-    pub laid : In-tables reach codes runs stands tops (c .tree) (k + at)
+    pub laid : In-rows rows (c .tree) at
     pub room : at + (1 + run (c .tree)) ≤ length words
-    pub lays : Lays reach codes x k
+    pub lays : Lays rows x 0
     pub narrow : width x ≤ most-states
     pub own-clean : getD words 0 0 < 2 ^ width x
     pub own-closed : Closes x (getD words 0 0) (getD words 0 0)
-    pub child-clean : Clean (c .tree) (part c words)
-    pub child-closed : Each-closed (c .tree) (part c words)
+    pub child-clean : Clean (c .tree) (child-run c words)
+    pub child-closed : Each-closed (c .tree) (child-run c words)
 
-  module _ (x : Nested Leaf) (k : ℕ) where
+  module _ (x : Nested Leaf) where
     -- a sweep under way: the child pieces that are left stand from `at` on as at the beginning, and their visits are
     -- the last of the sweep's; the others were gone through
     pub record Under-way (begun words : List ℕ) (at waiting : ℕ) (settled : Bool) : Type 0 where
-      pub rest : List Child
-      pub chain : Lined-up begun x k rest at (length words)
+      pub rest : List Child-piece
+      pub chain : Lined-up begun x rest at (length words)
       pub clean : Clean x words
       pub own-closed : Closes x (getD words 0 0) (getD words 0 0)
       pub ahead : (o : ℕ) → at ≤ o → getD words o 0 ≡ getD begun o 0
       pub so-far : (after : List ℕ) → Visits x rest words after → Visits x (children-of x 0 1) begun after
-      pub behind : List Child
+      pub behind : List Child-piece
       pub all : children-of x 0 1 ≡ behind ++ rest
       pub gone : Each-child (Gone words waiting settled at) behind
 
     -- a child piece waits for its visit, after which the sweep is under way again
-    pub record Waiting (begun words : List ℕ) (at waiting : ℕ) (settled : Bool) : Type 0 where
-      pub child : Child
-      pub visitable : Visitable x child k at words
+    pub record Child-waiting (begun words : List ℕ) (at waiting : ℕ) (settled : Bool) : Type 0 where
+      pub child : Child-piece
+      pub visitable : Visitable x child at words
       pub goes-on : (after : List ℕ) (waiting' : ℕ) (settled' : Bool) → Visited x child words after
           → Further words after waiting waiting' settled settled' at
           → Gone after waiting' settled' (at + (1 + run (child .tree))) child
           → Under-way begun after (at + (1 + run (child .tree))) waiting' settled'
 
-    module _ (begun : List ℕ) (sweepable : Sweepable reach codes runs stands tops x k begun)
+    module _ (begun : List ℕ) (sweepable : Sweepable rows x begun)
         (own-closed : Closes x (getD begun 0 0) (getD begun 0 0)) (settled : Bool) where
       -- where a sweep begins
       pub under-way : Under-way begun begun 1 0 settled
       under-way = record {
         rest = children-of x 0 1;
-        chain = chain-of begun x x k 0 0 1 (k + 1) (length begun) (place-whole x .seat) refl
-            refl (sweepable .whole-run) (sweepable .laid .children) (sweepable .laid .lays-below)
-            (sweepable .laid .narrow-below) (sweepable .closed-below);
+        chain = chain-of begun x x 0 0 1 (length begun) (place-whole x .seat) refl (sweepable .whole-run)
+            (sweepable .laid .children) (sweepable .laid .narrow-below) (sweepable .closed-below);
         clean = sweepable .clean;
         own-closed = own-closed;
         ahead = λ o l. refl;
@@ -294,35 +277,35 @@ module _ (reach codes runs stands tops : List ℕ) where
         gone = tt;
       }
 
-    module _ (begun : List ℕ) (sweepable : Sweepable reach codes runs stands tops x k begun) where
+    module _ (begun : List ℕ) (sweepable : Sweepable rows x begun) where
       module _ (words : List ℕ) (at waiting : ℕ) (settled : Bool) (same : length words ≡ length begun) where
-        waiting-of : (rest : List Child) → Lined-up begun x k rest at (length words)
+        waiting-of : (rest : List Child-piece) → Lined-up begun x rest at (length words)
             → (way : Under-way begun words at waiting settled)
             → ((after : List ℕ) → Visits x rest words after → Visits x (children-of x 0 1) begun after)
             → children-of x 0 1 ≡ way .behind ++ rest
-            → at < length words → Waiting begun words at waiting settled
+            → at < length words → Child-waiting begun words at waiting settled
         waiting-of [] chain way so-far all l = absurd (omega arith)
         waiting-of (c ∷ cs) (here, standing, rest) way so-far all l = record {
           child = c;
           visitable = record {
             here = here;
             after-own = omega (arith, standing .placed);
-            stood = subst (λ (a : ℕ). getD stands (k + a) 0 ≡ c .stand) here (standing .stood);
+            stood = subst (λ (a : ℕ). stand-of rows a ≡ c .stand) here (standing .stood);
             inside = omega (arith, standing .seat .wide);
-            laid = subst (λ (a : ℕ). In-tables reach codes runs stands tops (c .tree) (k + a)) here (standing .laid);
-            room = chain-length begun x k cs (at + (1 + run (c .tree))) (length words) rest;
-            lays = sweepable .laid .lays;
+            laid = subst (In-rows rows (c .tree)) here (standing .laid);
+            room = chain-length begun x cs (at + (1 + run (c .tree))) (length words) rest;
+            lays = lays (sweepable .laid .piece);
             narrow = sweepable .laid .narrow;
             own-clean = way .clean .0;
             own-closed = way .own-closed;
             child-clean = part-clean x c (standing .place) (standing .seat) (standing .placed) words (way .clean);
-            child-closed = closed-same (c .tree) (part c begun) (part c words)
+            child-closed = closed-same (c .tree) (child-run c begun) (child-run c words)
                 (λ o h. part-at c begun o h ∙ sym (way .ahead (c .from + o) (omega (arith, here)))
                 ∙ sym (part-at c words o h)) (standing .closed);
           };
           goes-on = λ after waiting' settled' visited further gone. record {
             rest = cs;
-            chain = subst (Lined-up begun x k cs (at + (1 + run (c .tree)))) (sym (visited .same-length)) rest;
+            chain = subst (Lined-up begun x cs (at + (1 + run (c .tree)))) (sym (visited .same-length)) rest;
             clean = visited-clean x c (standing .place) (standing .seat) (standing .placed) words after visited
                 (way .clean);
             own-closed = closes-again (visited .closed);
@@ -338,15 +321,15 @@ module _ (reach codes runs stands tops : List ℕ) where
 
         -- before the end a child piece waits
         pub waiting-child : (way : Under-way begun words at waiting settled) → at < length words
-            → Waiting begun words at waiting settled
+            → Child-waiting begun words at waiting settled
         waiting-child way l = waiting-of (way .rest) (way .chain) way (way .so-far) (way .all) l
 
       module _ (words : List ℕ) (at waiting : ℕ) (settled : Bool) (way : Under-way begun words at waiting settled)
           (past : length words ≤ at) where
-        none-left : (rest : List Child) → Lined-up begun x k rest at (length words) → rest ≡ []
+        none-left : (rest : List Child-piece) → Lined-up begun x rest at (length words) → rest ≡ []
         none-left [] chain = refl
         none-left (c ∷ cs) (here, standing, rest) =
-            absurd (omega (arith, chain-length begun x k cs (at + (1 + run (c .tree))) (length words) rest))
+            absurd (omega (arith, chain-length begun x cs (at + (1 + run (c .tree))) (length words) rest))
 
         nothing-left : way .rest ≡ []
         nothing-left = none-left (way .rest) (way .chain)
@@ -354,11 +337,12 @@ module _ (reach codes runs stands tops : List ℕ) where
         -- at the end every child piece was visited
         pub all-visited : Visits x (children-of x 0 1) begun words
         all-visited =
-            way .so-far words (subst (λ (rest : List Child). Visits x rest words words) (sym nothing-left) refl)
+            way .so-far words (subst (λ (rest : List Child-piece). Visits x rest words words) (sym nothing-left) refl)
 
         all-gone : Each-child (Gone words waiting settled at) (children-of x 0 1)
         all-gone = subst (Each-child (Gone words waiting settled at))
-            (sym (way .all ∙ ap (λ (rest : List Child). way .behind ++ rest) nothing-left ∙ append-nil (way .behind)))
+            (sym (way .all ∙ ap (λ (rest : List Child-piece). way .behind ++ rest) nothing-left
+            ∙ append-nil (way .behind)))
             (way .gone)
 
         -- each piece is closed in itself
@@ -372,14 +356,14 @@ module _ (reach codes runs stands tops : List ℕ) where
         pub all-settled : settled ≡ true → Apart (getD words 0 0) waiting → Settled byteless x (Holds x words)
         all-settled e apart = settled-words x words (way .own-closed) (each-map (children-of x 0 1) joined all-gone)
           where
-            joined : (c : Child) → Gone words waiting settled at c → Joined-child words c
+            joined : (c : Child-piece) → Gone words waiting settled at c → Joined-child words c
             joined c gone = record {
               down = λ b. ⊎-elim (λ m. m) (λ m. absurd (apart (c .stand) b m)) (gone .started);
               up = gone .raised;
               settled = gone .at-rest e;
             }
 
-    module _ (before : List ℕ) (closed : ℕ) (sweepable : Sweepable reach codes runs stands tops x k before)
+    module _ (before : List ℕ) (closed : ℕ) (sweepable : Sweepable rows x before)
         (closes : Closes x (getD before 0 0) closed) where
       own-is : getD (set before 0 closed) 0 0 ≡ closed
       own-is = getD-set-same before 0 closed 0 (omega (arith, sweepable .whole-run))
@@ -388,7 +372,7 @@ module _ (reach codes runs stands tops : List ℕ) where
       begun-closed = subst (λ (w : ℕ). Closes x w w) (sym own-is) (closes-again closes)
 
       -- with the own word closed, the words are still a run to be swept
-      pub closed-sweepable : Sweepable reach codes runs stands tops x k (set before 0 closed)
+      pub closed-sweepable : Sweepable rows x (set before 0 closed)
       closed-sweepable = record {
         laid = sweepable .laid;
         whole-run = length-set before 0 closed ∙ sweepable .whole-run;

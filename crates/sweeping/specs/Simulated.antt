@@ -17,11 +17,11 @@ use Rattle.tree.specs.Limits.{most-states}
 use Rattle.tree.specs.Leaf.{Leaf, meaning, byteless}
 use Rattle.tables.specs.Words.{Bit, width, run, number, Holds, Clean}
 use Rattle.tables.specs.Plan.{Planned}
-use Rattle.closing.specs.Passes.Laid.{Lays-each, Narrow-below}
+use Rattle.closing.specs.Passes.Laid.{Narrow-below}
 use Rattle.closing.specs.BitsOfWords.Numbers.{width-two, number-injective}
 use Rattle.closing.specs.BitsOfWords.Bits.{bit-zero, bit-power}
 use Rattle.closing.specs.EachPieceClosed.{Each-closed-below, zeros-closed}
-use Rattle.sweeping.specs.Swept.{Nearly-closed, tables, In-tables}
+use Rattle.sweeping.specs.Swept.{Nearly-closed, In-rows}
 use Rattle.closing.specs.BitsOfWords.Spots.{
   Spot,
   own,
@@ -39,17 +39,14 @@ use Rattle.closing.specs.BitsOfWords.Spots.{
   widths,
 }
 use Rattle.sweeping.specs.Visiting.{accepting-holds}
-use Rattle.sweeping.specs.Twice.{Run-of, Closed-twice}
+use Rattle.sweeping.specs.Twice.{Swept-twice}
 
--- the tables speak of all pieces of x, from piece 0 on
-pub laid-whole : (reach codes runs stands tops : List ℕ) (x : Nested Leaf) → Planned (tables codes runs stands tops) x
-    → Lays-each reach codes x
-    → width x ≤ most-states → Narrow-below x → In-tables reach codes runs stands tops x 0
-laid-whole reach codes runs stands tops x planned laid narrow narrow-below = record {
+-- the rows speak of all pieces of x, from piece 0 on
+pub laid-whole : (rows : List ℕ) (x : Nested Leaf) → Planned rows x → width x ≤ most-states → Narrow-below x
+    → In-rows rows x 0
+laid-whole rows x planned narrow narrow-below = record {
   piece = planned .0;
   children = planned .1;
-  lays = laid .0;
-  lays-below = laid .1;
   narrow = narrow;
   narrow-below = narrow-below;
 }
@@ -103,14 +100,12 @@ module _ (x : Nested Leaf) (words : List ℕ) (marked : Start-marked x words) wh
       zeros-closed x (drop 1 words) (λ o l. getD-drop 1 words o 0 ∙ ap (λ (k : ℕ). getD words k 0) (omega arith)
       ∙ marked .others o l)
 
-module _ (reach codes runs stands tops : List ℕ) (count : ℕ) (x : Nested Leaf) (before after : List ℕ)
-    (closed : Closed-twice reach codes runs stands tops count before after)
-    (on : Run-of reach codes runs stands tops count x before) where
+module _ (x : Nested Leaf) (before after : List ℕ) (closed : Swept-twice x before after) where
   -- from the root's start, the closing is the start of the plain simulation, by any class records
   pub closed-start : (classes : List ℕ) → Agree x (Holds x before) (λ q. q ≡ start)
       → Models x (Holds x after) (Started (meaning classes) (whole x))
   closed-start classes begins q h =
-      Iff·trans (closed .marks x on q h)
+      Iff·trans (closed .marks q h)
       (Iff·trans (sweep-same byteless x (sweep-same byteless x begins) q h)
       (Iff·trans (sweeps-start byteless x q h)
       (started-same byteless (meaning classes) (λ a. Iff·rfl) (whole x) (origin x q))))
@@ -122,7 +117,7 @@ module _ (reach codes runs stands tops : List ℕ) (count : ℕ) (x : Nested Lea
       → More-in (Has x) (Holds x before) Z)
       → Models x (Holds x after) (Stepped (meaning classes) (whole x) b X)
   closed-step classes b marks X models more within =
-      models-same x (Stepped (meaning classes) (whole x) b X) (closed .marks x on)
+      models-same x (Stepped (meaning classes) (whole x) b X) (closed .marks)
       (sweeps-step-closed byteless (meaning classes) (λ a. Iff·rfl) b x marks X (Holds x before) models more within)
 
 -- the bit of the top piece's last state says whether the accepting state is in the set that the words hold

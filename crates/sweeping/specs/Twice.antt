@@ -13,9 +13,11 @@ use Rattle.language.specs.Same.{Agree, sweep-same}
 use Rattle.language.specs.Unmoved.{settled-agree, sweep-settled}
 use Rattle.tree.specs.Leaf.{Leaf, byteless}
 use Rattle.tables.specs.Words.{width, run, Holds, Clean}
+use Rattle.tables.specs.Plan.{Closes}
 use Rattle.closing.specs.EachPieceClosed.{Each-closed-below, closed-below-same, closed-same}
-use Rattle.sweeping.specs.Swept.{Nearly-closed, Quiet, In-tables, Sweepable, Tables-sized, Sweep-ready, Swept}
+use Rattle.sweeping.specs.Swept.{Nearly-closed, Quiet, In-rows, Sweepable, Table-sized, Sweep-ready, Swept}
 use Rattle.sweeping.specs.ClosedFromState.{closed-nearly}
+use Rattle.sweeping.specs.Settling.{settled-alone}
 use Rattle.sweeping.specs.Sweeping.{sized-same}
 use Rattle.closing.specs.BitsOfWords.Spots.{
   Spot,
@@ -53,35 +55,50 @@ front-clean x n words e = (
       (λ o l. below-power (getD-take n words o 0 (omega arith)) refl (clean-words x words .0 clean o l)),
 )
 
-module _ (reach codes runs stands tops : List ℕ) (count : ℕ) where
-  -- the first words, one for each piece, hold marks of the tree that the tables speak of; each piece is closed in
+-- what two sweeps make of the words of x's pieces: the marks that they hold then are those of two sweeps
+pub record Swept-twice (x : Nested Leaf) (before after : List ℕ) : Type 0 where
+  pub marks : (q : State) → Has x q → Holds x after q ↔ Sweep byteless x (Sweep byteless x (Holds x before)) q
+  pub clean : Clean x after
+
+-- where there are no child pieces, a word that is closed in its piece is closed: two sweeps would change nothing
+pub swept-alone : (x : Nested Leaf) (words : List ℕ) → run x ≡ 0 → Clean x words
+    → Closes x (getD words 0 0) (getD words 0 0) → Swept-twice x words words
+swept-alone x words alone clean closed = record {
+  marks = λ q h. Iff·trans (Iff·symm (unmoved q))
+      (sweep-same byteless x (λ p k. Iff·symm (unmoved p)) q h);
+  clean = clean;
+}
+  where
+    unmoved : (q : State) → Sweep byteless x (Holds x words) q ↔ Holds x words q
+    unmoved q = sweep-settled byteless x (Holds x words) (settled-alone x words alone closed) q
+
+module _ (rows : List ℕ) (count : ℕ) where
+  -- the first words, one for each piece, hold marks of the tree that the rows speak of; each piece is closed in
   -- itself, but for the root's start
   pub record Run-of (x : Nested Leaf) (words : List ℕ) : Type 0 where
-    pub laid : In-tables reach codes runs stands tops x 0
+    pub laid : In-rows rows x 0
     pub counted : count ≡ 1 + run x
     pub clean : Clean x words
     pub nearly : Nearly-closed x start (getD words 0 0)
     pub closed-below : Each-closed-below x (drop 1 words)
 
-  -- the tables have room for each piece that there may be, the words are enough, and below the first of them there are
+  -- there are rows for each piece that there may be, the words are enough, and below the first of them there are
   -- marks only from `from` up to `to`
   pub record Closable (from to : ℕ) (words : List ℕ) : Type 0 where
-    pub sized : Tables-sized reach codes runs stands tops 0 (take count words)
+    pub sized : Table-sized rows (take count words)
     pub enough : count ≤ length words
     pub tree : Nested Leaf
     pub on-run : Run-of tree words
-    pub quiet : Quiet 0 from to (take count words)
+    pub quiet : Quiet from to (take count words)
 
-  -- what two sweeps make of the words
+  -- what two sweeps make of the words: those of the pieces are swept twice, the others are as before
   pub record Closed-twice (before after : List ℕ) : Type 0 where
-    pub marks : (x : Nested Leaf) → Run-of x before → (q : State) → Has x q
-        → Holds x after q ↔ Sweep byteless x (Sweep byteless x (Holds x before)) q
-    pub clean : (x : Nested Leaf) → Run-of x before → Clean x after
+    pub swept : (x : Nested Leaf) → Run-of x before → Swept-twice x before after
     pub others : drop count after ≡ drop count before
 
   module _ (words : List ℕ) (enough : count ≤ length words) where
     -- the first words can be swept
-    pub run-sweepable : (x : Nested Leaf) → Run-of x words → Sweepable reach codes runs stands tops x 0
+    pub run-sweepable : (x : Nested Leaf) → Run-of x words → Sweepable rows x
         (take count words)
     run-sweepable x on = record {
       laid = on .laid;
@@ -95,7 +112,7 @@ module _ (reach codes runs stands tops : List ℕ) (count : ℕ) where
     }
 
     module _ (ys : List ℕ) (same : length ys ≡ length (take count words))
-        (swept : (x : Nested Leaf) → Sweepable reach codes runs stands tops x 0 (take count words)
+        (swept : (x : Nested Leaf) → Sweepable rows x (take count words)
         → Swept x (take count words) ys) where
       -- the words with the first words swept
       abbrev after : List ℕ
@@ -146,7 +163,7 @@ module _ (reach codes runs stands tops : List ℕ) (count : ℕ) where
 
   -- the first words are ready to be swept
   pub run-ready : (from to : ℕ) (words : List ℕ) → Closable from to words
-      → Sweep-ready reach codes runs stands tops 0 from to (take count words)
+      → Sweep-ready rows from to (take count words)
   run-ready from to words can =
       record {
         sized = can .sized;
@@ -158,12 +175,12 @@ module _ (reach codes runs stands tops : List ℕ) (count : ℕ) where
 
   module _ (from to : ℕ) (words ys : List ℕ) (can : Closable from to words)
       (same : length ys ≡ length (take count words))
-      (swept : (x : Nested Leaf) → Sweepable reach codes runs stands tops x 0 (take count words)
+      (swept : (x : Nested Leaf) → Sweepable rows x (take count words)
       → Swept x (take count words) ys) where
     -- once swept, the words can be swept again
     pub closable-again : Closable 0 count (ys ++ drop count words)
     closable-again = record {
-      sized = sized-same reach codes runs stands tops 0 (take count words) (take count (ys ++ drop count words))
+      sized = sized-same rows (take count words) (take count (ys ++ drop count words))
           (length-take-le count (ys ++ drop count words)
           (omega (arith, can .enough, after-length words (can .enough) ys same swept))
           ∙ sym (length-take-le count words (can .enough)))
@@ -180,13 +197,15 @@ module _ (reach codes runs stands tops : List ℕ) (count : ℕ) where
     }
 
     -- where one sweep settles the words, a second would change nothing
-    pub closed-once : ((x : Nested Leaf) → Sweepable reach codes runs stands tops x 0 (take count words)
+    pub closed-once : ((x : Nested Leaf) → Sweepable rows x (take count words)
         → Settled byteless x (Holds x ys)) → Closed-twice words (ys ++ drop count words)
     closed-once settled = record {
-      marks = λ x on q h. Iff·trans (Iff·symm
-          (sweep-settled byteless x (Holds x (ys ++ drop count words)) (rests x on) q))
-          (sweep-same byteless x (after-swept words (can .enough) ys same swept x on .marks) q h);
-      clean = λ x on. after-swept words (can .enough) ys same swept x on .clean;
+      swept = λ x on. record {
+        marks = λ q h. Iff·trans (Iff·symm
+            (sweep-settled byteless x (Holds x (ys ++ drop count words)) (rests x on) q))
+            (sweep-same byteless x (after-swept words (can .enough) ys same swept x on .marks) q h);
+        clean = after-swept words (can .enough) ys same swept x on .clean;
+      };
       others = after-others words (can .enough) ys same swept;
     }
       where
@@ -196,13 +215,15 @@ module _ (reach codes runs stands tops : List ℕ) (count : ℕ) where
 
     -- twice swept, the words are closed
     pub closed-twice : (zs : List ℕ) → length zs ≡ length (take count (ys ++ drop count words))
-        → ((x : Nested Leaf) → Sweepable reach codes runs stands tops x 0 (take count (ys ++ drop count words))
+        → ((x : Nested Leaf) → Sweepable rows x (take count (ys ++ drop count words))
         → Swept x (take count (ys ++ drop count words)) zs)
         → Closed-twice words (zs ++ drop count (ys ++ drop count words))
     closed-twice zs as-many again = record {
-      marks = λ x on q h. Iff·trans (second x on .marks q h)
-          (sweep-same byteless x (after-swept words (can .enough) ys same swept x on .marks) q h);
-      clean = λ x on. second x on .clean;
+      swept = λ x on. record {
+        marks = λ q h. Iff·trans (second x on .marks q h)
+            (sweep-same byteless x (after-swept words (can .enough) ys same swept x on .marks) q h);
+        clean = second x on .clean;
+      };
       others = after-others (ys ++ drop count words) (closable-again .enough) zs as-many again
           ∙ after-others words (can .enough) ys same swept;
     }

@@ -27,7 +27,7 @@ use Rattle.tree.specs.Leaf.{Leaf, byteless}
 use Rattle.tables.specs.Words.{Bit, width, run, Own, number, Holds}
 use Rattle.tables.specs.Plan.{Closes}
 use Rattle.closing.specs.BitsOfWords.Numbers.{number-accepting}
-use Rattle.sweeping.specs.Swept.{passed, Child, children-of, part, started, Visited, Visits}
+use Rattle.sweeping.specs.Swept.{passed, Child-piece, children-of, child-run, started, Visited, Visits}
 use Rattle.sweeping.specs.Passing.{bit-passed}
 use Rattle.closing.specs.BitsOfWords.Spots.{
   Spot,
@@ -53,7 +53,7 @@ use Rattle.closing.specs.BitsOfWords.Spots.{
   iff-either,
 }
 use Rattle.closing.specs.Within.{own-has, path-own, begins, closed-within, sweep-extends}
-use Rattle.sweeping.specs.Places.{
+use Rattle.sweeping.specs.PartPlaces.{
   Outside,
   Stands-at,
   place-in,
@@ -120,13 +120,13 @@ module _ (x : Nested Leaf) (before after : List ℕ) (closes : Closes x (getD be
   closed-holds q h = (to-closed q h, from-closed q h)
 
 -- an entry of a child piece's run
-pub part-at : (c : Child) (words : List ℕ) (o : ℕ) → o < 1 + run (c .tree)
-    → getD (part c words) o 0 ≡ getD words (c .from + o) 0
+pub part-at : (c : Child-piece) (words : List ℕ) (o : ℕ) → o < 1 + run (c .tree)
+    → getD (child-run c words) o 0 ≡ getD words (c .from + o) 0
 part-at c words o l = getD-take (1 + run (c .tree)) (drop (c .from) words) o 0 l ∙ getD-drop (c .from) words o 0
 
 -- the first entry of a child's run with its start passed down
-pub started-own : (c : Child) (words : List ℕ) → c .from < length words
-    → getD (started c words) 0 0 ≡ passed (getD words 0 0) (c .stand) (getD (part c words) 0 0) 0
+pub started-own : (c : Child-piece) (words : List ℕ) → c .from < length words
+    → getD (started c words) 0 0 ≡ passed (getD words 0 0) (c .stand) (getD (child-run c words) 0 0) 0
 started-own c words room =
     part-at c changed 0 (omega arith) ∙ ap (λ (o : ℕ). getD changed o 0) (omega arith)
     ∙ getD-set-same words (c .from) given 0 room
@@ -140,8 +140,9 @@ started-own c words room =
     changed = set words (c .from) given
 
 -- the others are as before
-pub started-below : (c : Child) (words : List ℕ) (o : ℕ) → suc o < 1 + run (c .tree) → getD (started c words) (suc o) 0
-    ≡ getD (part c words) (suc o) 0
+pub started-below : (c : Child-piece) (words : List ℕ) (o : ℕ) → suc o < 1 + run (c .tree)
+    → getD (started c words) (suc o) 0
+    ≡ getD (child-run c words) (suc o) 0
 started-below c words o l =
     part-at c (set words (c .from) given) (suc o) l ∙ getD-set-other words (c .from) (c .from + suc o) given 0
     (λ e. omega arith) ∙ sym (part-at c words (suc o) l)
@@ -149,34 +150,35 @@ started-below c words o l =
     given : ℕ
     given = passed (getD words 0 0) (c .stand) (getD words (c .from) 0) 0
 
-module _ (c : Child) (i n k : ℕ) (from : c .from ≡ suc n) where
+module _ (c : Child-piece) (i n k : ℕ) (from : c .from ≡ suc n) where
   part-held : (s : Spot) (words : List ℕ) → Spot-within k (run (c .tree)) s
-      → Set-at s (part c words) ↔ Set-at (shift i n (enter s)) words
+      → Set-at s (child-run c words) ↔ Set-at (shift i n (enter s)) words
   part-held (own b) words l = bit-of b (part-at c words 0 (omega arith) ∙ ap (λ (o : ℕ). getD words o 0) (omega arith))
   part-held (under o b) words l =
       bit-of b (part-at c words (suc o) (omega arith) ∙ ap (λ (o' : ℕ). getD words o' 0) (omega arith))
 
   started-held : (s : Spot) (words : List ℕ) → Spot-within k (run (c .tree)) s → c .from < length words
-      → Set-at s (started c words) ↔ (Set-at s (part c words) ⊎ (In-first-word s × Bit (getD words 0 0) (c .stand)))
+      → Set-at s (started c words) ↔ (Set-at s (child-run c words)
+      ⊎ (In-first-word s × Bit (getD words 0 0) (c .stand)))
   started-held (own b) words l room =
       Iff·trans (bit-of b (started-own c words room))
-      (bit-passed (getD words 0 0) (c .stand) (getD (part c words) 0 0) 0 b)
+      (bit-passed (getD words 0 0) (c .stand) (getD (child-run c words) 0 0) 0 b)
   started-held (under o b) words l room =
       Iff·trans (bit-of b (started-below c words o (omega arith))) (inl, ⊎-elim (λ h. h) (λ h. absurd (h .0)))
 
 -- the child piece c stands at e in the piece of x
-module _ (x : Nested Leaf) (e : State → State) (c : Child) (n : ℕ)
+module _ (x : Nested Leaf) (e : State → State) (c : Child-piece) (n : ℕ)
     (place : Stands-at x (below (c .tree)) e (c .stand) n)
     (from : c .from ≡ suc n) where
   -- a state of a child piece is marked exactly when the child's run holds it
   pub child-holds : (words : List ℕ) (p : State) → Has (c .tree) p → Holds x words (e (left p))
-      ↔ Holds (c .tree) (part c words) p
+      ↔ Holds (c .tree) (child-run c words) p
   child-holds words p h =
       Iff·trans (holds-held x words (e (left p)) (place .has (left p) .1 h))
       (Iff·trans (held-at words (place .spots (left p) h))
       (Iff·trans (Iff·symm
       (part-held c (c .stand) n (width (c .tree)) from (spot (c .tree) p) words (spot-within (c .tree) p h)))
-      (Iff·symm (holds-held (c .tree) (part c words) p h))))
+      (Iff·symm (holds-held (c .tree) (child-run c words) p h))))
 
   -- a state of the stand-in is marked exactly when its bit is set
   pub stand-holds : (words : List ℕ) (q : State) (b : ℕ) → Has (below (c .tree)) q → spot (below (c .tree)) q ≡ own b
@@ -192,7 +194,7 @@ module _ (x : Nested Leaf) (e : State → State) (c : Child) (n : ℕ)
       Iff·trans (holds-held (c .tree) (started c words) p h)
       (Iff·trans (started-held c (c .stand) n (width (c .tree)) from (spot (c .tree) p) words
       (spot-within (c .tree) p h) room)
-      (iff-either (Iff·symm (Iff·trans (child-holds words p h) (holds-held (c .tree) (part c words) p h)))
+      (iff-either (Iff·symm (Iff·trans (child-holds words p h) (holds-held (c .tree) (child-run c words) p h)))
       (Iff·and (first-start (c .tree) p h, λ s. subst (λ (q : State). In-first-word (spot (c .tree) q)) (sym s) refl)
       (Iff·symm (Iff·trans (stand-holds words start 0 tt refl) (bit-at (getD words 0 0) (omega arith)))))))
 
@@ -213,7 +215,7 @@ module _ (x : Nested Leaf) (e : State → State) (c : Child) (n : ℕ)
     raised-bit b = bit-passed (getD after (c .from) 0) (width (c .tree) - 1) (getD before 0 0) (c .stand + 1) b
 
     -- a state of the child piece
-    raised-child : (p : State) → Has (c .tree) p → Holds x raised (e (left p)) ↔ Holds (c .tree) (part c after) p
+    raised-child : (p : State) → Has (c .tree) p → Holds x raised (e (left p)) ↔ Holds (c .tree) (child-run c after) p
     raised-child p h =
         Iff·trans (same-below (e (left p)) (place .has (left p) .1 h)
         (subst Under (sym (place .spots (left p) h))
@@ -227,13 +229,14 @@ module _ (x : Nested Leaf) (e : State → State) (c : Child) (n : ℕ)
         )
 
     -- the child's accepting state
-    accepting-bit : Holds (c .tree) (part c after) accepting ↔ Bit (getD after (c .from) 0) (width (c .tree) - 1)
+    accepting-bit : Holds (c .tree) (child-run c after) accepting ↔ Bit (getD after (c .from) 0) (width (c .tree) - 1)
     accepting-bit =
-        Iff·trans (accepting-holds (c .tree) (part c after))
+        Iff·trans (accepting-holds (c .tree) (child-run c after))
         (bit-of (width (c .tree) - 1) (part-at c after 0 (omega arith) ∙ ap (λ (k : ℕ). getD after k 0) (omega arith)))
 
     -- no mark of the child piece is lost
-    child-extends : (p : State) → Has (c .tree) p → Holds (c .tree) (part c before) p → Holds (c .tree) (part c after) p
+    child-extends : (p : State) → Has (c .tree) p → Holds (c .tree) (child-run c before) p
+        → Holds (c .tree) (child-run c after) p
     child-extends p h m =
         visited .swept .marks p h .1 (sweep-extends (c .tree) (Holds (c .tree) (started c before)) p
         (down-holds before room p h .1 (inl (child-holds before p h .1 m))))
@@ -253,7 +256,7 @@ module _ (x : Nested Leaf) (e : State → State) (c : Child) (n : ℕ)
         Iff·trans (holds-held x raised q h) (Iff·trans (held-apart (spot x q) out) (Iff·symm (holds-held x before q h)))
 
     up : States
-    up = Up e (Holds (c .tree) (part c after)) (Holds x before)
+    up = Up e (Holds (c .tree) (child-run c after)) (Holds x before)
 
     to-up : (p : State) → Has (below (c .tree)) p → Holds x raised (e p) → up (e p)
     unfolding up
@@ -299,7 +302,8 @@ module _ (x : Nested Leaf) (e : State → State) (c : Child) (n : ℕ)
       from-up q h,
     )
 
-    swept-marks : Agree (c .tree) (Holds (c .tree) (part c after)) (Sweep byteless (c .tree) (Down e (Holds x before)))
+    swept-marks : Agree (c .tree) (Holds (c .tree) (child-run c after))
+        (Sweep byteless (c .tree) (Down e (Holds x before)))
     swept-marks p h = Iff·trans (visited .swept .marks p h) (sweep-same byteless (c .tree) (down-holds before room) p h)
 
     wanted : States
@@ -329,14 +333,14 @@ module _ (x : Nested Leaf) (e : State → State) (c : Child) (n : ℕ)
         )
 
 -- the visits of one list of child pieces, and then of another
-visits-split : (x : Nested Leaf) (cs ds : List Child) (before after : List ℕ) → Visits x (cs ++ ds) before after
+visits-split : (x : Nested Leaf) (cs ds : List Child-piece) (before after : List ℕ) → Visits x (cs ++ ds) before after
     → (between : List ℕ) × Visits x cs before between × Visits x ds between after
 visits-split x [] ds before after v = (before, refl, v)
 visits-split x (c ∷ cs) ds before after (next, first, rest) =
     let (between, some, others) = visits-split x cs ds next after rest in
     (between, (next, first, some), others)
 
-visits-length : (x : Nested Leaf) (cs : List Child) (before after : List ℕ) → Visits x cs before after
+visits-length : (x : Nested Leaf) (cs : List Child-piece) (before after : List ℕ) → Visits x cs before after
     → length after ≡ length before
 visits-length x [] before after v = ap length (sym v)
 visits-length x (c ∷ cs) before after (next, first, rest) = visits-length x cs next after rest ∙ first .same-length

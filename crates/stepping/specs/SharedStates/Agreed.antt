@@ -13,34 +13,34 @@ use Rattle.tables.specs.Words.{Bit, width, run, number, Marked, Agreeing}
 use Rattle.closing.specs.BitsOfWords.Spots.{bit-at}
 
 -- states that may be equal, by how they begin
-abbrev Alike : State → State → Type 0
-Alike start start = Unit {0}
-Alike start accepting = ⊥
-Alike start (left q) = ⊥
-Alike start (right q) = ⊥
-Alike accepting start = ⊥
-Alike accepting accepting = Unit {0}
-Alike accepting (left q) = ⊥
-Alike accepting (right q) = ⊥
-Alike (left p) start = ⊥
-Alike (left p) accepting = ⊥
-Alike (left p) (left q) = p ≡ q
-Alike (left p) (right q) = ⊥
-Alike (right p) start = ⊥
-Alike (right p) accepting = ⊥
-Alike (right p) (left q) = ⊥
-Alike (right p) (right q) = p ≡ q
+abbrev May-be-equal : State → State → Type 0
+May-be-equal start start = Unit {0}
+May-be-equal start accepting = ⊥
+May-be-equal start (left q) = ⊥
+May-be-equal start (right q) = ⊥
+May-be-equal accepting start = ⊥
+May-be-equal accepting accepting = Unit {0}
+May-be-equal accepting (left q) = ⊥
+May-be-equal accepting (right q) = ⊥
+May-be-equal (left p) start = ⊥
+May-be-equal (left p) accepting = ⊥
+May-be-equal (left p) (left q) = p ≡ q
+May-be-equal (left p) (right q) = ⊥
+May-be-equal (right p) start = ⊥
+May-be-equal (right p) accepting = ⊥
+May-be-equal (right p) (left q) = ⊥
+May-be-equal (right p) (right q) = p ≡ q
 
 -- each state may equal itself
-alike-self : (p : State) → Alike p p
+alike-self : (p : State) → May-be-equal p p
 alike-self start = tt
 alike-self accepting = tt
 alike-self (left p) = refl
 alike-self (right p) = refl
 
 -- equal states begin alike
-alike : {p q : State} → p ≡ q → Alike p q
-alike {p} {q} e = subst (λ (s : State). Alike p s) e (alike-self p)
+alike : {p q : State} → p ≡ q → May-be-equal p q
+alike {p} {q} e = subst (λ (s : State). May-be-equal p s) e (alike-self p)
 
 -- at every cut edge the two bits agree. x's states are numbered from i, their bits stand in w, and the words of the
 -- child pieces in ws
@@ -82,7 +82,7 @@ child-accepting x ws =
 
 -- where the pairs agree, states that are one are marked alike: from one to the other the way goes over stand-ins
 agree : (x : Nested Leaf) (w i : ℕ) (ws : List ℕ) → Pairs x w i ws → (p q : State) → Has x p → Has x q
-    → Alike (origin x p) (origin x q)
+    → May-be-equal (origin x p) (origin x q)
     → Marked x w i ws p → Marked x w i ws q
 agree (leaf a) w i ws pairs start start h k e m = m
 agree (leaf a) w i ws pairs accepting accepting h k e m = m

@@ -1,5 +1,5 @@
--- `sweeping::sweep::pass` meets its contract: masked by 1, the word shifted down is its bit, which shifted up stays within
--- 64 bits.
+-- `sweeping::sweep::pass` meets its contract: masked by 1, the word shifted down is its bit, which shifted up stays
+-- within 64 bits.
 use borrow.Author.Needs.{needs}
 use mathlib.Core.Path.{_≡_, ap, _∙_}
 use Prim.Native.Nat.{ℕ, _*_, _/_, _%_, _^_, _<_}
