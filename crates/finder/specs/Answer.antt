@@ -18,27 +18,27 @@ use Rattle.finder.specs.declared.Searched.the-variants.{
   TooFewClasses as Search-too-few-classes,
   TooLong as Search-too-long,
 }
-use Rattle.finder.specs.declared.numbers.Numbers.{Numbers}
+use Rattle.finder.specs.declared.numbers.FoundNumbers.{FoundNumbers}
 
 -- a refusal gives its number and place 0
-abbrev pub refusing : (number : ℕ) → Numbers
-refusing number = record { refusal = number; place = 0; matched = false; start = 0; end = 0 }
+abbrev pub refusing-match : (number : ℕ) → FoundNumbers
+refusing-match number = record { refusal = number; place = 0; matched = false; start = 0; end = 0 }
 
 -- whether the text, or a part of it, is in the language
-abbrev pub answering : Bool → Numbers
-answering matched = record { refusal = 0; place = 0; matched = matched; start = 0; end = 0 }
+abbrev pub answering-match : Bool → FoundNumbers
+answering-match matched = record { refusal = 0; place = 0; matched = matched; start = 0; end = 0 }
 
 -- the part that was found, by its start and its end
-abbrev pub finding : (start end : ℕ) → Numbers
+abbrev pub finding : (start end : ℕ) → FoundNumbers
 finding start end = record { refusal = 0; place = 0; matched = true; start = start; end = end }
 
 -- the numbers of each answer of a match
-abbrev pub match-numbers : Matched → Numbers
-match-numbers Yes = answering true
-match-numbers No = answering false
-match-numbers Match-not-good = refusing list-not-good
-match-numbers Match-too-few-classes = refusing class-buffer-too-short
-match-numbers Match-too-long = refusing text-too-long
+abbrev pub match-numbers : Matched → FoundNumbers
+match-numbers Yes = answering-match true
+match-numbers No = answering-match false
+match-numbers Match-not-good = refusing-match list-not-good
+match-numbers Match-too-few-classes = refusing-match class-buffer-too-short
+match-numbers Match-too-long = refusing-match text-too-long
 
 -- a match is a search of the whole text alone: yes where it is found
 abbrev pub as-match : Searched → Matched
@@ -49,9 +49,9 @@ as-match Search-too-few-classes = Match-too-few-classes
 as-match Search-too-long = Match-too-long
 
 -- the numbers of each answer of a search
-abbrev pub search-numbers : Searched → Numbers
+abbrev pub search-numbers : Searched → FoundNumbers
 search-numbers (Found start end) = finding start end
-search-numbers Nothing = answering false
-search-numbers Search-not-good = refusing list-not-good
-search-numbers Search-too-few-classes = refusing class-buffer-too-short
-search-numbers Search-too-long = refusing text-too-long
+search-numbers Nothing = answering-match false
+search-numbers Search-not-good = refusing-match list-not-good
+search-numbers Search-too-few-classes = refusing-match class-buffer-too-short
+search-numbers Search-too-long = refusing-match text-too-long

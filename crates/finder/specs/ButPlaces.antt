@@ -20,7 +20,7 @@ use Rattle.finder.specs.Promise.{
   search-nothing,
 }
 use Rattle.finder.specs.Unique.{match-unique, search-unique-numbers}
-use Rattle.finder.specs.declared.numbers.Numbers.{Numbers}
+use Rattle.finder.specs.declared.numbers.FoundNumbers.{FoundNumbers}
 
 module _ {one other classes text : List ℕ} (alike : Same-but-places one other) where
   -- a refusal of one is one of the other
@@ -41,21 +41,22 @@ module _ {one other classes text : List ℕ} (alike : Same-but-places one other)
   }
 
   -- what match answers on one it answers on the other
-  matches-there : {n : Numbers} → Match-answers one classes text n → Match-answers other classes text n
+  matches-there : {n : FoundNumbers} → Match-answers one classes text n → Match-answers other classes text n
   matches-there (match-refused r) = match-refused (refuses-there r)
   matches-there (match-answered o) = match-answered (of-good-there o)
 
   -- and what search answers
-  searches-there : {n : Numbers} → Search-answers one classes text n → Search-answers other classes text n
+  searches-there : {n : FoundNumbers} → Search-answers one classes text n → Search-answers other classes text n
   searches-there (search-refused r) = search-refused (refuses-there r)
   searches-there (search-found o) = search-found (of-good-there o)
   searches-there (search-nothing o) = search-nothing (of-good-there o)
 
   -- so two results of match are the same
-  pub matches-alike : {n n′ : Numbers} → Match-answers one classes text n → Match-answers other classes text n′ → n ≡ n′
+  pub matches-alike : {n n′ : FoundNumbers} → Match-answers one classes text n → Match-answers other classes text n′
+      → n ≡ n′
   matches-alike a b = match-unique other classes text (matches-there a) b
 
   -- and two results of search
-  pub searches-alike : {n n′ : Numbers} → Search-answers one classes text n → Search-answers other classes text n′
+  pub searches-alike : {n n′ : FoundNumbers} → Search-answers one classes text n → Search-answers other classes text n′
       → n ≡ n′
   searches-alike a b = search-unique-numbers other classes text (searches-there a) b

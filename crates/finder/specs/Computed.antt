@@ -27,7 +27,7 @@ use Rattle.language.specs.Nested.{
   Move,
   Sweep,
 }
-use Rattle.language.specs.Walk.{Entered, First, Second, Walked, walked-keeps, walked-more}
+use Rattle.language.specs.StateWalk.{Entered, First, Second, Walked, walked-keeps, walked-more}
 use Rattle.language.specs.TwoWalks.{two-walks-settle}
 use Rattle.language.specs.Visits.{sweep-walked, sweep-within}
 use Rattle.language.specs.Sweeps.{sweeps-start, sweeps-step}
@@ -59,23 +59,23 @@ never : {P : Type 0} → (P → ⊥) → (false ≡ true) ↔ P
 never none = (λ e. absurd (false≢true e), λ p. absurd (none p))
 
 -- what passes, and the start where p passes
-abbrev entered : Test → Bool → Test
-entered f p start = f start || p
-entered f p accepting = f accepting
-entered f p (left q) = f (left q)
-entered f p (right q) = f (right q)
+abbrev entered-test : Test → Bool → Test
+entered-test f p start = f start || p
+entered-test f p accepting = f accepting
+entered-test f p (left q) = f (left q)
+entered-test f p (right q) = f (right q)
 
 -- what a walk makes of a left or only child
-abbrev first : (Test → Test) → Test → Test
-first walk f = walk (entered (λ p. f (left p)) (f start))
+abbrev first-test : (Test → Test) → Test → Test
+first-test walk f = walk (entered-test (λ p. f (left p)) (f start))
 
 -- what a walk makes of a right child, entered where p passes
-abbrev second : (Test → Test) → Bool → Test → Test
-second walk p f = walk (entered (λ q. f (right q)) p)
+abbrev second-test : (Test → Test) → Bool → Test → Test
+second-test walk p f = walk (entered-test (λ q. f (right q)) p)
 
 -- the start added to a test is the start added to the set that it decides
 entered-exactly : {f : Test} {X : States} {p : Bool} {P : Type 0} → Decides f X → (p ≡ true) ↔ P
-    → Decides (entered f p) (Entered X P)
+    → Decides (entered-test f p) (Entered X P)
 entered-exactly {f = f} {p = p} d e start = or-exactly (f start) p (d start) e
 entered-exactly d e accepting = d accepting
 entered-exactly d e (left q) = d (left q)
@@ -87,41 +87,43 @@ Decides-after walk Walk = (f : Test) (X : States) → Decides f X → Decides (w
 
 -- so is a left child walked, and a right one
 first-exactly : {walk : Test → Test} {Walk : States → States} → Decides-after walk Walk
-    → Decides-after (first walk) (First Walk)
+    → Decides-after (first-test walk) (First Walk)
 first-exactly follows f X d = follows _ _ (entered-exactly (λ p. d (left p)) (d start))
 
 second-exactly : {walk : Test → Test} {Walk : States → States} → Decides-after walk Walk → {p : Bool} {P : Type 0}
-    → (p ≡ true) ↔ P → Decides-after (second walk p) (Second Walk P)
+    → (p ≡ true) ↔ P → Decides-after (second-test walk p) (Second Walk P)
 second-exactly follows e f X d = follows _ _ (entered-exactly (λ p. d (right p)) e)
 
 module _ {A : Type 0} (M : Meaning A) (exact : Exact M) where
   -- one walk over the states in their order
-  unfoldable pub walked : Nested A → Test → Test
-  walked (leaf a) f start = f start
-  walked (leaf a) f accepting = f accepting || (exact .tests .has-empty a && f start)
-  walked (leaf a) f (left q) = f (left q)
-  walked (leaf a) f (right q) = f (right q)
-  walked (catenation x y) f start = f start
-  walked (catenation x y) f (left q) = first (walked x) f q
-  walked (catenation x y) f (right q) = second (walked y) (first (walked x) f accepting) f q
-  walked (catenation x y) f accepting = f accepting || second (walked y) (first (walked x) f accepting) f accepting
-  walked (union x y) f start = f start
-  walked (union x y) f (left q) = first (walked x) f q
-  walked (union x y) f (right q) = second (walked y) (f start) f q
-  walked (union x y) f accepting =
-      f accepting || (first (walked x) f accepting || second (walked y) (f start) f accepting)
-  walked (star x) f start = f start
-  walked (star x) f (left q) = entered (first (walked x) f) (first (walked x) f accepting) q
-  walked (star x) f (right q) = f (right q)
-  walked (star x) f accepting = f accepting || (f start || first (walked x) f accepting)
-  walked (below x) f start = f start
-  walked (below x) f (left q) = first (walked x) f q
-  walked (below x) f (right q) = f (right q)
-  walked (below x) f accepting = f accepting || first (walked x) f accepting
+  unfoldable pub walked-test : Nested A → Test → Test
+  walked-test (leaf a) f start = f start
+  walked-test (leaf a) f accepting = f accepting || (exact .tests .has-empty a && f start)
+  walked-test (leaf a) f (left q) = f (left q)
+  walked-test (leaf a) f (right q) = f (right q)
+  walked-test (catenation x y) f start = f start
+  walked-test (catenation x y) f (left q) = first-test (walked-test x) f q
+  walked-test (catenation x y) f (right q) = second-test (walked-test y) (first-test (walked-test x) f accepting) f q
+  walked-test (catenation x y) f accepting = f accepting
+      || second-test (walked-test y) (first-test (walked-test x) f accepting) f accepting
+  walked-test (union x y) f start = f start
+  walked-test (union x y) f (left q) = first-test (walked-test x) f q
+  walked-test (union x y) f (right q) = second-test (walked-test y) (f start) f q
+  walked-test (union x y) f accepting =
+      f accepting || (first-test (walked-test x) f accepting || second-test (walked-test y) (f start) f accepting)
+  walked-test (star x) f start = f start
+  walked-test (star x) f (left q) = entered-test (first-test (walked-test x) f) (first-test (walked-test x) f accepting)
+      q
+  walked-test (star x) f (right q) = f (right q)
+  walked-test (star x) f accepting = f accepting || (f start || first-test (walked-test x) f accepting)
+  walked-test (below x) f start = f start
+  walked-test (below x) f (left q) = first-test (walked-test x) f q
+  walked-test (below x) f (right q) = f (right q)
+  walked-test (below x) f accepting = f accepting || first-test (walked-test x) f accepting
 
   -- a walk over tests decides what a walk over sets marks
-  walked-exactly : (x : Nested A) → Decides-after (walked x) (Walked M x)
-  unfolding walked
+  walked-exactly : (x : Nested A) → Decides-after (walked-test x) (Walked M x)
+  unfolding walked-test
   walked-exactly (leaf a) f X d start = d start
   walked-exactly (leaf a) f X d accepting =
       or-exactly _ _ (d accepting) (and-exactly _ _ (exact .empty-exactly a) (d start))
@@ -237,10 +239,10 @@ module _ {A : Type 0} (M : Meaning A) (exact : Exact M) (x : Nested A) where
 
   -- two walks over tests decide two sweeps
   swept-exactly : (f : Test) (X : States) → Decides f X
-      → Decides (walked M exact x (walked M exact x f)) (Sweep M x (Sweep M x X))
+      → Decides (walked-test M exact x (walked-test M exact x f)) (Sweep M x (Sweep M x X))
   swept-exactly f X d q =
       let once = walked-exactly M exact x f X d in
-      Iff·trans (walked-exactly M exact x (walked M exact x f) (Walked M x X) once q) (walks-sweep X q)
+      Iff·trans (walked-exactly M exact x (walked-test M exact x f) (Walked M x X) once q) (walks-sweep X q)
 
 -- only the start
 abbrev pub only-start : Test
@@ -264,11 +266,11 @@ decided-models x X d models q has = Iff·trans (d q) (models q has)
 module _ {A : Type 0} (M : Meaning A) (exact : Exact M) (x : Nested A) where
   -- the marks to start with, as a test
   abbrev pub start-test : Test
-  start-test = walked M exact x (walked M exact x only-start)
+  start-test = walked-test M exact x (walked-test M exact x only-start)
 
   -- one byte further: move along it, then two walks
   abbrev pub step-test : ℕ → Test → Test
-  step-test b f = walked M exact x (walked M exact x (moved M exact b x f))
+  step-test b f = walked-test M exact x (walked-test M exact x (moved M exact b x f))
 
   -- after a text
   abbrev pub after-test : List ℕ → Test → Test

@@ -109,8 +109,8 @@ pub record Exact {A : Type 0} (M : Meaning A) : Type 0 where
 
 module _ {A : Type 0} (M : Meaning A) (exact : Exact M) where
   -- the test for membership, by the tests on the leaves
-  abbrev member : Tree A → List ℕ → Bool
-  member = matched (exact .tests)
+  abbrev member-test : Tree A → List ℕ → Bool
+  member-test = matched (exact .tests)
 
   -- a text of one byte that the leaf takes lies in its language, and so does the empty text where the leaf has it
   leaf-found : (a : A) (w : List ℕ) → leaf-text (exact .tests .takes a) (exact .tests .has-empty a) w ≡ true
@@ -121,33 +121,33 @@ module _ {A : Type 0} (M : Meaning A) (exact : Exact M) where
   leaf-found a (b ∷ c ∷ w) e = absurd (false≢true e)
 
   -- a text that passes lies in the language
-  matched-found : (t : Tree A) (w : List ℕ) → member t w ≡ true → Language M t w
+  matched-found : (t : Tree A) (w : List ℕ) → member-test t w ≡ true → Language M t w
   unfolding matched
   matched-found (leaf a) w e = leaf-found a w e
   matched-found (catenation s t) w e =
-      let r = split-found (λ u v. member s u && member t v) w e in
-      let (p, q) = both (member s (r .head)) (member t (r .tail)) (r .passes) in
+      let r = split-found (λ u v. member-test s u && member-test t v) w e in
+      let (p, q) = both (member-test s (r .head)) (member-test t (r .tail)) (r .passes) in
       (r .head, r .tail, r .joined, matched-found s (r .head) p, matched-found t (r .tail) q)
   matched-found (union s t) w e =
       ⊎-elim (λ p. inl (matched-found s w p)) (λ p. inr (matched-found t w p))
-      (either (member s w) (member t w) e)
-  matched-found (star s) w e = repeated-more (matched-found s) (repeat-found (member s) (length w) w e)
+      (either (member-test s w) (member-test t w) e)
+  matched-found (star s) w e = repeated-more (matched-found s) (repeat-found (member-test s) (length w) w e)
 
   -- a text of the language passes
-  matched-passes : (t : Tree A) (w : List ℕ) → Language M t w → member t w ≡ true
+  matched-passes : (t : Tree A) (w : List ℕ) → Language M t w → member-test t w ≡ true
   unfolding matched leaf-text
   matched-passes (leaf a) w (inl (b, e, h)) = rw e (exact .takes-exactly a b .1 h)
   matched-passes (leaf a) w (inr (e, h)) = rw e (exact .empty-exactly a .1 h)
   matched-passes (catenation s t) w (u, v, e, p, q) =
-      rw e (split-passes (λ x y. member s x && member t y) u v
+      rw e (split-passes (λ x y. member-test s x && member-test t y) u v
       (rw (matched-passes s u p, matched-passes t v q)))
   matched-passes (union s t) w (inl p) = rw (matched-passes s w p)
-  matched-passes (union s t) w (inr q) = rw (matched-passes t w q) (or-true (member s w))
-  matched-passes (star s) w r = repeat-passes (member s) (repeated-more (matched-passes s) r) (length w)
+  matched-passes (union s t) w (inr q) = rw (matched-passes t w q) (or-true (member-test s w))
+  matched-passes (star s) w r = repeat-passes (member-test s) (repeated-more (matched-passes s) r) (length w)
       (omega arith)
 
   -- the test says exactly whether the text lies in the language
-  pub matched-exactly : (t : Tree A) (w : List ℕ) → (member t w ≡ true) ↔ Language M t w
+  pub matched-exactly : (t : Tree A) (w : List ℕ) → (member-test t w ≡ true) ↔ Language M t w
   matched-exactly t w = (matched-found t w, matched-passes t w)
 
 module _ (classes : List ℕ) where

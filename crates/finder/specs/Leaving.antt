@@ -13,7 +13,7 @@ use Rattle.language.specs.Tree.{Tree}
 use Rattle.language.specs.Automaton.{State, States, accepting, Started, Stepped, After}
 use Rattle.language.specs.Nested.{Nested, whole, origin}
 use Rattle.language.specs.Acceptance.{accepts-exactly}
-use Rattle.language.specs.Along.{after-step, reached-state}
+use Rattle.language.specs.AlongText.{after-step, reached-state}
 use Rattle.language.specs.Models.{State-of, models-origins}
 use Rattle.language.specs.Simulation.{_⊆_, stepped-more}
 use Rattle.tree.specs.Leaf.{Leaf, meaning}

@@ -12,8 +12,8 @@ use Rattle.tree.specs.Limits.{longest-text}
 use Rattle.tree.specs.Records.{Good}
 use Rattle.marks.specs.Promise.{Not-good, Classed, Too-few-classes}
 use Rattle.matching.specs.Found.{Found, Nothing-found}
-use Rattle.finder.specs.Answer.{refusing, answering, finding}
-use Rattle.finder.specs.declared.numbers.Numbers.{Numbers}
+use Rattle.finder.specs.Answer.{refusing-match, answering-match, finding}
+use Rattle.finder.specs.declared.numbers.FoundNumbers.{FoundNumbers}
 
 -- the list is good, there are class records enough, the text is no longer than 65,536 bytes, and P holds of the list's
 -- tree
@@ -38,16 +38,18 @@ pub data Refuses (list classes text : List ℕ) : ℕ → Type 0 where
   too-long : Too-long list classes text → Refuses list classes text text-too-long
 
 -- match: a refusal; or yes exactly when the text is in the language of the list's tree
-pub data Match-answers (list classes text : List ℕ) : Numbers → Type 0 where
-  match-refused : {number : ℕ} → Refuses list classes text number → Match-answers list classes text (refusing number)
+pub data Match-answers (list classes text : List ℕ) : FoundNumbers → Type 0 where
+  match-refused : {number : ℕ} → Refuses list classes text number
+      → Match-answers list classes text (refusing-match number)
   match-answered : {matched : Bool} → Of-good list classes text (λ t. (matched ≡ true) ↔ Matches classes t text)
-      → Match-answers list classes text (answering matched)
+      → Match-answers list classes text (answering-match matched)
 
 -- search: a refusal; or the part that starts earliest and then ends furthest, of those in the language; or nothing,
 -- where no part is in it
-pub data Search-answers (list classes text : List ℕ) : Numbers → Type 0 where
-  search-refused : {number : ℕ} → Refuses list classes text number → Search-answers list classes text (refusing number)
+pub data Search-answers (list classes text : List ℕ) : FoundNumbers → Type 0 where
+  search-refused : {number : ℕ} → Refuses list classes text number
+      → Search-answers list classes text (refusing-match number)
   search-found : {start end : ℕ} → Of-good list classes text (λ t. Found (Matches classes t) text start end)
       → Search-answers list classes text (finding start end)
   search-nothing : Of-good list classes text (λ t. Nothing-found (Matches classes t) text)
-      → Search-answers list classes text (answering false)
+      → Search-answers list classes text (answering-match false)

@@ -15,8 +15,8 @@ use Rattle.tree.specs.Records.{Good}
 use Rattle.lists.specs.Readback.{good-unique}
 use Rattle.marks.specs.Promise.{Not-good, Classed, Too-few-classes}
 use Rattle.matching.specs.Found.{Found, Nothing-found}
-use Rattle.finder.specs.Answer.{answering, finding}
-use Rattle.finder.specs.declared.numbers.Numbers.{Numbers}
+use Rattle.finder.specs.Answer.{answering-match, finding}
+use Rattle.finder.specs.declared.numbers.FoundNumbers.{FoundNumbers}
 use Rattle.finder.specs.Promise.{
   Of-good,
   Too-long,
@@ -47,11 +47,11 @@ module _ (list classes text : List ℕ) where
     refused : {number : ℕ} → Refuses list classes text number → Reason number
 
   -- so of what match answers, and of what search answers
-  pub match-reason : {n : Numbers} → Match-answers list classes text n → Reason (n .refusal)
+  pub match-reason : {n : FoundNumbers} → Match-answers list classes text n → Reason (n .refusal)
   match-reason (match-refused r) = refused r
   match-reason (match-answered a) = fine (record { t = a .t; good = a .good; classed = a .classed; short = a .short })
 
-  pub search-reason : {n : Numbers} → Search-answers list classes text n → Reason (n .refusal)
+  pub search-reason : {n : FoundNumbers} → Search-answers list classes text n → Reason (n .refusal)
   search-reason (search-refused r) = refused r
   search-reason (search-found a) = fine (record { t = a .t; good = a .good; classed = a .classed; short = a .short })
   search-reason (search-nothing a) = fine (record { t = a .t; good = a .good; classed = a .classed; short = a .short })
@@ -105,7 +105,7 @@ module _ (list classes text : List ℕ) where
   reason-unique (refused (too-few-classes a)) r = rw (too-few-classes-exactly r .1 a)
   reason-unique (refused (too-long a)) r = rw (too-long-exactly r .1 a)
 
-  module _ (n : Numbers) (answers : Match-answers list classes text n) where
+  module _ (n : FoundNumbers) (answers : Match-answers list classes text n) where
     -- match refuses with 10 exactly when the list is not good
     pub match-not-good : (n .refusal ≡ list-not-good) ↔ Not-good list
     match-not-good = not-good-exactly (match-reason answers)
@@ -122,7 +122,7 @@ module _ (list classes text : List ℕ) where
     pub match-taken : (n .refusal ≡ 0) ↔ Answerable list classes text
     match-taken = taken-exactly (match-reason answers)
 
-  module _ (n : Numbers) (answers : Search-answers list classes text n) where
+  module _ (n : FoundNumbers) (answers : Search-answers list classes text n) where
     -- search refuses with 10 exactly when the list is not good
     pub search-not-good : (n .refusal ≡ list-not-good) ↔ Not-good list
     search-not-good = not-good-exactly (search-reason answers)
@@ -156,17 +156,17 @@ module _ (list classes text : List ℕ) where
   numbered (too-long a) e = omega arith
 
   -- where match refuses nothing, it says whether the text is in the language
-  match-says : {n : Numbers} → Match-answers list classes text n → n .refusal ≡ 0
+  match-says : {n : FoundNumbers} → Match-answers list classes text n → n .refusal ≡ 0
       → Of-good list classes text (λ t. (n .matched ≡ true) ↔ Matches classes t text)
   match-says (match-refused r) e = absurd (numbered r e)
   match-says (match-answered a) e = a
 
-  pub match-exactly : (matched : Bool) → Match-answers list classes text (answering matched)
+  pub match-exactly : (matched : Bool) → Match-answers list classes text (answering-match matched)
       ↔ Of-good list classes text (λ t. (matched ≡ true) ↔ Matches classes t text)
   match-exactly matched = (λ a. match-says a refl, match-answered)
 
   -- where search refuses nothing, it says which part was found
-  found-says : {n : Numbers} → Search-answers list classes text n → n .refusal ≡ 0 → n .matched ≡ true
+  found-says : {n : FoundNumbers} → Search-answers list classes text n → n .refusal ≡ 0 → n .matched ≡ true
       → Of-good list classes text (λ t. Found (Matches classes t) text (n .start) (n .end))
   found-says (search-refused r) e f = absurd (numbered r e)
   found-says (search-found a) e f = a
@@ -177,12 +177,12 @@ module _ (list classes text : List ℕ) where
   search-found-exactly start end = (λ a. found-says a refl refl, search-found)
 
   -- or that there is none
-  nothing-says : {n : Numbers} → Search-answers list classes text n → n .refusal ≡ 0 → n .matched ≡ false
+  nothing-says : {n : FoundNumbers} → Search-answers list classes text n → n .refusal ≡ 0 → n .matched ≡ false
       → Of-good list classes text (λ t. Nothing-found (Matches classes t) text)
   nothing-says (search-refused r) e f = absurd (numbered r e)
   nothing-says (search-found a) e f = absurd (false≢true (sym f))
   nothing-says (search-nothing a) e f = a
 
-  pub search-nothing-exactly : Search-answers list classes text (answering false)
+  pub search-nothing-exactly : Search-answers list classes text (answering-match false)
       ↔ Of-good list classes text (λ t. Nothing-found (Matches classes t) text)
   search-nothing-exactly = (λ a. nothing-says a refl refl, search-nothing)

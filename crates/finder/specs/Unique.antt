@@ -12,7 +12,7 @@ use Rattle.tree.specs.Leaf.{Leaf, Matches}
 use Rattle.lists.specs.Readback.{good-unique}
 use Rattle.matching.specs.Found.{Search-outcome, at, nothing}
 use Rattle.finder.specs.SearchUnique.{search-unique}
-use Rattle.finder.specs.Answer.{refusing, answering, finding, match-numbers, search-numbers}
+use Rattle.finder.specs.Answer.{refusing-match, answering-match, finding, match-numbers, search-numbers}
 use Rattle.finder.specs.Promise.{
   Of-good,
   Refuses,
@@ -28,7 +28,7 @@ use Rattle.finder.specs.Promise.{
   search-nothing,
 }
 use Rattle.finder.specs.Refusals.{Answerable, reason-unique, too-few-classes-exactly, fine, refused}
-use Rattle.finder.specs.declared.numbers.Numbers.{Numbers}
+use Rattle.finder.specs.declared.numbers.FoundNumbers.{FoundNumbers}
 use Rattle.finder.specs.declared.Matched.{Matched}
 use Rattle.finder.specs.declared.Matched.the-variants.{
   Yes,
@@ -47,7 +47,7 @@ use Rattle.finder.specs.declared.Searched.the-variants.{
 }
 
 -- the answer of a match, from its numbers
-abbrev matched-by : Numbers → Matched
+abbrev matched-by : FoundNumbers → Matched
 matched-by n =
     cond (eqb (n .refusal) list-not-good) Match-not-good
     (cond (eqb (n .refusal) class-buffer-too-short) Match-too-few-classes
@@ -61,7 +61,7 @@ matched-back Match-too-few-classes = refl
 matched-back Match-too-long = refl
 
 -- the answer of a search, from its numbers
-abbrev searched-by : Numbers → Searched
+abbrev searched-by : FoundNumbers → Searched
 searched-by n =
     cond (eqb (n .refusal) list-not-good) Search-not-good
     (cond (eqb (n .refusal) class-buffer-too-short) Search-too-few-classes
@@ -82,9 +82,9 @@ same-test false true h = h .1 refl
 same-test false false h = refl
 
 -- the numbers of a search that refuses nothing
-abbrev found-numbers : Search-outcome → Numbers
+abbrev found-numbers : Search-outcome → FoundNumbers
 found-numbers (at start end) = finding start end
-found-numbers nothing = answering false
+found-numbers nothing = answering-match false
 
 module _ (list classes text : List ℕ) where
   -- what is answered is not refused
@@ -108,13 +108,14 @@ module _ (list classes text : List ℕ) where
   same-refusal a b = reason-unique list classes text (refused a) (refused b)
 
   -- two results of match that fit its promise give the same numbers: a text is in a language or not
-  pub match-unique : {n n′ : Numbers} → Match-answers list classes text n → Match-answers list classes text n′ → n ≡ n′
-  match-unique (match-refused a) (match-refused b) = ap refusing (same-refusal a b)
+  pub match-unique : {n n′ : FoundNumbers} → Match-answers list classes text n → Match-answers list classes text n′
+      → n ≡ n′
+  match-unique (match-refused a) (match-refused b) = ap refusing-match (same-refusal a b)
   match-unique (match-refused a) (match-answered b) = absurd (not-both a b)
   match-unique (match-answered a) (match-refused b) = absurd (not-both b a)
   match-unique (match-answered {matched = m} a) (match-answered {matched = n} b) =
       let (t, p, q) = of-one a b in
-      ap answering (same-test m n (Iff·trans p (Iff·symm q)))
+      ap answering-match (same-test m n (Iff·trans p (Iff·symm q)))
 
   -- and are the same answer
   pub match-answer-unique : (r s : Matched) → Match-answers list classes text (match-numbers r)
@@ -128,9 +129,9 @@ module _ (list classes text : List ℕ) where
   same-found same a b = let (t, p, q) = of-one a b in ap found-numbers (same t p q)
 
   -- two results of search that fit its promise give the same numbers
-  pub search-unique-numbers : {n n′ : Numbers} → Search-answers list classes text n
+  pub search-unique-numbers : {n n′ : FoundNumbers} → Search-answers list classes text n
       → Search-answers list classes text n′ → n ≡ n′
-  search-unique-numbers (search-refused a) (search-refused b) = ap refusing (same-refusal a b)
+  search-unique-numbers (search-refused a) (search-refused b) = ap refusing-match (same-refusal a b)
   search-unique-numbers (search-refused a) (search-found b) = absurd (not-both a b)
   search-unique-numbers (search-refused a) (search-nothing b) = absurd (not-both a b)
   search-unique-numbers (search-found a) (search-refused b) = absurd (not-both b a)

@@ -5,11 +5,11 @@ use tree::refusal_numbers::CLASS_BUFFER_TOO_SHORT;
 use tree::refusal_numbers::LIST_NOT_GOOD;
 use tree::refusal_numbers::TEXT_TOO_LONG;
 ghost use mathlib.Core.Path.{_≡_};
-ghost use Rattle.finder.specs.Answer.{refusing, answering, match-numbers, search-numbers};
+ghost use Rattle.finder.specs.Answer.{refusing-match, answering-match, match-numbers, search-numbers};
 
 // The refusal's number, 0 for none, and its place; whether the text matches, or a part of it; that part's start and
 // end.
-pub struct Numbers {
+pub struct FoundNumbers {
     pub refusal: u8,
     pub place: usize,
     pub matched: bool,
@@ -17,10 +17,10 @@ pub struct Numbers {
     pub end: usize,
 }
 
-fn refusing(number: u8) -> Numbers
-    ensures { λ r. ⌜ r ≡ refusing number ⌝ }
+fn refusing(number: u8) -> FoundNumbers
+    ensures { λ r. ⌜ r ≡ refusing-match number ⌝ }
 {
-    Numbers {
+    FoundNumbers {
         refusal: number,
         place: 0,
         matched: false,
@@ -29,10 +29,10 @@ fn refusing(number: u8) -> Numbers
     }
 }
 
-fn answering(matched: bool) -> Numbers
-    ensures { λ r. ⌜ r ≡ answering matched ⌝ }
+fn answering(matched: bool) -> FoundNumbers
+    ensures { λ r. ⌜ r ≡ answering-match matched ⌝ }
 {
-    Numbers {
+    FoundNumbers {
         refusal: 0,
         place: 0,
         matched,
@@ -42,7 +42,7 @@ fn answering(matched: bool) -> Numbers
 }
 
 // The numbers of a match's answer.
-pub fn match_numbers(answer: Matched) -> Numbers
+pub fn match_numbers(answer: Matched) -> FoundNumbers
     ensures { λ r. ⌜ r ≡ match-numbers answer ⌝ }
 {
     match answer {
@@ -55,11 +55,11 @@ pub fn match_numbers(answer: Matched) -> Numbers
 }
 
 // The numbers of a search's answer.
-pub fn search_numbers(answer: Searched) -> Numbers
+pub fn search_numbers(answer: Searched) -> FoundNumbers
     ensures { λ r. ⌜ r ≡ search-numbers answer ⌝ }
 {
     match answer {
-        Searched::Found { start, end } => Numbers {
+        Searched::Found { start, end } => FoundNumbers {
             refusal: 0,
             place: 0,
             matched: true,

@@ -11,11 +11,9 @@ use Rattle.tree.specs.Leaf.{Leaf}
 use Rattle.tree.specs.Layout.{class-record-size}
 use Rattle.tree.specs.Records.{Good}
 use Rattle.lists.specs.Readback.{good-unique}
-use Rattle.deciding.specs.Judged.{Judged, Counts-below, Room-to-decide}
+use Rattle.deciding.specs.Judged.{Judged}
 use Rattle.deciding.specs.declared.good.Decided.{Decided}
-use Rattle.deciding.specs.declared.good.Decided.the-variants.{Good as good, NotGood as not-good}
-use Rattle.deciding.proofs.good.Decided.{the-type}
-use Rattle.planning.specs.Given.{Decided-good, good-top}
+use Rattle.deciding.specs.declared.good.Decided.the-variants.{Good as good}
 use Rattle.marks.specs.declared.MarksAnswer.{MarksAnswer}
 use Rattle.marks.specs.declared.MarksAnswer.the-variants.{
   Marked,
@@ -25,24 +23,8 @@ use Rattle.marks.specs.declared.MarksAnswer.the-variants.{
   NotMarks,
 }
 use Rattle.marks.proofs.MarksAnswer.{the-type as answer-type}
-use Rattle.marks.specs.Answer.{refusing, numbers}
-use Rattle.marks.specs.Promise.{Not-good, Classed, Too-few-classes}
-
--- the list is good, and its tree is measured
-pub told-good : {list before cuts : List ℕ} {answer : Decided} {records pieces leaves : ℕ}
-    → answer ≡ good records pieces leaves
-    → Judged list answer × Counts-below list cuts → Room-to-decide list before → length cuts ≡ length before
-    → Decided-good list cuts pieces
-told-good {list} e decided room same =
-    let fits = subst (Judged list) e (decided .0) .fits in
-    let top = good-top (fits .is-good) in
-    record {
-      some = fits .tree;
-      good = fits .is-good;
-      counted = decided .1;
-      cuts-room = omega (arith, room .for-slots (omega (arith, top .all, top .fine .short)), same);
-      pieces-are = fits .pieces-are;
-    }
+use Rattle.marks.specs.Answer.{refusing-marks, marks-numbers}
+use Rattle.marks.specs.Promise.{Classed, Too-few-classes}
 
 module _ {list : List ℕ} (classes : List ℕ) {answer : Decided} {records pieces leaves : ℕ}
     (e : answer ≡ good records pieces leaves) (judged : Judged list answer) where
@@ -59,18 +41,13 @@ module _ {list : List ℕ} (classes : List ℕ) {answer : Decided} {records piec
       let told = subst (Judged list) e judged .fits in
       (told .tree, told .is-good, omega (arith, told .classes-are))
 
--- the list is not good
-pub told-not-good : {list : List ℕ} (answer : Decided) → tagOf the-type answer ≡ 1 → Judged list answer → Not-good list
-told-not-good (good records pieces leaves) tag judged = absurd (omega arith)
-told-not-good not-good tag judged = judged .fits
-
 -- the refusals of a start or a step, in the order of its cases
 abbrev refusals : List ℕ
 refusals = list-not-good ∷ class-buffer-too-short ∷ too-few-words ∷ words-not-marks ∷ []
 
 -- a case past the first is a refusal
 pub told-refusal : (answer : MarksAnswer) (place : ℕ) → tagOf answer-type answer ≡ suc place
-    → numbers answer ≡ refusing (getD refusals place 0)
+    → marks-numbers answer ≡ refusing-marks (getD refusals place 0)
 told-refusal (Marked accepting nothing) place tag = absurd (omega arith)
 told-refusal NotGood place tag = let at : 0 ≡ place = omega arith in rw (sym at)
 told-refusal TooFewClasses place tag = let at : 1 ≡ place = omega arith in rw (sym at)

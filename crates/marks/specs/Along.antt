@@ -17,6 +17,7 @@ use Rattle.tree.specs.Leaf.{Leaf}
 use Rattle.tree.specs.Records.{Good, piece-count}
 use Rattle.tree.specs.Pieces.{cut-up}
 use Rattle.tables.specs.Words.{Bit, Holds, Set-of}
+use Rattle.tables.specs.Plan.{top-of}
 use Rattle.closing.specs.BitsOfWords.Bits.{Tells}
 use Rattle.closing.specs.BitsOfWords.Zero.{All-zero}
 use Rattle.closing.specs.BitsOfWords.AllZero.{zero-holds}
@@ -24,9 +25,9 @@ use Rattle.stepping.specs.Hold.{Hold, Marks-of}
 use Rattle.tables.specs.Tables.{Prepared, Ready}
 use Rattle.stepping.specs.Inner.{Running, Advanced, answer-told, told-exactly}
 use Rattle.stepping.specs.Texts.{all-words}
-use Rattle.marks.specs.Answer.{Numbers, marking}
+use Rattle.marks.specs.Answer.{MarksNumbers, marking}
 use Rattle.marks.specs.Promise.{
-  Refused,
+  Refused-unchanged,
   Not-good,
   Classed,
   Too-few-classes,
@@ -63,13 +64,13 @@ pub record Told-of (t : Tree Leaf) (words : List ℕ) (yes' nothing : Bool) : Ty
   pub left : (nothing ≡ true) ↔ All-zero (piece-count t) words
 
 -- what the bit of the last state of piece 0 and the words of the pieces tell
-pub told-by : {t : Tree Leaf} {reach codes runs stands tops words : List ℕ} {count : ℕ} {yes' nothing : Bool}
-    (prepared : Prepared t reach codes runs stands tops count) → Marks-of t words
-    → Tells (Bit (getD words 0 0) (getD tops 0 0)) yes' → Tells (All-zero count words) nothing
+pub told-by : {t : Tree Leaf} {rows words : List ℕ} {count : ℕ} {yes' nothing : Bool}
+    (prepared : Prepared t rows count) → Marks-of t words
+    → (top : ℕ) → top ≡ top-of rows 0 → Tells (Bit (getD words 0 0) top) yes' → Tells (All-zero count words) nothing
     → Told-of t words yes' nothing
-told-by {t} {words = words} {yes' = yes'} {nothing = nothing} prepared marks accepts zeros = record {
+told-by {t} {words = words} {yes' = yes'} {nothing = nothing} prepared marks top top-is accepts zeros = record {
   answer = answer-told prepared words (Set-of (cut-up t) words) yes'
-      (alike-models (cut-up t) (Holds (cut-up t) words) (marks .agreeing)) accepts;
+      (alike-models (cut-up t) (Holds (cut-up t) words) (marks .agreeing)) top top-is accepts;
   left = rw (← prepared .counted) (told-exactly nothing zeros);
 }
 
@@ -169,7 +170,7 @@ module _ {list classes : List ℕ} {t : Tree Leaf} where
       })
 
 -- a step that changes nothing and gives back the same, along every byte, may be made along any number of bytes
-pub each-repeated : {list classes before w after : List ℕ} {n : Numbers} → Steps-each list classes before w after n
+pub each-repeated : {list classes before w after : List ℕ} {n : MarksNumbers} → Steps-each list classes before w after n
     → ((byte : ℕ) → Steps list classes byte after after n) → (v : List ℕ)
     → Steps-each list classes before (w ++ v) after n
 each-repeated {list} {classes} {before} {w} {after} {n} each again [] =
@@ -178,24 +179,24 @@ each-repeated {list} {classes} {before} {w} {after} {n} each again (byte ∷ v) 
     subst (λ (u : List ℕ). Steps-each list classes before u after n) (append-assoc w (byte ∷ []) v)
     (each-repeated (one-more each (again byte)) again v)
 
-module _ {list classes words : List ℕ} {n : Numbers} where
+module _ {list classes words : List ℕ} {n : MarksNumbers} where
   -- so a list that is not good is refused along any number of bytes
-  pub each-not-good : Refused list-not-good (Not-good list) words words n → (w : List ℕ)
+  pub each-not-good : Refused-unchanged list-not-good (Not-good list) words words n → (w : List ℕ)
       → Steps-each list classes words w words n
   each-not-good a = each-repeated (no-byte (stay-not-good a)) (λ byte. step-not-good a)
 
   -- so are too few class records
-  pub each-too-few-classes : Refused class-buffer-too-short (Too-few-classes list classes) words words n
+  pub each-too-few-classes : Refused-unchanged class-buffer-too-short (Too-few-classes list classes) words words n
       → (w : List ℕ) → Steps-each list classes words w words n
   each-too-few-classes a = each-repeated (no-byte (stay-too-few-classes a)) (λ byte. step-too-few-classes a)
 
   -- too few words
-  pub each-too-few : Refused too-few-words (Too-few list classes words) words words n → (w : List ℕ)
+  pub each-too-few : Refused-unchanged too-few-words (Too-few list classes words) words words n → (w : List ℕ)
       → Steps-each list classes words w words n
   each-too-few a = each-repeated (no-byte (stay-too-few a)) (λ byte. step-too-few a)
 
   -- and words that are no marks
-  pub each-not-marks : Refused words-not-marks (Not-marks list classes words) words words n → (w : List ℕ)
+  pub each-not-marks : Refused-unchanged words-not-marks (Not-marks list classes words) words words n → (w : List ℕ)
       → Steps-each list classes words w words n
   each-not-marks a = each-repeated (no-byte (stay-not-marks a)) (λ byte. step-not-marks a)
 
@@ -210,16 +211,16 @@ last-same u v b c e =
     )
 
 -- the step along a single byte
-pub each-single : {list classes before after : List ℕ} {byte : ℕ} {n : Numbers}
+pub each-single : {list classes before after : List ℕ} {byte : ℕ} {n : MarksNumbers}
     → Steps-each list classes before (byte ∷ []) after n → Steps list classes byte before after n
 each-single {list} {classes} {before} {byte = byte} each = go each refl
   where
-    nowhere : {w after : List ℕ} {n : Numbers} → Steps-each list classes before w after n → w ≡ [] → after ≡ before
+    nowhere : {w after : List ℕ} {n : MarksNumbers} → Steps-each list classes before w after n → w ≡ [] → after ≡ before
     nowhere (no-byte stays) e = refl
     nowhere (one-more {w} {byte = b} each step) e =
         absurd (omega (arith, ap length e, length-append w (b ∷ [])))
 
-    go : {w after : List ℕ} {n : Numbers} → Steps-each list classes before w after n → w ≡ byte ∷ []
+    go : {w after : List ℕ} {n : MarksNumbers} → Steps-each list classes before w after n → w ≡ byte ∷ []
         → Steps list classes byte before after n
     go (no-byte stays) e = absurd (omega (arith, ap length e))
     go {n = n} (one-more {w} {later = later} {byte = b} each step) e =
@@ -227,23 +228,23 @@ each-single {list} {classes} {before} {byte = byte} each = go each refl
         subst (λ (c : ℕ). Steps list classes c before later n) same
         (subst (λ (l : List ℕ). Steps list classes b l later n) (nowhere each none) step)
 
--- the tables are those of a tree of which the words are marks
-pub record Walkable (reach codes runs stands tops : List ℕ) (count : ℕ) (words : List ℕ) : Type 0 where
-  pub ready : Ready reach codes runs stands tops count
+-- the rows are those of a tree of which the words are marks
+pub record Walkable (rows : List ℕ) (count : ℕ) (words : List ℕ) : Type 0 where
+  pub ready : Ready rows count
   pub enough : count ≤ length words
   pub marks : Marks-of (ready .of-tree .0) words
 
 -- so a step can be made in them
-pub walkable-runs : {reach codes runs stands tops words : List ℕ} {count : ℕ}
-    → Walkable reach codes runs stands tops count words
-    → Running reach codes runs stands tops count words
+pub walkable-runs : {rows words : List ℕ} {count : ℕ}
+    → Walkable rows count words
+    → Running rows count words
 walkable-runs w = record { ready = w .ready; enough = w .enough; clean = w .marks .clean }
 
 -- and leaves such words
-pub walkable-next : {reach codes runs stands tops words later classes : List ℕ} {count byte : ℕ} {yes' nothing : Bool}
-    (w : Walkable reach codes runs stands tops count words)
+pub walkable-next : {rows words later classes : List ℕ} {count byte : ℕ} {yes' nothing : Bool}
+    (w : Walkable rows count words)
     → Advanced classes (w .ready .of-tree .0) byte words later yes' nothing
-    → Walkable reach codes runs stands tops count later
+    → Walkable rows count later
 walkable-next w went = record {
   ready = w .ready;
   enough = omega (arith, w .enough, went .hold .same-length);

@@ -12,20 +12,20 @@ use Rattle.marks.specs.declared.MarksAnswer.the-variants.{
 }
 -- the refusal's number, 0 for none, and its place; whether the root's accepting state is now marked, and whether
 -- nothing is left
-pub use Rattle.marks.specs.declared.numbers.Numbers.{Numbers}
+pub use Rattle.marks.specs.declared.numbers.MarksNumbers.{MarksNumbers}
 
 -- a refusal gives back its number, place 0, and neither flag
-abbrev pub refusing : (number : ℕ) → Numbers
-refusing number = record { refusal = number; place = 0; accepting = false; nothing = false }
+abbrev pub refusing-marks : (number : ℕ) → MarksNumbers
+refusing-marks number = record { refusal = number; place = 0; accepting = false; nothing = false }
 
 -- where nothing is refused, the marks say whether the accepting state is among them, and whether there are none
-abbrev pub marking : (accepting nothing : Bool) → Numbers
+abbrev pub marking : (accepting nothing : Bool) → MarksNumbers
 marking accepting nothing = record { refusal = 0; place = 0; accepting = accepting; nothing = nothing }
 
 -- the numbers that each case of an answer gives back
-abbrev pub numbers : MarksAnswer → Numbers
-numbers (Marked accepting nothing) = marking accepting nothing
-numbers NotGood = refusing list-not-good
-numbers TooFewClasses = refusing class-buffer-too-short
-numbers TooFewWords = refusing too-few-words
-numbers NotMarks = refusing words-not-marks
+abbrev pub marks-numbers : MarksAnswer → MarksNumbers
+marks-numbers (Marked accepting nothing) = marking accepting nothing
+marks-numbers NotGood = refusing-marks list-not-good
+marks-numbers TooFewClasses = refusing-marks class-buffer-too-short
+marks-numbers TooFewWords = refusing-marks too-few-words
+marks-numbers NotMarks = refusing-marks words-not-marks

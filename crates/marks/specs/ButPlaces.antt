@@ -9,10 +9,10 @@ use Rattle.tree.specs.Leaf.{Leaf}
 use Rattle.tree.specs.Records.{Good}
 use Rattle.tree.specs.Places.{bare, Low-places}
 use Rattle.tree.specs.PlacesLaws.{same-but-places}
-use Rattle.marks.specs.Answer.{Numbers}
+use Rattle.marks.specs.Answer.{MarksNumbers}
 use Rattle.marks.specs.Promise.{
-  Refused,
-  Made,
+  Refused-unchanged,
+  Marks-made,
   Not-good,
   Too-few-classes,
   Starts,
@@ -37,8 +37,8 @@ pub record Same-but-places (one other : List ℕ) : Type 0 where
   pub other-low : Low-places other
 
 -- a refusal for another reason
-refused-by : {number : ℕ} {why why' : Type 0} {before after : List ℕ} {n : Numbers} → (why → why')
-    → Refused number why before after n → Refused number why' before after n
+refused-by : {number : ℕ} {why why' : Type 0} {before after : List ℕ} {n : MarksNumbers} → (why → why')
+    → Refused-unchanged number why before after n → Refused-unchanged number why' before after n
 refused-by reason r =
     record { because = reason (r .because); refuses = r .refuses; unchanged = r .unchanged }
 
@@ -59,8 +59,8 @@ module _ {one other : List ℕ} (alike : Same-but-places one other) where
   few-classes-there classes (t, good, few) = (t, good-there good, few)
 
   -- marks made by one are made by the other
-  abbrev made-there : {classes before after : List ℕ} {X : Tree Leaf → States} {n : Numbers}
-      → Made one classes X before after n → Made other classes X before after n
+  abbrev made-there : {classes before after : List ℕ} {X : Tree Leaf → States} {n : MarksNumbers}
+      → Marks-made one classes X before after n → Marks-made other classes X before after n
   made-there made = record {
     t = made .t;
     good = good-there (made .good);
@@ -73,7 +73,7 @@ module _ {one other : List ℕ} (alike : Same-but-places one other) where
   }
 
   -- what start answers on one it answers on the other
-  starts-there : {classes before after : List ℕ} {n : Numbers} → Starts one classes before after n
+  starts-there : {classes before after : List ℕ} {n : MarksNumbers} → Starts one classes before after n
       → Starts other classes before after n
   starts-there (start-not-good r) = start-not-good (refused-by not-good-there r)
   starts-there {classes} (start-too-few-classes r) =
@@ -83,7 +83,7 @@ module _ {one other : List ℕ} (alike : Same-but-places one other) where
   starts-there (started made) = started (made-there made)
 
   -- and what step answers
-  steps-there : {classes before after : List ℕ} {byte : ℕ} {n : Numbers} → Steps one classes byte before after n
+  steps-there : {classes before after : List ℕ} {byte : ℕ} {n : MarksNumbers} → Steps one classes byte before after n
       → Steps other classes byte before after n
   steps-there (step-not-good r) = step-not-good (refused-by not-good-there r)
   steps-there {classes} (step-too-few-classes r) = step-too-few-classes (refused-by (few-classes-there classes) r)
@@ -95,12 +95,12 @@ module _ {one other : List ℕ} (alike : Same-but-places one other) where
       stepped (record { made = made-there (moves .made); from-marks = moves .from-marks })
 
   -- so two results of start are the same, with every word
-  pub starts-alike : {classes before after after' : List ℕ} {n n' : Numbers} → Starts one classes before after n
+  pub starts-alike : {classes before after after' : List ℕ} {n n' : MarksNumbers} → Starts one classes before after n
       → Starts other classes before after' n' → (n ≡ n') × (after ≡ after')
   starts-alike a b = starts-unique (starts-there a) b
 
   -- and two results of step
-  pub steps-alike : {classes before after after' : List ℕ} {byte : ℕ} {n n' : Numbers}
+  pub steps-alike : {classes before after after' : List ℕ} {byte : ℕ} {n n' : MarksNumbers}
       → Steps one classes byte before after n → Steps other classes byte before after' n'
       → (n ≡ n') × (after ≡ after')
   steps-alike a b = steps-unique (steps-there a) b

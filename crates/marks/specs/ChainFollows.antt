@@ -15,11 +15,11 @@ use Rattle.tree.specs.Records.{Good, piece-count}
 use Rattle.lists.specs.Readback.{good-unique}
 use Rattle.tree.specs.Pieces.{cut-up}
 use Rattle.tables.specs.Words.{Set-of}
-use Rattle.marks.specs.Answer.{Numbers}
+use Rattle.marks.specs.Answer.{MarksNumbers}
 use Rattle.closing.specs.BitsOfWords.Zero.{All-zero}
 use Rattle.stepping.specs.Hold.{Hold, Marks-of}
 use Rattle.marks.specs.Promise.{
-  Made,
+  Marks-made,
   Classed,
   Too-few-classes,
   Too-few,
@@ -39,8 +39,8 @@ use Rattle.marks.specs.Chain.{Chain, begun, further, Follows}
 
 module _ {list : List ℕ} {t : Tree Leaf} (good : Good list t) where
   -- marks that are made are those of the list's tree
-  made-hold : {classes : List ℕ} {X : Tree Leaf → States} {words after : List ℕ} {n : Numbers}
-      (made : Made list classes X words after n)
+  made-hold : {classes : List ℕ} {X : Tree Leaf → States} {words after : List ℕ} {n : MarksNumbers}
+      (made : Marks-made list classes X words after n)
       → Hold t (X t) words after × ((n .accepting ≡ true) ↔ X t accepting)
       × ((n .nothing ≡ true) ↔ All-zero (piece-count t) after)
   made-hold {classes} {X} {words} {after} {n} made =
@@ -68,7 +68,8 @@ module _ {list : List ℕ} {t : Tree Leaf} (good : Good list t) where
       bad (subst (λ (u : Tree Leaf). Marks-of u words) (good-unique list t s good is-good) marks)
 
   -- after a start
-  start-follows : {classes before after : List ℕ} {n : Numbers} → Made list classes (λ s. Started (meaning classes) s)
+  start-follows : {classes before after : List ℕ} {n : MarksNumbers}
+      → Marks-made list classes (λ s. Started (meaning classes) s)
       before after n
       → Follows classes t [] before after n
   start-follows {classes} {before} {after} {n} made =
@@ -86,8 +87,9 @@ module _ {list : List ℕ} {t : Tree Leaf} (good : Good list t) where
       }
 
   -- after a step that follows
-  step-follows : {classes w before after later : List ℕ} {n m : Numbers} {byte : ℕ} → Follows classes t w before after n
-      → Made list classes (λ s. Stepped (meaning classes) s byte (Set-of (cut-up s) after)) after later m
+  step-follows : {classes w before after later : List ℕ} {n m : MarksNumbers} {byte : ℕ}
+      → Follows classes t w before after n
+      → Marks-made list classes (λ s. Stepped (meaning classes) s byte (Set-of (cut-up s) after)) after later m
       → Follows classes t (w ++ (byte ∷ [])) before later m
   step-follows {classes} {after = after} {later = later} {m = m} {byte = byte} follows made =
       let (hold, answer, left) = made-hold made in
@@ -104,7 +106,7 @@ module _ {list : List ℕ} {t : Tree Leaf} (good : Good list t) where
       }
 
   -- a chain on class records and words enough is never refused, and its flag says whether its text is in the language
-  pub chain-follows : {classes before w after : List ℕ} {n : Numbers} → Classed classes t
+  pub chain-follows : {classes before w after : List ℕ} {n : MarksNumbers} → Classed classes t
       → piece-count t ≤ length before
       → Chain list classes before w after n → Follows classes t w before after n
   chain-follows classed enough (begun (start-not-good a)) = absurd (a .because t good)

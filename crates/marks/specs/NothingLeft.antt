@@ -12,12 +12,12 @@ use Rattle.tree.specs.Records.{Good, piece-count}
 use Rattle.lists.specs.Readback.{good-unique}
 use Rattle.tree.specs.Pieces.{cut-up}
 use Rattle.tables.specs.Words.{run}
-use Rattle.marks.specs.Answer.{Numbers}
+use Rattle.marks.specs.Answer.{MarksNumbers}
 use Rattle.closing.specs.BitsOfWords.Zero.{All-zero}
 use Rattle.closing.specs.BitsOfWords.AllZero.{zero-holds}
-use Rattle.closing.specs.BitsOfWords.Alike.{zero-alike}
+use Rattle.closing.specs.BitsOfWords.KnownByMarks.{zero-alike}
 use Rattle.marks.specs.Promise.{
-  Refused,
+  Refused-unchanged,
   Moves-on,
   Steps,
   step-not-good,
@@ -30,13 +30,14 @@ use Rattle.marks.specs.Chain.{Follows}
 use Rattle.stepping.specs.Texts.{all-words, nothing-left}
 
 -- from the words `before`, a step for each byte of w, none of them refused, leaves the words `after`
-pub data Stepping (list classes before : List ℕ) : (w after : List ℕ) → Type 0 where
-  none-yet : Stepping list classes before [] before
-  one-further : {w after later : List ℕ} {byte : ℕ} {n : Numbers} → Stepping list classes before w after
-      → Steps list classes byte after later n → n .refusal ≡ 0 → Stepping list classes before (w ++ (byte ∷ [])) later
+pub data Stepped-along (list classes before : List ℕ) : (w after : List ℕ) → Type 0 where
+  none-yet : Stepped-along list classes before [] before
+  one-further : {w after later : List ℕ} {byte : ℕ} {n : MarksNumbers} → Stepped-along list classes before w after
+      → Steps list classes byte after later n → n .refusal ≡ 0
+      → Stepped-along list classes before (w ++ (byte ∷ [])) later
 
 -- a step from no marks makes none
-no-marks-made : {list classes before after : List ℕ} {byte : ℕ} {n : Numbers}
+no-marks-made : {list classes before after : List ℕ} {byte : ℕ} {n : MarksNumbers}
     (on : Moves-on list classes byte before after n)
     → All-zero (piece-count (on .made .t)) before → All-zero (piece-count (on .made .t)) after
 no-marks-made {before = before} {after = after} on zeros =
@@ -51,13 +52,13 @@ no-marks-made {before = before} {after = after} on zeros =
     (omega (arith, all-words s, enough, hold .same-length)) (omega (arith, all-words s, enough)) all)
 
 -- a refusal has a number
-pub numbered : {A : Type 0} {number : ℕ} {why : Type 0} {before after : List ℕ} {n : Numbers}
-    → Refused (suc number) why before after n → n .refusal ≡ 0 → A
-numbered a none = absurd (omega (arith, ap (λ (m : Numbers). m .refusal) (a .refuses)))
+pub numbered : {A : Type 0} {number : ℕ} {why : Type 0} {before after : List ℕ} {n : MarksNumbers}
+    → Refused-unchanged (suc number) why before after n → n .refusal ≡ 0 → A
+numbered a none = absurd (omega (arith, ap (λ (m : MarksNumbers). m .refusal) (a .refuses)))
 
 module _ {list classes : List ℕ} {t : Tree Leaf} (good : Good list t) where
   -- words that are 0 stay 0 on every byte
-  pub zero-stays : {before after : List ℕ} {byte : ℕ} {n : Numbers} → Steps list classes byte before after n
+  pub zero-stays : {before after : List ℕ} {byte : ℕ} {n : MarksNumbers} → Steps list classes byte before after n
       → n .refusal ≡ 0 → All-zero (piece-count t) before → All-zero (piece-count t) after
   zero-stays (step-not-good a) none zeros = numbered a none
   zero-stays (step-too-few-classes a) none zeros = numbered a none
@@ -69,12 +70,12 @@ module _ {list classes : List ℕ} {t : Tree Leaf} (good : Good list t) where
       (no-marks-made on (subst (λ (s : Tree Leaf). All-zero (piece-count s) before) same zeros))
 
   -- and on every text
-  pub zero-stays-on : {before w after : List ℕ} → Stepping list classes before w after
+  pub zero-stays-on : {before w after : List ℕ} → Stepped-along list classes before w after
       → All-zero (piece-count t) before → All-zero (piece-count t) after
   zero-stays-on none-yet zeros = zeros
   zero-stays-on (one-further on step none) zeros = zero-stays step none (zero-stays-on on zeros)
 
 -- where the last call of a chain says that nothing is left, no text that begins with its bytes is in the language
-pub nothing-follows : {classes : List ℕ} {t : Tree Leaf} {w before after : List ℕ} {n : Numbers}
+pub nothing-follows : {classes : List ℕ} {t : Tree Leaf} {w before after : List ℕ} {n : MarksNumbers}
     → Follows classes t w before after n → n .nothing ≡ true → (v : List ℕ) → Matches classes t (w ++ v) → ⊥
 nothing-follows follows says = nothing-left (follows .holding) (follows .left .0 says)

@@ -15,7 +15,7 @@ use Rattle.tree.specs.Records.{Good, piece-count, class-count}
 use Rattle.tables.specs.Words.{Set-of}
 use Rattle.tree.specs.Pieces.{cut-up}
 use Rattle.stepping.specs.Hold.{Hold, Marks-of}
-use Rattle.marks.specs.Answer.{Numbers, refusing, marking}
+use Rattle.marks.specs.Answer.{MarksNumbers, refusing-marks, marking}
 use Rattle.closing.specs.BitsOfWords.Zero.{All-zero}
 
 -- the class buffer has a record for each class leaf of t
@@ -23,14 +23,15 @@ abbrev pub Classed : (classes : List ℕ) → Tree Leaf → Type 0
 Classed classes t = class-record-size * class-count t ≤ length classes
 
 -- a refusal gives back its number, and leaves every word as it was
-pub record Refused (number : ℕ) (why : Type 0) (before after : List ℕ) (n : Numbers) : Type 0 where
+pub record Refused-unchanged (number : ℕ) (why : Type 0) (before after : List ℕ) (n : MarksNumbers) : Type 0 where
   pub because : why
-  pub refuses : n ≡ refusing number
+  pub refuses : n ≡ refusing-marks number
   pub unchanged : after ≡ before
 
 -- the marks X of the list's tree are made; the accepting state is among them or not, and nothing is left exactly when
 -- the word of each piece is 0
-pub record Made (list classes : List ℕ) (X : Tree Leaf → States) (before after : List ℕ) (n : Numbers) : Type 0 where
+pub record Marks-made (list classes : List ℕ) (X : Tree Leaf → States) (before after : List ℕ) (n : MarksNumbers)
+    : Type 0 where
   pub t : Tree Leaf
   pub good : Good list t
   pub classed : Classed classes t
@@ -58,27 +59,29 @@ Not-marks list classes words =
     (t : Tree Leaf) × Good list t × Classed classes t × (piece-count t ≤ length words) × (Marks-of t words → ⊥)
 
 -- what start gives back, and the words afterwards: they hold the closing of the root's start
-pub data Starts (list classes before after : List ℕ) (n : Numbers) : Type 0 where
-  start-not-good : Refused list-not-good (Not-good list) before after n → Starts list classes before after n
-  start-too-few-classes : Refused class-buffer-too-short (Too-few-classes list classes) before after n
+pub data Starts (list classes before after : List ℕ) (n : MarksNumbers) : Type 0 where
+  start-not-good : Refused-unchanged list-not-good (Not-good list) before after n → Starts list classes before after n
+  start-too-few-classes : Refused-unchanged class-buffer-too-short (Too-few-classes list classes) before after n
       → Starts list classes before after n
-  start-too-few : Refused too-few-words (Too-few list classes before) before after n
+  start-too-few : Refused-unchanged too-few-words (Too-few list classes before) before after n
       → Starts list classes before after n
-  started : Made list classes (λ t. Started (meaning classes) t) before after n → Starts list classes before after n
+  started : Marks-made list classes (λ t. Started (meaning classes) t) before after n
+      → Starts list classes before after n
 
 -- from marks, the states that a path from a marked state reading the byte and then any number of empty transitions
 -- leads to
-pub record Moves-on (list classes : List ℕ) (byte : ℕ) (before after : List ℕ) (n : Numbers) : Type 0 where
-  pub made : Made list classes (λ t. Stepped (meaning classes) t byte (Set-of (cut-up t) before)) before after n
+pub record Moves-on (list classes : List ℕ) (byte : ℕ) (before after : List ℕ) (n : MarksNumbers) : Type 0 where
+  pub made : Marks-made list classes (λ t. Stepped (meaning classes) t byte (Set-of (cut-up t) before)) before after n
   pub from-marks : Marks-of (made .t) before
 
 -- what step gives back, and the words afterwards
-pub data Steps (list classes : List ℕ) (byte : ℕ) (before after : List ℕ) (n : Numbers) : Type 0 where
-  step-not-good : Refused list-not-good (Not-good list) before after n → Steps list classes byte before after n
-  step-too-few-classes : Refused class-buffer-too-short (Too-few-classes list classes) before after n
+pub data Steps (list classes : List ℕ) (byte : ℕ) (before after : List ℕ) (n : MarksNumbers) : Type 0 where
+  step-not-good : Refused-unchanged list-not-good (Not-good list) before after n
       → Steps list classes byte before after n
-  step-too-few : Refused too-few-words (Too-few list classes before) before after n
+  step-too-few-classes : Refused-unchanged class-buffer-too-short (Too-few-classes list classes) before after n
       → Steps list classes byte before after n
-  step-not-marks : Refused words-not-marks (Not-marks list classes before) before after n
+  step-too-few : Refused-unchanged too-few-words (Too-few list classes before) before after n
+      → Steps list classes byte before after n
+  step-not-marks : Refused-unchanged words-not-marks (Not-marks list classes before) before after n
       → Steps list classes byte before after n
   stepped : Moves-on list classes byte before after n → Steps list classes byte before after n

@@ -8,7 +8,7 @@ use mathlib.Core.List.{List, [], _∷_, _++_, append-assoc, append-nil}
 use lib.ListN.{length, length-append}
 use Rattle.language.specs.Tree.{Tree}
 use Rattle.tree.specs.Leaf.{Leaf}
-use Rattle.marks.specs.Answer.{Numbers}
+use Rattle.marks.specs.Answer.{MarksNumbers}
 use Rattle.marks.specs.Promise.{
   Steps,
   step-not-good,
@@ -33,17 +33,17 @@ use Rattle.marks.specs.StepsEach.{
 use Rattle.marks.specs.Along.{Steppable, hold-marks, last-same}
 
 -- a step that is refused changes nothing
-step-kept : {list classes words after : List ℕ} {n : Numbers} {byte : ℕ} → Steps list classes byte words after n
+step-kept : {list classes words after : List ℕ} {n : MarksNumbers} {byte : ℕ} → Steps list classes byte words after n
     → 0 < n .refusal → after ≡ words
 step-kept (step-not-good a) some = a .unchanged
 step-kept (step-too-few-classes a) some = a .unchanged
 step-kept (step-too-few a) some = a .unchanged
 step-kept (step-not-marks a) some = a .unchanged
-step-kept (stepped on) some = absurd (omega (arith, ap (λ (m : Numbers). m .refusal) (on .made .marks)))
+step-kept (stepped on) some = absurd (omega (arith, ap (λ (m : MarksNumbers). m .refusal) (on .made .marks)))
 
 module _ {list classes before : List ℕ} where
   -- two results, along texts that are the same
-  unique : {w w' after after' : List ℕ} {n n' : Numbers} → Steps-each list classes before w after n
+  unique : {w w' after after' : List ℕ} {n n' : MarksNumbers} → Steps-each list classes before w after n
       → Steps-each list classes before w' after' n' → w ≡ w' → (n ≡ n') × (after ≡ after')
   unique (no-byte a) (no-byte b) e = (stays-unique a b, refl)
   unique (no-byte a) (one-more {w} {byte = b} each step) e =
@@ -59,12 +59,12 @@ module _ {list classes before : List ℕ} where
       (subst (λ (l : List ℕ). Steps list classes b' l later' m') (sym words) step'))
 
   -- two results of steps along the same bytes are the same, with every word
-  pub steps-each-unique : {w after after' : List ℕ} {n n' : Numbers} → Steps-each list classes before w after n
+  pub steps-each-unique : {w after after' : List ℕ} {n n' : MarksNumbers} → Steps-each list classes before w after n
       → Steps-each list classes before w after' n' → (n ≡ n') × (after ≡ after')
   steps-each-unique a b = unique a b refl
 
   -- where the last step was not refused, one more can be made
-  able-after : {w after : List ℕ} {n : Numbers} → Steps-each list classes before w after n → n .refusal ≡ 0
+  able-after : {w after : List ℕ} {n : MarksNumbers} → Steps-each list classes before w after n → n .refusal ≡ 0
       → (t : Tree Leaf) × Steppable list classes t after
   able-after (no-byte (stay-not-good a)) none = numbered a none
   able-after (no-byte (stay-too-few-classes a)) none = numbered a none
@@ -94,14 +94,14 @@ module _ {list classes before : List ℕ} where
   )
 
   -- no step after one that is not refused can be refused
-  pub later-taken : {w after later : List ℕ} {n m : Numbers} {byte : ℕ} → Steps-each list classes before w after n
+  pub later-taken : {w after later : List ℕ} {n m : MarksNumbers} {byte : ℕ} → Steps-each list classes before w after n
       → n .refusal ≡ 0 → Steps list classes byte after later m → m .refusal ≡ 0
   later-taken each none step =
       let (t, able) = able-after each none in
       steps-taken step .1 (t, able .good, able .classed, able .enough, able .marks)
 
   -- so steps that are refused change nothing
-  pub refused-kept : {w after : List ℕ} {n : Numbers} → Steps-each list classes before w after n → 0 < n .refusal
+  pub refused-kept : {w after : List ℕ} {n : MarksNumbers} → Steps-each list classes before w after n → 0 < n .refusal
       → after ≡ before
   refused-kept (no-byte stays) some = refl
   refused-kept (one-more {n = n} each step) some =
@@ -111,9 +111,9 @@ module _ {list classes before : List ℕ} where
       ]
 
 -- steps after a chain go on with it
-module _ {list classes before w after : List ℕ} {n : Numbers} (chain : Chain list classes before w after n) where
-  joined : {v later : List ℕ} {m : Numbers} → Steps-each list classes after v later m
-      → (k : Numbers) × Chain list classes before (w ++ v) later k
+module _ {list classes before w after : List ℕ} {n : MarksNumbers} (chain : Chain list classes before w after n) where
+  joined : {v later : List ℕ} {m : MarksNumbers} → Steps-each list classes after v later m
+      → (k : MarksNumbers) × Chain list classes before (w ++ v) later k
   joined (no-byte stays) =
       (n, subst (λ (u : List ℕ). Chain list classes before u after n) (sym (append-nil w)) chain)
   joined {later = later} {m = m} (one-more {w = u} {byte = b} each step) = (
@@ -122,7 +122,7 @@ module _ {list classes before w after : List ℕ} {n : Numbers} (chain : Chain l
         (further (joined each .1) step),
   )
 
-  pub chain-joined : {v later : List ℕ} {m : Numbers} → Steps-each list classes after v later m → 0 < length v
+  pub chain-joined : {v later : List ℕ} {m : MarksNumbers} → Steps-each list classes after v later m → 0 < length v
       → Chain list classes before (w ++ v) later m
   chain-joined (no-byte stays) some = absurd (omega arith)
   chain-joined {later = later} {m = m} (one-more {w = u} {byte = b} each step) some =

@@ -19,12 +19,12 @@ use Rattle.tables.specs.Words.{run, Set-of}
 use Rattle.tree.specs.Pieces.{cut-up}
 use Rattle.stepping.specs.Texts.{all-words}
 use Rattle.closing.specs.BitsOfWords.Zero.{All-zero}
-use Rattle.closing.specs.BitsOfWords.Alike.{same-words}
-use Rattle.marks.specs.Answer.{Numbers, refusing, marking, numbers}
+use Rattle.closing.specs.BitsOfWords.KnownByMarks.{same-words}
+use Rattle.marks.specs.Answer.{MarksNumbers, refusing-marks, marking, marks-numbers}
 use Rattle.stepping.specs.Hold.{Hold, Marks-of}
 use Rattle.marks.specs.Promise.{
-  Refused,
-  Made,
+  Refused-unchanged,
+  Marks-made,
   Not-good,
   Classed,
   Too-few-classes,
@@ -87,18 +87,20 @@ both-flags : {a a' b b' : Bool} → a ≡ a' → b ≡ b' → marking a b ≡ ma
 both-flags e f = cc
 
 -- a refusal has its own number
-same-refusal : {k j : ℕ} {why : Type 0} {before after : List ℕ} {n : Numbers} → Refused k why before after n
-    → n .refusal ≡ j → n ≡ refusing j
-same-refusal a e = a .refuses ∙ ap refusing (sym (ap (λ (n : Numbers). n .refusal) (a .refuses)) ∙ e)
+same-refusal : {k j : ℕ} {why : Type 0} {before after : List ℕ} {n : MarksNumbers}
+    → Refused-unchanged k why before after n
+    → n .refusal ≡ j → n ≡ refusing-marks j
+same-refusal a e = a .refuses ∙ ap refusing-marks (sym (ap (λ (n : MarksNumbers). n .refusal) (a .refuses)) ∙ e)
 
-other-number : {k j : ℕ} {why : Type 0} {before after : List ℕ} {n : Numbers} → Refused k why before after n
+other-number : {k j : ℕ} {why : Type 0} {before after : List ℕ} {n : MarksNumbers}
+    → Refused-unchanged k why before after n
     → n .refusal ≡ j → ¬ (k ≡ j) → ⊥
-other-number a e other = other (sym (ap (λ (n : Numbers). n .refusal) (a .refuses)) ∙ e)
+other-number a e other = other (sym (ap (λ (n : MarksNumbers). n .refusal) (a .refuses)) ∙ e)
 
 -- marks that are made have none
-none-refused : {list classes before after : List ℕ} {X : Tree Leaf → States} {n : Numbers} {k : ℕ}
-    → Made list classes X before after n → n .refusal ≡ k → 0 < k → ⊥
-none-refused made e some = omega (arith, ap (λ (n : Numbers). n .refusal) (made .marks))
+none-refused : {list classes before after : List ℕ} {X : Tree Leaf → States} {n : MarksNumbers} {k : ℕ}
+    → Marks-made list classes X before after n → n .refusal ≡ k → 0 < k → ⊥
+none-refused made e some = omega (arith, ap (λ (n : MarksNumbers). n .refusal) (made .marks))
 
 module _ (list classes before : List ℕ) where
   -- the list is good, and P holds of its tree
@@ -124,19 +126,20 @@ module _ (list classes before : List ℕ) where
     Bad t = Classed classes t × (piece-count t ≤ length before) × (Fine t → ⊥)
 
     -- there are words enough, and they are as asked
-    abbrev Taken : Tree Leaf → Type 0
-    Taken t = Classed classes t × (piece-count t ≤ length before) × Fine t
+    abbrev Words-fine : Tree Leaf → Type 0
+    Words-fine t = Classed classes t × (piece-count t ≤ length before) × Fine t
 
     -- what start and step both promise
-    data Gives-back (after : List ℕ) (n : Numbers) : Type 0 where
-      not-good : Refused list-not-good (Not-good list) before after n → Gives-back after n
-      too-few-classes : Refused class-buffer-too-short (Of-list Unclassed) before after n → Gives-back after n
-      too-few : Refused too-few-words (Of-list Few) before after n → Gives-back after n
-      not-marks : Refused words-not-marks (Of-list Bad) before after n → Gives-back after n
-      makes : (made : Made list classes X before after n) → Fine (made .t) → Gives-back after n
+    data Gives-back (after : List ℕ) (n : MarksNumbers) : Type 0 where
+      not-good : Refused-unchanged list-not-good (Not-good list) before after n → Gives-back after n
+      too-few-classes : Refused-unchanged class-buffer-too-short (Of-list Unclassed) before after n → Gives-back after n
+      too-few : Refused-unchanged too-few-words (Of-list Few) before after n → Gives-back after n
+      not-marks : Refused-unchanged words-not-marks (Of-list Bad) before after n → Gives-back after n
+      makes : (made : Marks-made list classes X before after n) → Fine (made .t) → Gives-back after n
 
     -- the list is good, and the words are taken
-    taken : {after : List ℕ} {n : Numbers} (made : Made list classes X before after n) → Fine (made .t) → Of-list Taken
+    taken : {after : List ℕ} {n : MarksNumbers} (made : Marks-made list classes X before after n) → Fine (made .t)
+        → Of-list Words-fine
     taken made fine = (made .t, made .good, (made .classed, made .enough, fine))
 
     -- the four exclude each other
@@ -146,19 +149,19 @@ module _ (list classes before : List ℕ) where
     unclassed-bad : (t : Tree Leaf) → Unclassed t → Bad t → ⊥
     unclassed-bad t none (classed, enough, bad) = omega arith
 
-    unclassed-taken : (t : Tree Leaf) → Unclassed t → Taken t → ⊥
+    unclassed-taken : (t : Tree Leaf) → Unclassed t → Words-fine t → ⊥
     unclassed-taken t none (classed, enough, fine) = omega arith
 
-    few-taken : (t : Tree Leaf) → Few t → Taken t → ⊥
+    few-taken : (t : Tree Leaf) → Few t → Words-fine t → ⊥
     few-taken t (_, few) (_, enough, fine) = omega arith
 
     few-bad : (t : Tree Leaf) → Few t → Bad t → ⊥
     few-bad t (_, few) (_, enough, bad) = omega arith
 
-    bad-taken : (t : Tree Leaf) → Bad t → Taken t → ⊥
+    bad-taken : (t : Tree Leaf) → Bad t → Words-fine t → ⊥
     bad-taken t (_, enough, bad) (_, enough', fine) = bad fine
 
-    module _ {after : List ℕ} {n : Numbers} where
+    module _ {after : List ℕ} {n : MarksNumbers} where
       -- so each row of the table is given exactly when it says: 10
       not-good-exactly : Gives-back after n → (n .refusal ≡ list-not-good) ↔ Not-good list
       not-good-exactly (not-good a) = (λ e. a .because, λ why. rw (a .refuses))
@@ -208,7 +211,7 @@ module _ (list classes before : List ℕ) where
           (λ e. absurd (none-refused made e (omega arith)), λ why. absurd (clash bad-taken why (taken made fine)))
 
       -- and none
-      taken-exactly : Gives-back after n → (n .refusal ≡ 0) ↔ Of-list Taken
+      taken-exactly : Gives-back after n → (n .refusal ≡ 0) ↔ Of-list Words-fine
       taken-exactly (not-good a) =
           (λ e. absurd (other-number a e (omega arith)), λ why. absurd (a .because (why .0) (why .1)))
       taken-exactly (too-few-classes a) =
@@ -220,7 +223,7 @@ module _ (list classes before : List ℕ) where
       taken-exactly (makes made fine) = (λ e. taken made fine, λ why. rw (made .marks))
 
       -- a number that is not 0 is that of a refusal, and every word is as it was
-      refused-by : (k : ℕ) → Gives-back after n → n .refusal ≡ k → 0 < k → (n ≡ refusing k) × (after ≡ before)
+      refused-by : (k : ℕ) → Gives-back after n → n .refusal ≡ k → 0 < k → (n ≡ refusing-marks k) × (after ≡ before)
       refused-by k (not-good a) e some = (same-refusal a e, a .unchanged)
       refused-by k (too-few-classes a) e some = (same-refusal a e, a .unchanged)
       refused-by k (too-few a) e some = (same-refusal a e, a .unchanged)
@@ -228,7 +231,7 @@ module _ (list classes before : List ℕ) where
       refused-by k (makes made fine) e some = absurd (none-refused made e some)
 
       -- where there is none, the marks are made
-      made-by : Gives-back after n → n .refusal ≡ 0 → Made list classes X before after n
+      made-by : Gives-back after n → n .refusal ≡ 0 → Marks-made list classes X before after n
       made-by (not-good a) e = absurd (other-number a e (omega arith))
       made-by (too-few-classes a) e = absurd (other-number a e (omega arith))
       made-by (too-few a) e = absurd (other-number a e (omega arith))
@@ -236,8 +239,8 @@ module _ (list classes before : List ℕ) where
       made-by (makes made fine) e = made
 
     -- where the marks are made, the list's tree determines the rest
-    made-unique : {after after' : List ℕ} {n n' : Numbers} → Made list classes X before after n
-        → Made list classes X before after' n'
+    made-unique : {after after' : List ℕ} {n n' : MarksNumbers} → Marks-made list classes X before after n
+        → Marks-made list classes X before after' n'
         → (n ≡ n') × (after ≡ after')
     made-unique {after} {after'} {n} {n'} one other =
         let same : other .t ≡ one .t = good-unique list (other .t) (one .t) (other .good) (one .good) in
@@ -257,13 +260,13 @@ module _ (list classes before : List ℕ) where
         )
 
     -- the reason of one refusal gives the other its number
-    both-refused : {after after' : List ℕ} {n n' : Numbers} (k : ℕ) → 0 < k → n ≡ refusing k → after ≡ before
+    both-refused : {after after' : List ℕ} {n n' : MarksNumbers} (k : ℕ) → 0 < k → n ≡ refusing-marks k → after ≡ before
         → Gives-back after' n' → n' .refusal ≡ k → (n ≡ n') × (after ≡ after')
     both-refused k some refuses unchanged b e =
         let other = refused-by k b e some in (refuses ∙ sym (other .0), unchanged ∙ sym (other .1))
 
     -- so two results are the same
-    answers-unique : {after after' : List ℕ} {n n' : Numbers} → Gives-back after n → Gives-back after' n'
+    answers-unique : {after after' : List ℕ} {n n' : MarksNumbers} → Gives-back after n → Gives-back after' n'
         → (n ≡ n') × (after ≡ after')
     answers-unique (not-good a) b =
         both-refused list-not-good (omega arith) (a .refuses) (a .unchanged) b (not-good-exactly b .1 (a .because))
@@ -277,7 +280,7 @@ module _ (list classes before : List ℕ) where
     answers-unique (makes made fine) b = made-unique made (made-by b (taken-exactly b .1 (taken made fine)))
 
 -- what start promises, in these words: nothing is asked of the words lent
-starts-answers : {list classes before after : List ℕ} {n : Numbers} → Starts list classes before after n
+starts-answers : {list classes before after : List ℕ} {n : MarksNumbers} → Starts list classes before after n
     → Gives-back list classes before (λ t. Started (meaning classes) t) (λ t. Unit {0}) after n
 starts-answers (start-not-good a) = not-good a
 starts-answers (start-too-few-classes a) = too-few-classes a
@@ -287,7 +290,7 @@ starts-answers (start-too-few a) =
 starts-answers (started made) = makes made tt
 
 -- what step promises: the words lent are marks
-steps-answers : {list classes : List ℕ} {byte : ℕ} {before after : List ℕ} {n : Numbers}
+steps-answers : {list classes : List ℕ} {byte : ℕ} {before after : List ℕ} {n : MarksNumbers}
     → Steps list classes byte before after n
     → Gives-back list classes before (λ t. Stepped (meaning classes) t byte (Set-of (cut-up t) before))
     (λ t. Marks-of t before) after n
@@ -302,7 +305,7 @@ steps-answers (step-not-marks a) =
 steps-answers (stepped on) = makes (on .made) (on .from-marks)
 
 -- what is promised where there is no byte: the words lent are marks
-stays-answers : {list classes words : List ℕ} {n : Numbers} → Stays list classes words n
+stays-answers : {list classes words : List ℕ} {n : MarksNumbers} → Stays list classes words n
     → Gives-back list classes words (λ t. Set-of (cut-up t) words) (λ t. Marks-of t words) words n
 stays-answers (stay-not-good a) = not-good a
 stays-answers (stay-too-few-classes a) = too-few-classes a
@@ -315,18 +318,18 @@ stays-answers (stay-not-marks a) =
 stays-answers (stayed on) = makes (on .made) (on .from-marks)
 
 -- where there is no byte, two answers that fit are the same
-pub stays-unique : {list classes words : List ℕ} {n n' : Numbers} → Stays list classes words n
+pub stays-unique : {list classes words : List ℕ} {n n' : MarksNumbers} → Stays list classes words n
     → Stays list classes words n' → n ≡ n'
 stays-unique {list} {classes} {words} a b =
     answers-unique list classes words _ _ (stays-answers a) (stays-answers b) .0
 
 module _ {list classes before : List ℕ} where
   -- two results of start that fit its promise are the same, with every word
-  pub starts-unique : {after after' : List ℕ} {n n' : Numbers} → Starts list classes before after n
+  pub starts-unique : {after after' : List ℕ} {n n' : MarksNumbers} → Starts list classes before after n
       → Starts list classes before after' n' → (n ≡ n') × (after ≡ after')
   starts-unique a b = answers-unique list classes before _ _ (starts-answers a) (starts-answers b)
 
-  module _ {after : List ℕ} {n : Numbers} (s : Starts list classes before after n) where
+  module _ {after : List ℕ} {n : MarksNumbers} (s : Starts list classes before after n) where
     -- start answers 10 exactly when the list is not good
     pub starts-not-good : (n .refusal ≡ list-not-good) ↔ Not-good list
     starts-not-good = not-good-exactly list classes before _ _ (starts-answers s)
@@ -352,11 +355,11 @@ module _ {list classes before : List ℕ} where
 
 module _ {list classes : List ℕ} {byte : ℕ} {before : List ℕ} where
   -- two results of step that fit its promise are the same, with every word
-  pub steps-unique : {after after' : List ℕ} {n n' : Numbers} → Steps list classes byte before after n
+  pub steps-unique : {after after' : List ℕ} {n n' : MarksNumbers} → Steps list classes byte before after n
       → Steps list classes byte before after' n' → (n ≡ n') × (after ≡ after')
   steps-unique a b = answers-unique list classes before _ _ (steps-answers a) (steps-answers b)
 
-  module _ {after : List ℕ} {n : Numbers} (s : Steps list classes byte before after n) where
+  module _ {after : List ℕ} {n : MarksNumbers} (s : Steps list classes byte before after n) where
     -- step answers 10 exactly when the list is not good
     pub steps-not-good : (n .refusal ≡ list-not-good) ↔ Not-good list
     steps-not-good = not-good-exactly list classes before _ _ (steps-answers s)
@@ -389,14 +392,14 @@ module _ {list classes : List ℕ} {byte : ℕ} {before : List ℕ} where
         )
 
 -- the answer that has these numbers
-abbrev answer-by : Numbers → MarksAnswer
+abbrev answer-by : MarksNumbers → MarksAnswer
 answer-by n =
     cond (eqb (n .refusal) list-not-good) NotGood
     (cond (eqb (n .refusal) class-buffer-too-short) TooFewClasses
     (cond (eqb (n .refusal) too-few-words) TooFewWords
     (cond (eqb (n .refusal) words-not-marks) NotMarks (Marked (n .accepting) (n .nothing)))))
 
-answer-back : (r : MarksAnswer) → answer-by (numbers r) ≡ r
+answer-back : (r : MarksAnswer) → answer-by (marks-numbers r) ≡ r
 answer-back (Marked marked nothing) = refl
 answer-back NotGood = refl
 answer-back TooFewClasses = refl
@@ -404,5 +407,5 @@ answer-back TooFewWords = refl
 answer-back NotMarks = refl
 
 -- an answer is known from its numbers
-pub numbers-injective : (r s : MarksAnswer) → numbers r ≡ numbers s → r ≡ s
+pub numbers-injective : (r s : MarksAnswer) → marks-numbers r ≡ marks-numbers s → r ≡ s
 numbers-injective r s e = sym (answer-back r) ∙ ap answer-by e ∙ answer-back s

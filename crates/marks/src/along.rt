@@ -1,8 +1,8 @@
-// Steps along many bytes, one after the other, over the tables of a list, which are made once.
+// Steps along many bytes, one after the other, over the rows of a list, which are made once.
 use closing::bits::has_bit;
 use stepping::inner::Told;
 use stepping::inner::advance;
-use tree::limits::MOST_PIECES;
+use tables::rows::top_of;
 ghost use Prim.Native.Nat.{ℕ, _≤_};
 ghost use mathlib.Core.List.{List};
 ghost use lib.ListN.{length};
@@ -33,24 +33,14 @@ fn none_marked(words: &[u64], count: usize) -> bool
 }
 
 // What is told of the marks as they are.
-fn told_of(
-    reach: &[u64],
-    codes: &[u16],
-    runs: &[u8; MOST_PIECES],
-    stands: &[u8; MOST_PIECES],
-    tops: &[u8; MOST_PIECES],
-    count: usize,
-    words: &[u64],
-) -> Told
-    requires { ⌜ Running (now reach) (now codes) (now runs) (now stands) (now tops) count (now words) ⌝ }
+fn told_of(rows: &[u64], count: usize, words: &[u64]) -> Told
+    requires { ⌜ Running (now rows) count (now words) ⌝ }
     ensures { λ r.
         ⌜ ((t : Tree Leaf)
-        → Prepared t (now (reach .entry)) (now (codes .entry)) (now (runs .entry)) (now (stands .entry))
-        (now (tops .entry)) count → Marks-of t (now (words .entry))
+        → Prepared t (now (rows .entry)) count → Marks-of t (now (words .entry))
         → Told-of t (now (words .entry)) (r .accepting) (r .nothing)) ⌝ }
 {
-    let top = tops[0] as usize;
-    let accepting = has_bit(words[0], top);
+    let accepting = has_bit(words[0], top_of(rows, 0));
     let nothing = none_marked(words, count);
     Told { accepting, nothing }
 }
@@ -58,41 +48,26 @@ fn told_of(
 // Moves the marks along each byte and closes after each. Where nothing is left, nothing comes back: the rest is not
 // read. Answers what is told of the marks after the last byte.
 pub fn advance_along(
-    reach: &[u64],
-    codes: &[u16],
-    runs: &[u8; MOST_PIECES],
-    stands: &[u8; MOST_PIECES],
-    tops: &[u8; MOST_PIECES],
+    rows: &[u64],
     count: usize,
     classes: &[u8],
     words: &mut [u64],
     bytes: &[u8],
 ) -> Told
-    requires { ⌜ Walkable (now reach) (now codes) (now runs) (now stands) (now tops) count (now words) ⌝ }
+    requires { ⌜ Walkable (now rows) count (now words) ⌝ }
     ensures { λ r.
         ⌜ ((list : List ℕ) (t : Tree Leaf)
-        → Prepared t (now (reach .entry)) (now (codes .entry)) (now (runs .entry)) (now (stands .entry))
-        (now (tops .entry)) count → Steppable list (now (classes .entry)) t (now (words .entry))
+        → Prepared t (now (rows .entry)) count → Steppable list (now (classes .entry)) t (now (words .entry))
         → Steps-each list (now (classes .entry)) (now (words .entry)) (now (bytes .entry)) (now (words .exit))
         (marking (r .accepting) (r .nothing))) ⌝ }
 {
-    let mut told = told_of(reach, codes, runs, stands, tops, count, words);
+    let mut told = told_of(rows, count, words);
     let mut i = 0;
     while i < bytes.len() {
         if told.nothing {
             return told;
         }
-        told = advance(
-            reach,
-            codes,
-            runs,
-            stands,
-            tops,
-            count,
-            classes,
-            words,
-            bytes[i],
-        );
+        told = advance(rows, count, classes, words, bytes[i]);
         i += 1;
     }
     told

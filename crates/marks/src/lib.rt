@@ -4,38 +4,26 @@ pub mod numbers;
 
 use along::advance_along;
 use deciding::good::Decided;
-use deciding::good::decide_with;
+use preparing::prepare_list;
 use stepping::agree::agreeing;
-use stepping::inner::FEW_CODES;
-use stepping::inner::FEW_MASKS;
-use stepping::inner::FEW_PIECES;
-use stepping::inner::SOME_CODES;
-use stepping::inner::SOME_MASKS;
-use stepping::inner::SOME_PIECES;
+use stepping::inner::FEW_WORDS;
+use stepping::inner::SOME_WORDS;
 use stepping::inner::begin;
-use stepping::inner::prepare;
-use tables::MASK_TABLE_SIZE;
-use tables::TABLE_SIZE;
+use tables::TABLE_WORDS;
 use tree::layout::CLASS_RECORD_SIZE;
 use tree::layout::RECORD_SIZE;
 use tree::limits::FEW_SLOTS;
-use tree::limits::MOST_PIECES;
 use tree::limits::SLOT_COUNT;
+use tree::limits::SOME_SLOTS;
 ghost use Prim.Native.Nat.{_/_, _≤_, _<_};
 ghost use mathlib.Core.Path.{_≡_};
 ghost use mathlib.Core.Bool.{true, false};
 ghost use lib.ListN.{length};
-ghost use Rattle.language.specs.Tree.{Tree};
-ghost use Rattle.tree.specs.Leaf.{Leaf};
-ghost use Rattle.tree.specs.Limits.{few-slots};
+ghost use Rattle.tree.specs.Limits.{few-slots, some-slots};
 ghost use Rattle.tree.specs.Layout.{record-size};
-ghost use Rattle.tree.specs.Records.{Good};
-ghost use Rattle.deciding.specs.Judged.{Room-to-decide};
-ghost use Rattle.planning.specs.Given.{Decided-good};
-ghost use Rattle.tables.specs.Tables.{Roomy};
-ghost use Rattle.marks.specs.Answer.{numbers};
-ghost use Rattle.stepping.specs.Inner.{few-pieces, some-pieces};
-ghost use Rattle.marks.specs.Promise.{Classed, Starts, Steps};
+ghost use Rattle.preparing.specs.Made.{Prepared-list};
+ghost use Rattle.marks.specs.Answer.{marks-numbers};
+ghost use Rattle.marks.specs.Promise.{Starts, Steps};
 ghost use Rattle.marks.specs.StepsEach.{Steps-each};
 
 // What a start or steps answer.
@@ -53,231 +41,25 @@ pub enum MarksAnswer {
     NotMarks,
 }
 
-// Starts, or steps along each byte, on a list that is known to be good: its tables are made in those that are lent.
-fn mark_in(
+// Starts, or steps along each byte, by what was decided of the list, and by its table where it is good: refuses one
+// that is not, class leaves with no record, too few words, and words to step from that are no marks.
+fn mark_with(
     list: &[u8],
     classes: &[u8],
-    cuts: &[u16],
-    count: usize,
-    reach: &mut [u64],
-    codes: &mut [u16],
-    runs: &mut [u8; MOST_PIECES],
-    stands: &mut [u8; MOST_PIECES],
-    tops: &mut [u8; MOST_PIECES],
+    decided: Decided,
+    rows: &[u64],
     words: &mut [u64],
     stepping: bool,
     bytes: &[u8],
 ) -> MarksAnswer
-    requires { ⌜ Decided-good (now list) (now cuts) count ⌝ }
-    requires { ⌜ ((t : Tree Leaf) → Good (now list) t → Classed (now classes) t) ⌝ }
-    requires { ⌜ Roomy count (now reach) (now codes) (now runs) (now stands) (now tops) ⌝ }
+    requires { ⌜ Prepared-list (now list) decided (now rows) ⌝ }
     ensures { λ r. ⌜ (stepping ≡ false
-        → Starts (now (list .entry)) (now (classes .entry)) (now (words .entry)) (now (words .exit)) (numbers r)) ⌝ }
+        → Starts (now (list .entry)) (now (classes .entry)) (now (words .entry)) (now (words .exit))
+        (marks-numbers r)) ⌝ }
     ensures { λ r. ⌜ (stepping ≡ true
         → Steps-each (now (list .entry)) (now (classes .entry)) (now (words .entry)) (now (bytes .entry))
-        (now (words .exit)) (numbers r)) ⌝ }
+        (now (words .exit)) (marks-numbers r)) ⌝ }
 {
-    prepare(list, cuts, count, reach, codes, runs, stands, tops);
-    if words.len() < count {
-        return MarksAnswer::TooFewWords;
-    }
-    if stepping {
-        if !agreeing(runs, stands, tops, words, count) {
-            return MarksAnswer::NotMarks;
-        }
-        let told = advance_along(
-            reach,
-            codes,
-            runs,
-            stands,
-            tops,
-            count,
-            classes,
-            words,
-            bytes,
-        );
-        return MarksAnswer::Marked {
-            accepting: told.accepting,
-            nothing: told.nothing,
-        };
-    }
-    let accepting = begin(reach, codes, runs, stands, tops, count, words);
-    MarksAnswer::Marked {
-        accepting,
-        nothing: false,
-    }
-}
-
-// On one of few pieces, in small tables.
-fn mark_few(
-    list: &[u8],
-    classes: &[u8],
-    cuts: &[u16],
-    count: usize,
-    words: &mut [u64],
-    stepping: bool,
-    bytes: &[u8],
-) -> MarksAnswer
-    requires { ⌜ Decided-good (now list) (now cuts) count ⌝ }
-    requires { ⌜ ((t : Tree Leaf) → Good (now list) t → Classed (now classes) t) ⌝ }
-    requires { ⌜ count ≤ few-pieces ⌝ }
-    ensures { λ r. ⌜ (stepping ≡ false
-        → Starts (now (list .entry)) (now (classes .entry)) (now (words .entry)) (now (words .exit)) (numbers r)) ⌝ }
-    ensures { λ r. ⌜ (stepping ≡ true
-        → Steps-each (now (list .entry)) (now (classes .entry)) (now (words .entry)) (now (bytes .entry))
-        (now (words .exit)) (numbers r)) ⌝ }
-{
-    let mut reach = [0u64; FEW_MASKS];
-    let mut codes = [0u16; FEW_CODES];
-    let mut runs = [0u8; MOST_PIECES];
-    let mut stands = [0u8; MOST_PIECES];
-    let mut tops = [0u8; MOST_PIECES];
-    mark_in(
-        list,
-        classes,
-        cuts,
-        count,
-        &mut reach,
-        &mut codes,
-        &mut runs,
-        &mut stands,
-        &mut tops,
-        words,
-        stepping,
-        bytes,
-    )
-}
-
-// On one of at most half as many pieces as there can be.
-fn mark_some(
-    list: &[u8],
-    classes: &[u8],
-    cuts: &[u16],
-    count: usize,
-    words: &mut [u64],
-    stepping: bool,
-    bytes: &[u8],
-) -> MarksAnswer
-    requires { ⌜ Decided-good (now list) (now cuts) count ⌝ }
-    requires { ⌜ ((t : Tree Leaf) → Good (now list) t → Classed (now classes) t) ⌝ }
-    requires { ⌜ count ≤ some-pieces ⌝ }
-    ensures { λ r. ⌜ (stepping ≡ false
-        → Starts (now (list .entry)) (now (classes .entry)) (now (words .entry)) (now (words .exit)) (numbers r)) ⌝ }
-    ensures { λ r. ⌜ (stepping ≡ true
-        → Steps-each (now (list .entry)) (now (classes .entry)) (now (words .entry)) (now (bytes .entry))
-        (now (words .exit)) (numbers r)) ⌝ }
-{
-    let mut reach = [0u64; SOME_MASKS];
-    let mut codes = [0u16; SOME_CODES];
-    let mut runs = [0u8; MOST_PIECES];
-    let mut stands = [0u8; MOST_PIECES];
-    let mut tops = [0u8; MOST_PIECES];
-    mark_in(
-        list,
-        classes,
-        cuts,
-        count,
-        &mut reach,
-        &mut codes,
-        &mut runs,
-        &mut stands,
-        &mut tops,
-        words,
-        stepping,
-        bytes,
-    )
-}
-
-// On one of as many pieces as there can be.
-fn mark_many(
-    list: &[u8],
-    classes: &[u8],
-    cuts: &[u16],
-    count: usize,
-    words: &mut [u64],
-    stepping: bool,
-    bytes: &[u8],
-) -> MarksAnswer
-    requires { ⌜ Decided-good (now list) (now cuts) count ⌝ }
-    requires { ⌜ ((t : Tree Leaf) → Good (now list) t → Classed (now classes) t) ⌝ }
-    ensures { λ r. ⌜ (stepping ≡ false
-        → Starts (now (list .entry)) (now (classes .entry)) (now (words .entry)) (now (words .exit)) (numbers r)) ⌝ }
-    ensures { λ r. ⌜ (stepping ≡ true
-        → Steps-each (now (list .entry)) (now (classes .entry)) (now (words .entry)) (now (bytes .entry))
-        (now (words .exit)) (numbers r)) ⌝ }
-{
-    let mut reach = [0u64; MASK_TABLE_SIZE];
-    let mut codes = [0u16; TABLE_SIZE];
-    let mut runs = [0u8; MOST_PIECES];
-    let mut stands = [0u8; MOST_PIECES];
-    let mut tops = [0u8; MOST_PIECES];
-    mark_in(
-        list,
-        classes,
-        cuts,
-        count,
-        &mut reach,
-        &mut codes,
-        &mut runs,
-        &mut stands,
-        &mut tops,
-        words,
-        stepping,
-        bytes,
-    )
-}
-
-// In the smallest tables that have room: most of what a short list costs is setting them to 0. It calls itself with
-// more room, so that each size has a stack frame of its own.
-fn mark_good(
-    list: &[u8],
-    classes: &[u8],
-    cuts: &[u16],
-    count: usize,
-    room: usize,
-    words: &mut [u64],
-    stepping: bool,
-    bytes: &[u8],
-) -> MarksAnswer
-    requires { ⌜ Decided-good (now list) (now cuts) count ⌝ }
-    requires { ⌜ ((t : Tree Leaf) → Good (now list) t → Classed (now classes) t) ⌝ }
-    requires { ⌜ 1 ≤ room ⌝ }
-    ensures { λ r. ⌜ (stepping ≡ false
-        → Starts (now (list .entry)) (now (classes .entry)) (now (words .entry)) (now (words .exit)) (numbers r)) ⌝ }
-    ensures { λ r. ⌜ (stepping ≡ true
-        → Steps-each (now (list .entry)) (now (classes .entry)) (now (words .entry)) (now (bytes .entry))
-        (now (words .exit)) (numbers r)) ⌝ }
-{
-    if room < count {
-        return mark_good(list, classes, cuts, count, 4 * room, words, stepping, bytes);
-    }
-    if room <= FEW_PIECES {
-        return mark_few(list, classes, cuts, count, words, stepping, bytes);
-    }
-    if room <= SOME_PIECES {
-        return mark_some(list, classes, cuts, count, words, stepping, bytes);
-    }
-    mark_many(list, classes, cuts, count, words, stepping, bytes)
-}
-
-// Starts, or steps along each byte, on any list, with slots lent for deciding on it: refuses one that is not good, and
-// class leaves with no record.
-fn mark_by(
-    list: &[u8],
-    classes: &[u8],
-    cuts: &mut [u16],
-    words: &mut [u64],
-    stepping: bool,
-    bytes: &[u8],
-) -> MarksAnswer
-    requires { ⌜ Room-to-decide (now list) (now cuts) ⌝ }
-    ensures { λ r. ⌜ (stepping ≡ false
-        → Starts (now (list .entry)) (now (classes .entry)) (now (words .entry)) (now (words .exit)) (numbers r)) ⌝ }
-    ensures { λ r. ⌜ (stepping ≡ true
-        → Steps-each (now (list .entry)) (now (classes .entry)) (now (words .entry)) (now (bytes .entry))
-        (now (words .exit)) (numbers r)) ⌝ }
-{
-    let decided = decide_with(list, cuts);
     let Decided::Good {
         records: _,
         pieces,
@@ -289,20 +71,28 @@ fn mark_by(
     if classes.len() / CLASS_RECORD_SIZE < leaves {
         return MarksAnswer::TooFewClasses;
     }
-    mark_good(
-        list,
-        classes,
-        cuts,
-        pieces,
-        FEW_PIECES,
-        words,
-        stepping,
-        bytes,
-    )
+    if words.len() < pieces {
+        return MarksAnswer::TooFewWords;
+    }
+    if !stepping {
+        let accepting = begin(rows, pieces, words);
+        return MarksAnswer::Marked {
+            accepting,
+            nothing: false,
+        };
+    }
+    if !agreeing(rows, words, pieces) {
+        return MarksAnswer::NotMarks;
+    }
+    let told = advance_along(rows, pieces, classes, words, bytes);
+    MarksAnswer::Marked {
+        accepting: told.accepting,
+        nothing: told.nothing,
+    }
 }
 
-// On a list of few records, with few slots.
-fn mark_short(
+// On a list of few records, in few rows.
+fn mark_few(
     list: &[u8],
     classes: &[u8],
     words: &mut [u64],
@@ -311,17 +101,40 @@ fn mark_short(
 ) -> MarksAnswer
     requires { ⌜ length (now list) / record-size < few-slots ⌝ }
     ensures { λ r. ⌜ (stepping ≡ false
-        → Starts (now (list .entry)) (now (classes .entry)) (now (words .entry)) (now (words .exit)) (numbers r)) ⌝ }
+        → Starts (now (list .entry)) (now (classes .entry)) (now (words .entry)) (now (words .exit))
+        (marks-numbers r)) ⌝ }
     ensures { λ r. ⌜ (stepping ≡ true
         → Steps-each (now (list .entry)) (now (classes .entry)) (now (words .entry)) (now (bytes .entry))
-        (now (words .exit)) (numbers r)) ⌝ }
+        (now (words .exit)) (marks-numbers r)) ⌝ }
 {
-    let mut cuts = [0u16; FEW_SLOTS];
-    mark_by(list, classes, &mut cuts, words, stepping, bytes)
+    let mut rows = [0u64; FEW_WORDS];
+    let decided = prepare_list(list, FEW_SLOTS, &mut rows);
+    mark_with(list, classes, decided, &rows, words, stepping, bytes)
+}
+
+// On a longer one.
+fn mark_some(
+    list: &[u8],
+    classes: &[u8],
+    words: &mut [u64],
+    stepping: bool,
+    bytes: &[u8],
+) -> MarksAnswer
+    requires { ⌜ length (now list) / record-size < some-slots ⌝ }
+    ensures { λ r. ⌜ (stepping ≡ false
+        → Starts (now (list .entry)) (now (classes .entry)) (now (words .entry)) (now (words .exit))
+        (marks-numbers r)) ⌝ }
+    ensures { λ r. ⌜ (stepping ≡ true
+        → Steps-each (now (list .entry)) (now (classes .entry)) (now (words .entry)) (now (bytes .entry))
+        (now (words .exit)) (marks-numbers r)) ⌝ }
+{
+    let mut rows = [0u64; SOME_WORDS];
+    let decided = prepare_list(list, SOME_SLOTS, &mut rows);
+    mark_with(list, classes, decided, &rows, words, stepping, bytes)
 }
 
 // On a list of any length.
-fn mark_long(
+fn mark_many(
     list: &[u8],
     classes: &[u8],
     words: &mut [u64],
@@ -329,16 +142,19 @@ fn mark_long(
     bytes: &[u8],
 ) -> MarksAnswer
     ensures { λ r. ⌜ (stepping ≡ false
-        → Starts (now (list .entry)) (now (classes .entry)) (now (words .entry)) (now (words .exit)) (numbers r)) ⌝ }
+        → Starts (now (list .entry)) (now (classes .entry)) (now (words .entry)) (now (words .exit))
+        (marks-numbers r)) ⌝ }
     ensures { λ r. ⌜ (stepping ≡ true
         → Steps-each (now (list .entry)) (now (classes .entry)) (now (words .entry)) (now (bytes .entry))
-        (now (words .exit)) (numbers r)) ⌝ }
+        (now (words .exit)) (marks-numbers r)) ⌝ }
 {
-    let mut cuts = [0u16; SLOT_COUNT];
-    mark_by(list, classes, &mut cuts, words, stepping, bytes)
+    let mut rows = [0u64; TABLE_WORDS];
+    let decided = prepare_list(list, SLOT_COUNT, &mut rows);
+    mark_with(list, classes, decided, &rows, words, stepping, bytes)
 }
 
-// By the fewest slots that are enough; it calls itself with more, as above.
+// In the fewest rows that are enough, by the number of the records: most of what a short list costs is setting arrays
+// to 0. It calls itself with more slots, so that each size has a stack frame of its own.
 fn mark(
     list: &[u8],
     classes: &[u8],
@@ -349,24 +165,28 @@ fn mark(
 ) -> MarksAnswer
     requires { ⌜ 1 ≤ slots ⌝ }
     ensures { λ r. ⌜ (stepping ≡ false
-        → Starts (now (list .entry)) (now (classes .entry)) (now (words .entry)) (now (words .exit)) (numbers r)) ⌝ }
+        → Starts (now (list .entry)) (now (classes .entry)) (now (words .entry)) (now (words .exit))
+        (marks-numbers r)) ⌝ }
     ensures { λ r. ⌜ (stepping ≡ true
         → Steps-each (now (list .entry)) (now (classes .entry)) (now (words .entry)) (now (bytes .entry))
-        (now (words .exit)) (numbers r)) ⌝ }
+        (now (words .exit)) (marks-numbers r)) ⌝ }
 {
     if slots <= list.len() / RECORD_SIZE {
         return mark(list, classes, 4 * slots, words, stepping, bytes);
     }
     if slots <= FEW_SLOTS {
-        return mark_short(list, classes, words, stepping, bytes);
+        return mark_few(list, classes, words, stepping, bytes);
     }
-    mark_long(list, classes, words, stepping, bytes)
+    if slots <= SOME_SLOTS {
+        return mark_some(list, classes, words, stepping, bytes);
+    }
+    mark_many(list, classes, words, stepping, bytes)
 }
 
 // Marks the root's start in the lent words and closes.
 pub fn start(list: &[u8], classes: &[u8], words: &mut [u64]) -> MarksAnswer
     ensures { λ r. ⌜ Starts (now (list .entry)) (now (classes .entry)) (now (words .entry)) (now (words .exit))
-        (numbers r) ⌝ }
+        (marks-numbers r) ⌝ }
 {
     mark(list, classes, FEW_SLOTS, words, false, b"")
 }
@@ -374,7 +194,7 @@ pub fn start(list: &[u8], classes: &[u8], words: &mut [u64]) -> MarksAnswer
 // Moves the marks in the lent words along the byte and closes.
 pub fn step(list: &[u8], classes: &[u8], words: &mut [u64], byte: u8) -> MarksAnswer
     ensures { λ r. ⌜ Steps (now (list .entry)) (now (classes .entry)) byte (now (words .entry)) (now (words .exit))
-        (numbers r) ⌝ }
+        (marks-numbers r) ⌝ }
 {
     mark(list, classes, FEW_SLOTS, words, true, &[byte])
 }
@@ -382,7 +202,7 @@ pub fn step(list: &[u8], classes: &[u8], words: &mut [u64], byte: u8) -> MarksAn
 // Moves the marks in the lent words along each byte, one after the other, and closes after each.
 pub fn steps(list: &[u8], classes: &[u8], words: &mut [u64], bytes: &[u8]) -> MarksAnswer
     ensures { λ r. ⌜ Steps-each (now (list .entry)) (now (classes .entry)) (now (words .entry)) (now (bytes .entry))
-        (now (words .exit)) (numbers r) ⌝ }
+        (now (words .exit)) (marks-numbers r) ⌝ }
 {
     mark(list, classes, FEW_SLOTS, words, true, bytes)
 }

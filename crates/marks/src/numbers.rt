@@ -5,10 +5,10 @@ use tree::refusal_numbers::LIST_NOT_GOOD;
 use tree::refusal_numbers::TOO_FEW_WORDS;
 use tree::refusal_numbers::WORDS_NOT_MARKS;
 ghost use mathlib.Core.Path.{_≡_};
-ghost use Rattle.marks.specs.Answer.{numbers};
+ghost use Rattle.marks.specs.Answer.{marks-numbers};
 
 // What a start or a step gives back in numbers.
-pub struct Numbers {
+pub struct MarksNumbers {
     // The refusal's number, 0 for none.
     pub refusal: u8,
     // Its place.
@@ -20,11 +20,11 @@ pub struct Numbers {
 }
 
 // The numbers of an answer.
-pub fn numbers_of(answer: MarksAnswer) -> Numbers
-    ensures { λ r. ⌜ r ≡ numbers answer ⌝ }
+pub fn numbers_of(answer: MarksAnswer) -> MarksNumbers
+    ensures { λ r. ⌜ r ≡ marks-numbers answer ⌝ }
 {
     match answer {
-        MarksAnswer::Marked { accepting, nothing } => Numbers {
+        MarksAnswer::Marked { accepting, nothing } => MarksNumbers {
             refusal: 0,
             place: 0,
             accepting,
@@ -38,10 +38,10 @@ pub fn numbers_of(answer: MarksAnswer) -> Numbers
 }
 
 // The numbers of a refusal.
-fn refusing(number: u8) -> Numbers
-    ensures { λ r. ⌜ r ≡ Rattle.marks.specs.Answer.refusing number ⌝ }
+fn refusing(number: u8) -> MarksNumbers
+    ensures { λ r. ⌜ r ≡ Rattle.marks.specs.Answer.refusing-marks number ⌝ }
 {
-    Numbers {
+    MarksNumbers {
         refusal: number,
         place: 0,
         accepting: false,

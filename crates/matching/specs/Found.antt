@@ -2,11 +2,8 @@
 -- nothing.
 use Prim.Native.Nat.{ℕ, _≤_, _<_}
 use mathlib.Core.List.{List}
-use lib.ListN.{length, take, drop}
-
--- the part of a text from its byte s up to, not including, its byte e
-abbrev pub part : ℕ → ℕ → List ℕ → List ℕ
-part s e text = drop s (take e text)
+use lib.ListN.{length}
+pub use Rattle.input.specs.Part.{part}
 
 module _ (L : List ℕ → Type 0) (text : List ℕ) where
   -- the part from s to e lies in the language

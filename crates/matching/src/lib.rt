@@ -1,3 +1,3 @@
-// Whole-text match and search over the tables of a list.
+// Whole-text match and search over the rows of a list.
 pub mod part;
 pub mod text;

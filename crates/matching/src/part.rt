@@ -1,7 +1,8 @@
-// Search over the tables of a list: the earliest start, then the furthest end.
-use stepping::inner::advance;
-use stepping::inner::begin;
+// Search over the rows of a list: the earliest start, then the furthest end.
+use moving::memo::MEMO_WORDS;
+use stepping::inner::begin_in;
 use stepping::inner::copy;
+use stepping::memory::advance_by_memo;
 use tree::limits::MOST_PIECES;
 ghost use Prim.Native.Nat.{ℕ, _≤_};
 ghost use mathlib.Core.Path.{_≡_};
@@ -12,9 +13,10 @@ ghost use Rattle.tree.specs.Leaf.{Leaf, Matches};
 ghost use mathlib.Core.List.{[]};
 ghost use Rattle.tree.specs.Limits.{most-pieces};
 ghost use Rattle.tables.specs.Tables.{Prepared, Ready, Answered};
+ghost use Rattle.moving.specs.Remembered.{Remembers};
 ghost use Rattle.matching.specs.Progress.{Furthest, better};
 ghost use Rattle.matching.specs.Found.{Answers};
-ghost use Rattle.matching.specs.Parts.{end-of, answer-of};
+ghost use Rattle.matching.specs.SearchAnswers.{end-of, answer-of};
 
 // A part of a text, or nothing.
 pub enum Span {
@@ -36,46 +38,31 @@ fn with_end(yes: bool, end: usize, best: End) -> End
 }
 
 // The furthest end, from the marks to start with, which are those of the empty text: `empty` says whether that is in
-// the language.
+// the language. The words are for the marks on the way, the memo for steps of this start and of later ones.
 fn furthest_end(
-    reach: &[u64],
-    codes: &[u16],
-    runs: &[u8; MOST_PIECES],
-    stands: &[u8; MOST_PIECES],
-    tops: &[u8; MOST_PIECES],
+    rows: &[u64],
     count: usize,
     classes: &[u8],
     first: &[u64],
     empty: bool,
+    memo: &mut [u64; MEMO_WORDS],
+    words: &mut [u64],
     text: &[u8],
     start: usize,
 ) -> End
-    requires { ⌜ Ready (now reach) (now codes) (now runs) (now stands) (now tops) count ⌝ }
-    requires { ⌜ (start ≤ length (now text)) × (length (now first) ≡ most-pieces) ⌝ }
-    requires { ⌜ ((t : Tree Leaf) → Prepared t (now reach) (now codes) (now runs) (now stands) (now tops) count
-        → Answered (now classes) t [] (now first) empty) ⌝ }
-    ensures { λ r.
-        ⌜ ((t : Tree Leaf)
-        → Prepared t (now (reach .entry)) (now (codes .entry)) (now (runs .entry)) (now (stands .entry))
-        (now (tops .entry)) count → Furthest (Matches (now (classes .entry)) t) (now (text .entry)) start
-        (end-of r)) ⌝ }
+    requires { ⌜ Ready (now rows) count × Remembers (now rows) (now classes) (now memo) ⌝ }
+    requires { ⌜ (start ≤ length (now text)) × (length (now first) ≡ most-pieces)
+        × (length (now words) ≡ most-pieces) ⌝ }
+    requires { ⌜ ((t : Tree Leaf) → Prepared t (now rows) count → Answered (now classes) t [] (now first) empty) ⌝ }
+    ensures { λ r. ⌜ ((t : Tree Leaf) → Prepared t (now (rows .entry)) count
+        → Furthest (Matches (now (classes .entry)) t) (now (text .entry)) start (end-of r)) ⌝ }
+    ensures { λ _. ⌜ Remembers (now (rows .entry)) (now (classes .entry)) (now (memo .exit)) ⌝ }
 {
-    let mut words = [0u64; MOST_PIECES];
-    copy(first, count, &mut words);
+    copy(first, count, words);
     let mut best = with_end(empty, start, End::Nowhere);
     let mut end = start;
     while end < text.len() {
-        let told = advance(
-            reach,
-            codes,
-            runs,
-            stands,
-            tops,
-            count,
-            classes,
-            &mut words,
-            text[end],
-        );
+        let told = advance_by_memo(rows, count, classes, memo, words, text[end]);
         let yes = told.accepting;
         let over = told.nothing;
         end += 1;
@@ -87,38 +74,27 @@ fn furthest_end(
     best
 }
 
-// The part that starts earliest and then ends furthest, among the parts in the language of the tree that the tables are
+// The part that starts earliest and then ends furthest, among the parts in the language of the tree that the rows are
 // of. The marks to start with are made once for all places.
-pub fn first_part(
-    reach: &[u64],
-    codes: &[u16],
-    runs: &[u8; MOST_PIECES],
-    stands: &[u8; MOST_PIECES],
-    tops: &[u8; MOST_PIECES],
-    count: usize,
-    classes: &[u8],
-    text: &[u8],
-) -> Span
-    requires { ⌜ Ready (now reach) (now codes) (now runs) (now stands) (now tops) count ⌝ }
-    ensures { λ r.
-        ⌜ ((t : Tree Leaf)
-        → Prepared t (now (reach .entry)) (now (codes .entry)) (now (runs .entry)) (now (stands .entry))
-        (now (tops .entry)) count → Answers (Matches (now (classes .entry)) t) (now (text .entry)) (answer-of r)) ⌝ }
+pub fn first_part(rows: &[u64], count: usize, classes: &[u8], text: &[u8]) -> Span
+    requires { ⌜ Ready (now rows) count ⌝ }
+    ensures { λ r. ⌜ ((t : Tree Leaf) → Prepared t (now (rows .entry)) count
+        → Answers (Matches (now (classes .entry)) t) (now (text .entry)) (answer-of r)) ⌝ }
 {
     let mut first = [0u64; MOST_PIECES];
-    let empty = begin(reach, codes, runs, stands, tops, count, &mut first);
+    let mut words = [0u64; MOST_PIECES];
+    let mut memo = [0u64; MEMO_WORDS];
+    let empty = begin_in(rows, count, &mut first);
     let mut start = 0;
     while start <= text.len() {
         let found = furthest_end(
-            reach,
-            codes,
-            runs,
-            stands,
-            tops,
+            rows,
             count,
             classes,
             &first,
             empty,
+            &mut memo,
+            &mut words,
             text,
             start,
         );

@@ -1,5 +1,5 @@
--- `finder::find` meets its contract: where the slots are not enough it calls itself with more, and else there is a slot
--- for each record. The measure is how many records too many there are.
+-- `finder::find` meets its contract: where the slots are not enough it calls itself with more, and else the list has
+-- fewer records than that. The measure is how many records too many there are.
 use Prim.Native.Nat.{ℕ, _+_, _-_, _/_, _<_}
 use native.Mathlib.Omega.{arith}
 use lib.ListN.{length}
@@ -10,8 +10,9 @@ use Rattle.tree.specs.Layout.{record-size}
 use Rattle.finder.proofs.find.Reads as find
 use Rattle.finder.proofs.find.Kinds as find-kinds
 use Rattle.finder.proofs.+find.Lts-find as find-lts
-use Rattle.finder.proofs.find_long.Reads as find-long-reads
-use Rattle.finder.proofs.find_short.Reads as find-short-reads
+use Rattle.finder.proofs.find_few.Reads as find-few-reads
+use Rattle.finder.proofs.find_some.Reads as find-some-reads
+use Rattle.finder.proofs.find_many.Reads as find-many-reads
 use Rattle.finder.proofs.+find.{statement}
 use Rattle.finder.proofs.+find.Tie.{close}
 
@@ -28,10 +29,12 @@ abbrev claims : ℕ → find-lts.Claims
 claims t = (
   find-below t,
   find.Post,
-  find-short-reads.Asked,
-  find-short-reads.Learnt,
-  find-long-reads.Asked,
-  find-long-reads.Learnt,
+  find-few-reads.Asked,
+  find-few-reads.Learnt,
+  find-some-reads.Asked,
+  find-some-reads.Learnt,
+  find-many-reads.Asked,
+  find-many-reads.Learnt,
 )
 
 more-slots : (t : ℕ) → find-lts.Need-mul-find (claims t) (find-at t) find.Post
@@ -43,20 +46,26 @@ more-requires t c κs = (omega arith, omega arith)
 more-returns : (t : ℕ) → find-lts.Need-returns (claims t) (find-at t) find.Post
 more-returns t c = c .find .ensures
 
-short-requires : (t : ℕ) → find-lts.Need-find-short-requires (claims t) (find-at t) find.Post
-short-requires t c κs = omega arith
+few-requires : (t : ℕ) → find-lts.Need-find-few-requires (claims t) (find-at t) find.Post
+few-requires t c κs = omega arith
 
-short-returns : (t : ℕ) → find-lts.Need-returns-2 (claims t) (find-at t) find.Post
-short-returns t c = c .find-short .ensures
+few-returns : (t : ℕ) → find-lts.Need-returns-2 (claims t) (find-at t) find.Post
+few-returns t c = c .find-few .ensures
 
-long-requires : (t : ℕ) → find-lts.Need-find-long-requires (claims t) (find-at t) find.Post
-long-requires t c κs = search needs
+some-requires : (t : ℕ) → find-lts.Need-find-some-requires (claims t) (find-at t) find.Post
+some-requires t c κs = omega arith
 
-long-returns : (t : ℕ) → find-lts.Need-returns-3 (claims t) (find-at t) find.Post
-long-returns t c = c .find-long .ensures
+some-returns : (t : ℕ) → find-lts.Need-returns-3 (claims t) (find-at t) find.Post
+some-returns t c = c .find-some .ensures
+
+many-requires : (t : ℕ) → find-lts.Need-find-many-requires (claims t) (find-at t) find.Post
+many-requires t c κs = search needs
+
+many-returns : (t : ℕ) → find-lts.Need-returns-4 (claims t) (find-at t) find.Post
+many-returns t c = c .find-many .ensures
 
 pub +find-spec : {M : Type 1} → statement M
 +find-spec =
     close μ-find λ t.
-    find-lts.spec (claims t) (find-at t) find.Post (more-slots t) (more-requires t)
-    (more-returns t) (short-requires t) (short-returns t) (long-requires t) (long-returns t)
+    find-lts.spec (claims t) (find-at t) find.Post (more-slots t) (more-requires t) (more-returns t)
+    (few-requires t) (few-returns t) (some-requires t) (some-returns t) (many-requires t) (many-returns t)

@@ -1,5 +1,5 @@
--- `marks::mark` meets its contract: where the slots are not enough it calls itself with more, and else there is a slot for
--- each record. The measure is how many records too many there are.
+-- `marks::mark` meets its contract: where the slots are not enough it calls itself with more, and else the list has
+-- fewer records than that. The measure is how many records too many there are.
 use Prim.Native.Nat.{ℕ, _+_, _-_, _/_, _<_}
 use native.Mathlib.Omega.{arith}
 use lib.ListN.{length}
@@ -10,8 +10,9 @@ use Rattle.tree.specs.Layout.{record-size}
 use Rattle.marks.proofs.mark.Reads as mark
 use Rattle.marks.proofs.mark.Kinds as mark-kinds
 use Rattle.marks.proofs.+mark.Lts-mark as mark-lts
-use Rattle.marks.proofs.mark_long.Reads as mark-long-reads
-use Rattle.marks.proofs.mark_short.Reads as mark-short-reads
+use Rattle.marks.proofs.mark_few.Reads as mark-few-reads
+use Rattle.marks.proofs.mark_some.Reads as mark-some-reads
+use Rattle.marks.proofs.mark_many.Reads as mark-many-reads
 use Rattle.marks.proofs.+mark.{statement}
 use Rattle.marks.proofs.+mark.Tie.{close}
 
@@ -28,10 +29,12 @@ abbrev claims : ℕ → mark-lts.Claims
 claims t = (
   mark-below t,
   mark.Post,
-  mark-short-reads.Asked,
-  mark-short-reads.Learnt,
-  mark-long-reads.Asked,
-  mark-long-reads.Learnt,
+  mark-few-reads.Asked,
+  mark-few-reads.Learnt,
+  mark-some-reads.Asked,
+  mark-some-reads.Learnt,
+  mark-many-reads.Asked,
+  mark-many-reads.Learnt,
 )
 
 more-slots : (t : ℕ) → mark-lts.Need-mul-mark (claims t) (mark-at t) mark.Post
@@ -46,27 +49,36 @@ more-same-length t c = search needs
 more-returns : (t : ℕ) → mark-lts.Need-returns (claims t) (mark-at t) mark.Post
 more-returns t c = c .before .before .mark .ensures
 
-short-requires : (t : ℕ) → mark-lts.Need-mark-short-requires (claims t) (mark-at t) mark.Post
-short-requires t c κs = omega arith
+few-requires : (t : ℕ) → mark-lts.Need-mark-few-requires (claims t) (mark-at t) mark.Post
+few-requires t c κs = omega arith
 
-short-same-length : (t : ℕ) → mark-lts.Need-same-length-2 (claims t) (mark-at t) mark.Post
-short-same-length t c = search needs
+few-same-length : (t : ℕ) → mark-lts.Need-same-length-2 (claims t) (mark-at t) mark.Post
+few-same-length t c = search needs
 
-short-returns : (t : ℕ) → mark-lts.Need-returns-2 (claims t) (mark-at t) mark.Post
-short-returns t c = c .before .before .mark-short .ensures
+few-returns : (t : ℕ) → mark-lts.Need-returns-2 (claims t) (mark-at t) mark.Post
+few-returns t c = c .before .before .mark-few .ensures
 
-long-requires : (t : ℕ) → mark-lts.Need-mark-long-requires (claims t) (mark-at t) mark.Post
-long-requires t c κs = search needs
+some-requires : (t : ℕ) → mark-lts.Need-mark-some-requires (claims t) (mark-at t) mark.Post
+some-requires t c κs = omega arith
 
-long-same-length : (t : ℕ) → mark-lts.Need-same-length-3 (claims t) (mark-at t) mark.Post
-long-same-length t c = search needs
+some-same-length : (t : ℕ) → mark-lts.Need-same-length-3 (claims t) (mark-at t) mark.Post
+some-same-length t c = search needs
 
-long-returns : (t : ℕ) → mark-lts.Need-returns-3 (claims t) (mark-at t) mark.Post
-long-returns t c = c .before .before .mark-long .ensures
+some-returns : (t : ℕ) → mark-lts.Need-returns-3 (claims t) (mark-at t) mark.Post
+some-returns t c = c .before .before .mark-some .ensures
+
+many-requires : (t : ℕ) → mark-lts.Need-mark-many-requires (claims t) (mark-at t) mark.Post
+many-requires t c κs = search needs
+
+many-same-length : (t : ℕ) → mark-lts.Need-same-length-4 (claims t) (mark-at t) mark.Post
+many-same-length t c = search needs
+
+many-returns : (t : ℕ) → mark-lts.Need-returns-4 (claims t) (mark-at t) mark.Post
+many-returns t c = c .before .before .mark-many .ensures
 
 pub +mark-spec : {M : Type 1} → statement M
 +mark-spec =
     close μ-mark λ t.
     mark-lts.spec (claims t) (mark-at t) mark.Post (more-slots t) (more-requires t) (more-same-length t)
-    (more-returns t) (short-requires t) (short-same-length t) (short-returns t) (long-requires t)
-    (long-same-length t) (long-returns t)
+    (more-returns t) (few-requires t) (few-same-length t) (few-returns t) (some-requires t) (some-same-length t)
+    (some-returns t) (many-requires t) (many-same-length t) (many-returns t)

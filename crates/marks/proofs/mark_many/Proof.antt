@@ -1,47 +1,38 @@
--- `marks::mark_many` meets its contract: it is `mark_in`'s, and there are at most 128 pieces.
+-- `marks::mark_many` meets its contract: the most rows are enough for the pieces of every good list, and it is made
+-- before the marks are.
 use native.Mathlib.Omega.{arith}
+use Rattle.tree.specs.Limits.{most-pieces}
+use Rattle.preparing.specs.Made.{room-for}
 use borrow.Author.Needs.{needs}
 use Rattle.marks.proofs.mark_many.Statement.{statement}
 use Rattle.marks.proofs.mark_many.Tie as tie
 
-slice-aggregate-mark-in : tie.Need-slice-aggregate-mark-in
-slice-aggregate-mark-in c = search needs
+slice-aggregate-prepare-list : tie.Need-slice-aggregate-prepare-list
+slice-aggregate-prepare-list c = search needs
 
-slice-aggregate-mark-in-2 : tie.Need-slice-aggregate-mark-in-2
-slice-aggregate-mark-in-2 c = search needs
+prepare-list-requires : tie.Need-prepare-list-requires
+prepare-list-requires c κs =
+    (omega arith, room-for most-pieces (λ t good. good .few) (omega arith))
 
-mark-in-requires : tie.Need-mark-in-requires
-mark-in-requires c κs =
-    let made = c .before .before .before .before .before .before in
-    let s = made .before .before .before .before .before in
-    let known = s .pre .0 in (
-      known,
-      (
-        s .pre .1,
-        record {
-          reach-room = omega (arith, known .pieces-are, known .good .few);
-          codes-room = omega (arith, known .pieces-are, known .good .few);
-          runs-room = omega (arith, known .pieces-are, known .good .few);
-          stands-room = omega (arith, known .pieces-are, known .good .few);
-          tops-room = omega (arith, known .pieces-are, known .good .few);
-        },
-      ),
-    )
+slice-aggregate-mark-with : tie.Need-slice-aggregate-mark-with
+slice-aggregate-mark-with c = search needs
+
+mark-with-requires : tie.Need-mark-with-requires
+mark-with-requires c κs = c .before .before .before .prepare-list .ensures
 
 same-length : tie.Need-same-length
 same-length c = search needs
 
 returns : tie.Need-returns
-returns c =
-    let back = c .before .before in
-    back .before .before .mark-in .ensures
+returns c = c .before .before .mark-with .ensures
 
 pub mark-many-spec : {M : Type 1} → statement M
 mark-many-spec =
     tie.close
     (tie.spec
-    slice-aggregate-mark-in
-    slice-aggregate-mark-in-2
-    mark-in-requires
+    slice-aggregate-prepare-list
+    prepare-list-requires
+    slice-aggregate-mark-with
+    mark-with-requires
     same-length
     returns)

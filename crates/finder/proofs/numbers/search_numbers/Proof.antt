@@ -1,4 +1,5 @@
--- `finder::numbers::search_numbers` meets its contract: each case's tag finds its numbers, and a part found keeps its own.
+-- `finder::numbers::search_numbers` meets its contract: each case's tag finds its numbers, and a part found keeps its
+-- own.
 use Prim.Native.Nat.{ℕ}
 use mathlib.Core.Path.{_≡_, refl, ap, sym, _∙_}
 use mathlib.Core.List.{List, [], _∷_}

@@ -1,5 +1,5 @@
--- `marks::along::advance_along` meets its contract: before byte i the steps along the first i bytes are made. The measure
--- is what is left of the bytes.
+-- `marks::along::advance_along` meets its contract: before byte i the steps along the first i bytes are made. The
+-- measure is what is left of the bytes.
 use Prim.Native.Nat.{ℕ, _≤_, _-_, _+_}
 use mathlib.Core.Path.{_≡_, refl}
 use mathlib.Core.List.{List}
@@ -28,27 +28,27 @@ use Rattle.marks.proofs.along.told_of.Reads as told-of-reads
 use Rattle.stepping.proofs.inner.advance.Reads as advance-reads
 
 abbrev Inv-loop : tie.InvT-loop
-Inv-loop reach codes runs stands tops count classes words₀ bytes told₀ i₀ words told i =
-    (i ≤ length bytes) × (length words ≡ length words₀) × Walkable reach codes runs stands tops count words
-    × ((list : List ℕ) (t : Tree Leaf) → Prepared t reach codes runs stands tops count
+Inv-loop rows count classes words₀ bytes told₀ i₀ words told i =
+    (i ≤ length bytes) × (length words ≡ length words₀) × Walkable rows count words
+    × ((list : List ℕ) (t : Tree Leaf) → Prepared t rows count
     → Steppable list classes t words₀
     → Went-along list classes t words₀ (take i bytes) words (told .accepting) (told .nothing))
 
 abbrev μ-loop : tie.MeasureT-loop
-μ-loop reach codes runs stands tops count classes words₀ bytes told₀ i₀ words told i = length bytes - i
+μ-loop rows count classes words₀ bytes told₀ i₀ words told i = length bytes - i
 
 -- the loop's test, seen from a byte that was taken
 abbrev byte-taken : tie.After-advance Inv-loop μ-loop → tie.In-loop Inv-loop μ-loop
 byte-taken c = c .before .before .before .before
 
 told-of-requires : tie.Need-told-of-requires Inv-loop μ-loop
-told-of-requires c κs = walkable-runs (c .before .before .before .before .before .before .pre)
+told-of-requires c κs = walkable-runs (c .before .before .before .before .before .pre)
 
 loop-holds : tie.Need-loop-holds Inv-loop μ-loop
 loop-holds c = (
   omega arith,
   refl,
-  c .before .before .before .before .before .before .before .pre,
+  c .before .before .before .before .before .before .pre,
   λ list t prepared able. went-none able (c .told-of .ensures t prepared (able .marks)),
 )
 
@@ -67,7 +67,8 @@ advance-requires : tie.Need-advance-requires Inv-loop μ-loop
 advance-requires c κs = walkable-runs (c .before .before .before .before .loop .inv .2)
 
 add-i : tie.Need-add-i Inv-loop μ-loop
-add-i c = let looking = byte-taken (c .before .before) in omega (arith, looking .loop-test .taken, looking .before .before .before .before)
+add-i c = let looking = byte-taken (c .before .before) in
+    omega (arith, looking .loop-test .taken, looking .before .before .before .before)
 
 loop-less : tie.Need-loop-less Inv-loop μ-loop
 loop-less c = search needs

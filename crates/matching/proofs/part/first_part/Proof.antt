@@ -12,9 +12,10 @@ use Rattle.tree.specs.Leaf.{Leaf, Matches}
 use mathlib.Core.List.{[]}
 use Rattle.tree.specs.Limits.{most-pieces}
 use Rattle.tables.specs.Tables.{Prepared, Ready, Answered}
+use Rattle.moving.specs.Remembered.{Remembers, remembers-none}
 use Rattle.stepping.specs.Inner.{answered-first}
 use Rattle.matching.specs.Found.{None-before}
-use Rattle.matching.specs.Parts.{end-of}
+use Rattle.matching.specs.SearchAnswers.{end-of}
 use Rattle.matching.specs.declared.part.End.{End}
 use Rattle.matching.specs.declared.part.End.the-variants.{At, Nowhere}
 use Rattle.matching.proofs.part.End.{the-type}
@@ -31,19 +32,24 @@ nowhere (At e) other = absurd (omega arith)
 nowhere Nowhere other = refl
 
 abbrev Inv-loop : tie.InvT-loop
-Inv-loop reach codes runs stands tops count classes text first empty start₀ start = (start ≤ length text + 1)
-    × Ready reach codes runs stands tops count × ((t : Tree Leaf) → Prepared t reach codes runs stands tops count
+Inv-loop rows count classes text first words₀ memo₀ empty start₀ words memo start = (start ≤ length text + 1)
+    × Ready rows count × ((t : Tree Leaf) → Prepared t rows count
     → None-before (Matches classes t) text start) × (length first ≡ most-pieces)
-    × ((t : Tree Leaf) → Prepared t reach codes runs stands tops count → Answered classes t [] first empty)
+    × ((t : Tree Leaf) → Prepared t rows count → Answered classes t [] first empty)
+    × (length words ≡ most-pieces) × Remembers rows classes memo
 
 abbrev μ-loop : tie.MeasureT-loop
-μ-loop reach codes runs stands tops count classes text first empty start₀ start = length text + 1 - start
+μ-loop rows count classes text first words₀ memo₀ empty start₀ words memo start = length text + 1 - start
 
-slice-aggregate-begin : tie.Need-slice-aggregate-begin Inv-loop μ-loop
-slice-aggregate-begin c = search needs
+-- the loop, seen from a start that was looked at
+abbrev found-from : tie.After-furthest-end Inv-loop μ-loop → tie.At-loop Inv-loop μ-loop
+found-from c = c .before .before .before .before .before
 
-begin-requires : tie.Need-begin-requires Inv-loop μ-loop
-begin-requires c κs = search needs
+slice-aggregate-begin-in : tie.Need-slice-aggregate-begin-in Inv-loop μ-loop
+slice-aggregate-begin-in c = search needs
+
+begin-in-requires : tie.Need-begin-in-requires Inv-loop μ-loop
+begin-in-requires c κs = search needs
 
 loop-holds : tie.Need-loop-holds Inv-loop μ-loop
 loop-holds c = (
@@ -51,24 +57,29 @@ loop-holds c = (
   search needs,
   search needs,
   search needs,
-  λ t prepared. answered-first (c .before .begin .ensures _ t prepared),
+  λ t prepared. answered-first (c .before .begin-in .ensures _ t prepared),
+  search needs,
+  remembers-none _ _,
 )
 
 slice-aggregate-furthest-end : tie.Need-slice-aggregate-furthest-end Inv-loop μ-loop
 slice-aggregate-furthest-end c = search needs
 
+slice-aggregate-furthest-end-2 : tie.Need-slice-aggregate-furthest-end-2 Inv-loop μ-loop
+slice-aggregate-furthest-end-2 c = search needs
+
 furthest-end-requires : tie.Need-furthest-end-requires Inv-loop μ-loop
 furthest-end-requires c κs =
-    let at = c .before .before .loop .inv in
-    (at .1, ((omega (arith, c .before .loop-test .taken), at .3), at .4))
+    let at = c .before .before .before .before .loop .inv in
+    ((at .1, at .6), ((omega (arith, c .before .before .before .loop-test .taken), at .3, at .5), at .4))
 
 enum-known-found : tie.Need-enum-known-found Inv-loop μ-loop
 enum-known-found c = search needs
 
 returns : tie.Need-returns Inv-loop μ-loop
 returns c = λ t prepared.
-    settled-found (Matches _ t) _ _ _ (c .before .before .before .before .before .before .loop .inv .2 t prepared)
-    (rw (c .before .found .given .1) at (c .before .before .before .furthest-end .ensures t prepared))
+    settled-found (Matches _ t) _ _ _ (found-from (c .before .before .before .before) .loop .inv .2 t prepared)
+    (rw (c .before .found .given .1) at (c .before .before .before .before .furthest-end .ensures .0 t prepared))
 
 enum-told : tie.Need-enum-told Inv-loop μ-loop
 enum-told c = search needs
@@ -84,10 +95,12 @@ loop-again c = (
   search needs,
   search needs,
   λ t prepared.
-      settled-next (Matches _ t) _ _ (c .before .before .before .before .before .loop .inv .2 t prepared)
-      (rw (nowhere _ (c .before .match .keys2)) at (c .before .before .furthest-end .ensures t prepared)),
-  c .before .before .before .before .before .loop .inv .3,
-  c .before .before .before .before .before .loop .inv .4,
+      settled-next (Matches _ t) _ _ (found-from (c .before .before .before) .loop .inv .2 t prepared)
+      (rw (nowhere _ (c .before .match .keys2)) at (c .before .before .before .furthest-end .ensures .0 t prepared)),
+  found-from (c .before .before .before) .loop .inv .3,
+  found-from (c .before .before .before) .loop .inv .4,
+  search needs,
+  c .before .before .before .furthest-end .ensures .1,
 )
 
 returns-2 : tie.Need-returns-2 Inv-loop μ-loop
@@ -100,10 +113,11 @@ first-part-spec =
     (tie.spec
     Inv-loop
     μ-loop
-    slice-aggregate-begin
-    begin-requires
+    slice-aggregate-begin-in
+    begin-in-requires
     loop-holds
     slice-aggregate-furthest-end
+    slice-aggregate-furthest-end-2
     furthest-end-requires
     enum-known-found
     returns

@@ -1,0 +1,2 @@
+-- A text that is empty.
+pub mod EmptyText

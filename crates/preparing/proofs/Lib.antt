@@ -1,0 +1,2 @@
+-- What the answer of deciding tells, by its cases.
+pub mod Told

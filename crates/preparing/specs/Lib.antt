@@ -1,0 +1,2 @@
+-- Deciding on a list and making its rows.
+pub mod Made
