@@ -11,7 +11,7 @@ use Rattle.tabulating.specs.TabulatesLaws.{made-runs}
 use Rattle.tabulating.specs.declared.Tabulated.{Tabulated}
 use Rattle.tabulating.specs.declared.Tabulated.the-variants.{Made, DoesNotFit}
 use Rattle.tabulating.proofs.Tabulated.{the-type}
-use Rattle.choosing.specs.Choice.{Accepts-language}
+use Rattle.choosing.specs.TableChoice.{Accepts-language}
 
 -- a table that was made accepts the language
 pub told-made : {classes : List ℕ} {t : Tree Leaf} {before after room cleared : List ℕ} (made : Tabulated)

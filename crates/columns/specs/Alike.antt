@@ -1,14 +1,15 @@
 -- Leaves that take two bytes alike: each takes both of them or neither.
-use Prim.Native.Nat.{ℕ, _+_, _*_, _/_, _%_, _<_}
+use Prim.Native.Nat.{ℕ, _+_, _*_, _/_, _%_, _^_, _<_}
+use mathlib.Core.Bool.{cond}
 use mathlib.Core.Logic.{_↔_}
 use mathlib.Core.List.{List, [], _∷_}
-use lib.ListN.{getD}
+use lib.Dec.{eqb}
 use Rattle.language.specs.Tree.{Tree}
 use Rattle.language.specs.Nested.{Nested, leaf, catenation, union, star, below}
 use Rattle.tree.specs.Leaf.{Leaf}
+use Rattle.tree.specs.Limits.{most-states}
 use Rattle.tables.specs.Words.{Bit}
-use Rattle.tables.specs.Plan.{row-size, Is-leaf, start-code}
-use Rattle.tables.specs.Tables.{mask-count}
+use Rattle.tables.specs.Plan.{Is-leaf, start-code, leaves-mask, classes-mask, byte-of, class-of}
 use Rattle.moving.specs.Codes.{Code-takes}
 
 -- the leaf of the number n takes b exactly where it takes c
@@ -44,15 +45,23 @@ module _ (classes : List ℕ) (b c : ℕ) where
   Codes-alike [] = Unit {0}
   Codes-alike (code ∷ codes) = (Is-leaf code → Alike classes (code / 4) b c) × Codes-alike codes
 
--- so does each leaf of the piece k in the tables: the piece's third mask says where its leaves start
-pub record Piece-alike (reach codes classes : List ℕ) (k b c : ℕ) : Type 0 where
-  pub each : (i : ℕ) → i < row-size → Bit (getD reach (mask-count * k + 2) 0) i
-      → Alike classes (getD codes (row-size * k + i) 0 / 4) b c
+-- the number of the leaf that starts at the state i of the piece k, by the row: a class's is odd, a character's even
+abbrev pub start-code-at : List ℕ → (k i : ℕ) → ℕ
+start-code-at rows k i =
+    cond (eqb (classes-mask rows k / 2 ^ i % 2) 1) (2 * class-of rows k i + 1) (2 * (byte-of rows k i + 1))
 
--- a leaf starts at the entry p of the codes
-abbrev pub Leaf-at : List ℕ → ℕ → Type 0
-Leaf-at reach p = Bit (getD reach (mask-count * (p / row-size) + 2) 0) (p % row-size)
+-- each leaf of the piece k takes b exactly where it takes c: the third mask of its row says where they start
+pub record Piece-alike (rows classes : List ℕ) (k b c : ℕ) : Type 0 where
+  pub each : (i : ℕ) → i < most-states → Bit (leaves-mask rows k) i → Alike classes (start-code-at rows k i) b c
 
--- each leaf that starts before the entry p does
-pub record Alike-before (reach codes classes : List ℕ) (p b c : ℕ) : Type 0 where
-  pub each : (q : ℕ) → q < p → Leaf-at reach q → Alike classes (getD codes q 0 / 4) b c
+-- the states of all pieces are entries, so many for each piece: a leaf starts at the entry p
+abbrev pub Leaf-entry : List ℕ → ℕ → Type 0
+Leaf-entry rows p = Bit (leaves-mask rows (p / most-states)) (p % most-states)
+
+-- and its number
+abbrev pub entry-number : List ℕ → ℕ → ℕ
+entry-number rows p = start-code-at rows (p / most-states) (p % most-states)
+
+-- so does each leaf that starts before the entry p
+pub record Alike-before (rows classes : List ℕ) (p b c : ℕ) : Type 0 where
+  pub each : (q : ℕ) → q < p → Leaf-entry rows q → Alike classes (entry-number rows q) b c

@@ -1,21 +1,21 @@
 -- Bytes in groups, told by the least byte of each, and the groups parted by one leaf more.
-use Prim.Native.Nat.{ℕ, _+_, _*_, _/_, _≤_, _<_}
+use Prim.Native.Nat.{ℕ, _+_, _*_, _≤_, _<_}
 use mathlib.Core.Path.{_≡_}
 use mathlib.Core.Logic.{_⊎_}
 use mathlib.Core.List.{List}
 use lib.ListN.{length, getD, set}
 use Rattle.machines.specs.Columns.{byte-count}
 use Rattle.moving.specs.Codes.{Code-takes}
-use Rattle.columns.specs.Alike.{Alike, Leaf-at, Alike-before}
+use Rattle.columns.specs.Alike.{Alike, Leaf-entry, entry-number, Alike-before}
 
 -- `least` has for each byte the least that each leaf before the entry p takes alike
-pub record Least (reach codes classes : List ℕ) (p : ℕ) (least : List ℕ) : Type 0 where
+pub record Least (rows classes : List ℕ) (p : ℕ) (least : List ℕ) : Type 0 where
   pub within : (b : ℕ) → b < byte-count → getD least b 0 ≤ b
-  pub alike : (b : ℕ) → b < byte-count → Alike-before reach codes classes p (getD least b 0) b
-  pub first : (b c : ℕ) → b < byte-count → Alike-before reach codes classes p c b → getD least b 0 ≤ c
+  pub alike : (b : ℕ) → b < byte-count → Alike-before rows classes p (getD least b 0) b
+  pub first : (b c : ℕ) → b < byte-count → Alike-before rows classes p c b → getD least b 0 ≤ c
 
 -- r is the least byte of c's group that the leaf of the number n takes as it takes c
-pub record First (classes : List ℕ) (n : ℕ) (before : List ℕ) (c r : ℕ) : Type 0 where
+pub record Least-alike (classes : List ℕ) (n : ℕ) (before : List ℕ) (c r : ℕ) : Type 0 where
   pub within : r ≤ c
   pub group : getD before r 0 ≡ getD before c 0
   pub alike : Alike classes n r c
@@ -24,7 +24,7 @@ pub record First (classes : List ℕ) (n : ℕ) (before : List ℕ) (c r : ℕ) 
 -- the groups are parted by the leaf of the number n
 pub record Parted (classes : List ℕ) (n : ℕ) (before after : List ℕ) : Type 0 where
   pub long : length after ≡ byte-count
-  pub each : (b : ℕ) → b < byte-count → First classes n before b (getD after b 0)
+  pub each : (b : ℕ) → b < byte-count → Least-alike classes n before b (getD after b 0)
 
 -- how many places there are: two for each group
 abbrev pub place-count : ℕ
@@ -35,15 +35,15 @@ abbrev pub none : ℕ
 none = 256
 
 -- the place of the byte c: one of the two of its group, by whether the leaf takes it
-pub data Place (classes : List ℕ) (n : ℕ) (before : List ℕ) (c place : ℕ) : Type 0 where
-  taken : Code-takes classes n c → place ≡ 2 * getD before c 0 + 1 → Place classes n before c place
-  left : (Code-takes classes n c → ⊥) → place ≡ 2 * getD before c 0 → Place classes n before c place
+pub data Byte-place (classes : List ℕ) (n : ℕ) (before : List ℕ) (c place : ℕ) : Type 0 where
+  taken : Code-takes classes n c → place ≡ 2 * getD before c 0 + 1 → Byte-place classes n before c place
+  left : (Code-takes classes n c → ⊥) → place ≡ 2 * getD before c 0 → Byte-place classes n before c place
 
 -- s is the first of the bytes before b that came to the place
 pub record Came (classes : List ℕ) (n : ℕ) (before : List ℕ) (b place s : ℕ) : Type 0 where
   pub before-it : s < b
-  pub placed : Place classes n before s place
-  pub first : (c : ℕ) → Place classes n before c place → s ≤ c
+  pub placed : Byte-place classes n before s place
+  pub first : (c : ℕ) → Byte-place classes n before c place → s ≤ c
 
 -- the byte b comes to a place, and r is the first that came there
 pub data Comes (firsts after : List ℕ) (place b r : ℕ) : Type 0 where
@@ -56,8 +56,8 @@ pub record Parting (classes : List ℕ) (n : ℕ) (before least firsts : List �
   pub long : length least ≡ byte-count
   pub places : length firsts ≡ place-count
   pub rest : (c : ℕ) → b ≤ c → getD least c 0 ≡ getD before c 0
-  pub done : (c : ℕ) → c < b → First classes n before c (getD least c 0)
-  pub fresh : (p : ℕ) → getD firsts p 0 ≡ none → (c : ℕ) → c < b → Place classes n before c p → ⊥
+  pub done : (c : ℕ) → c < b → Least-alike classes n before c (getD least c 0)
+  pub fresh : (p : ℕ) → getD firsts p 0 ≡ none → (c : ℕ) → c < b → Byte-place classes n before c p → ⊥
   pub held : (p : ℕ) → p < place-count → (getD firsts p 0 ≡ none → ⊥)
       → Came classes n before b p (getD firsts p 0)
 
@@ -66,14 +66,14 @@ abbrev pub known-count : ℕ
 known-count = 514
 
 -- the numbers that are noted are those of leaves before the entry p
-pub record Known (reach codes : List ℕ) (p : ℕ) (known : List ℕ) : Type 0 where
-  pub each : (n : ℕ) → getD known n 0 ≡ 1 → (q : ℕ) × (q < p) × Leaf-at reach q × (getD codes q 0 / 4 ≡ n)
+pub record Known (rows : List ℕ) (p : ℕ) (known : List ℕ) : Type 0 where
+  pub each : (n : ℕ) → getD known n 0 ≡ 1 → (q : ℕ) × (q < p) × Leaf-entry rows q × (entry-number rows q ≡ n)
 
 -- the entries before p are gone through
-pub record Looking (reach codes classes : List ℕ) (p : ℕ) (known least : List ℕ) : Type 0 where
+pub record Parted-so-far (rows classes : List ℕ) (p : ℕ) (known least : List ℕ) : Type 0 where
   pub long : length least ≡ byte-count
-  pub parts : Least reach codes classes p least
-  pub knows : Known reach codes p known
+  pub parts : Least rows classes p least
+  pub knows : Known rows p known
 
 -- no number is noted anew but n
 pub record Noted-too (n : ℕ) (known after : List ℕ) : Type 0 where

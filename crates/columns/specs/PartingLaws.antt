@@ -11,15 +11,15 @@ use lib.Seq.{getD-set-same, getD-set-other}
 use Rattle.closing.specs.BitsOfWords.Bits.{Tells}
 use Rattle.machines.specs.Columns.{byte-count}
 use Rattle.moving.specs.Codes.{Code-takes}
-use Rattle.columns.specs.Alike.{Alike, Leaf-at, Alike-before}
+use Rattle.columns.specs.Alike.{Alike, Leaf-entry, entry-number, Alike-before}
 use Rattle.columns.specs.AlikeInTrees.{alike-back}
 use Rattle.columns.specs.Parting.{
   Least,
-  First,
+  Least-alike,
   Parted,
   place-count,
   none,
-  Place,
+  Byte-place,
   taken,
   left,
   Came,
@@ -28,7 +28,7 @@ use Rattle.columns.specs.Parting.{
   again,
   Parting,
   Known,
-  Looking,
+  Parted-so-far,
   Noted-too,
   Looked-at,
   passed,
@@ -44,27 +44,27 @@ alike-over u v = record { taken = (λ h. v .taken .0 (u .taken .0 h), λ h. u .t
 
 module _ {classes : List ℕ} {n : ℕ} {before : List ℕ} where
   -- bytes of one place are of one group, and the leaf takes them alike
-  same-group : {c d p : ℕ} → Place classes n before c p → Place classes n before d p
+  same-group : {c d p : ℕ} → Byte-place classes n before c p → Byte-place classes n before d p
       → getD before c 0 ≡ getD before d 0
   same-group (taken u e) (taken v f) = omega arith
   same-group (taken u e) (left v f) = absurd (omega arith)
   same-group (left u e) (taken v f) = absurd (omega arith)
   same-group (left u e) (left v f) = omega arith
 
-  placed-alike : {c d p : ℕ} → Place classes n before c p → Place classes n before d p → Alike classes n c d
+  placed-alike : {c d p : ℕ} → Byte-place classes n before c p → Byte-place classes n before d p → Alike classes n c d
   placed-alike (taken u e) (taken v f) = record { taken = (λ _. v, λ _. u) }
   placed-alike (taken u e) (left v f) = absurd (omega arith)
   placed-alike (left u e) (taken v f) = absurd (omega arith)
   placed-alike (left u e) (left v f) = record { taken = (λ h. absurd (u h), λ h. absurd (v h)) }
 
   -- and such bytes have one place
-  alike-placed : {c d p : ℕ} → Place classes n before c p → getD before d 0 ≡ getD before c 0 → Alike classes n d c
-      → Place classes n before d p
+  alike-placed : {c d p : ℕ} → Byte-place classes n before c p → getD before d 0 ≡ getD before c 0 → Alike classes n d c
+      → Byte-place classes n before d p
   alike-placed (taken u e) group alike = taken (alike .taken .1 u) (omega arith)
   alike-placed (left u e) group alike = left (λ h. u (alike .taken .0 h)) (omega arith)
 
   -- a byte has one place
-  one-place : {c p q : ℕ} → Place classes n before c p → Place classes n before c q → p ≡ q
+  one-place : {c p q : ℕ} → Byte-place classes n before c p → Byte-place classes n before c q → p ≡ q
   one-place (taken u e) (taken v f) = omega arith
   one-place (taken u e) (left v f) = absurd (v u)
   one-place (left u e) (taken v f) = absurd (u v)
@@ -73,7 +73,7 @@ module _ {classes : List ℕ} {n : ℕ} {before : List ℕ} where
 -- the place of a byte, by a test
 pub place-by : {classes : List ℕ} {n : ℕ} {before : List ℕ} {c first p : ℕ} {takes : Bool}
     → Tells (Code-takes classes n c) takes → first ≡ getD before c 0
-    → (takes ≡ true → p ≡ 2 * first + 1) → (takes ≡ false → p ≡ 2 * first) → Place classes n before c p
+    → (takes ≡ true → p ≡ 2 * first + 1) → (takes ≡ false → p ≡ 2 * first) → Byte-place classes n before c p
 place-by {takes = true} told same yes' no' = taken (told .holds refl) (omega (arith, yes' refl))
 place-by {takes = false} told same yes' no' = left (told .fails refl) (omega (arith, no' refl))
 
@@ -93,18 +93,18 @@ parting-none classes n before firsts long places empty = record {
 
 module _ {classes : List ℕ} {n : ℕ} {before least firsts : List ℕ} {b p : ℕ}
     (so-far : Parting classes n before least firsts b) (inside : b < byte-count) (within : p < place-count)
-    (place : Place classes n before b p) where
+    (place : Byte-place classes n before b p) where
   -- those before b are as they were, and so are those behind it
   still-rest : (r c : ℕ) → b + 1 ≤ c → getD (set least b r) c 0 ≡ getD before c 0
   still-rest r c h = getD-set-other least b c r 0 (omega arith) ∙ so-far .rest c (omega arith)
 
-  still-done : (r : ℕ) → First classes n before b r → (c : ℕ) → c < b + 1
-      → First classes n before c (getD (set least b r) c 0)
+  still-done : (r : ℕ) → Least-alike classes n before b r → (c : ℕ) → c < b + 1
+      → Least-alike classes n before c (getD (set least b r) c 0)
   still-done r own c h = elim (ℕ-discrete c b) [
-    | yes e ↦ subst (λ (m : ℕ). First classes n before m (getD (set least b r) m 0)) (sym e)
-        (subst (λ (v : ℕ). First classes n before b v)
+    | yes e ↦ subst (λ (m : ℕ). Least-alike classes n before m (getD (set least b r) m 0)) (sym e)
+        (subst (λ (v : ℕ). Least-alike classes n before b v)
         (sym (getD-set-same least b r 0 (omega (arith, so-far .long)))) own)
-    | no other ↦ subst (λ (v : ℕ). First classes n before c v) (sym (getD-set-other least b c r 0 other))
+    | no other ↦ subst (λ (v : ℕ). Least-alike classes n before c v) (sym (getD-set-other least b c r 0 other))
         (so-far .done c (omega arith))
   ]
 
@@ -117,7 +117,7 @@ module _ {classes : List ℕ} {n : ℕ} {before least firsts : List ℕ} {b p : 
   }
 
   -- where no byte came before, b is the first
-  new-first : getD firsts p 0 ≡ none → (c : ℕ) → Place classes n before c p → b ≤ c
+  new-first : getD firsts p 0 ≡ none → (c : ℕ) → Byte-place classes n before c p → b ≤ c
   new-first free c there = elim (decLt c b) [
     | yes h ↦ absurd (so-far .fresh p free c h there)
     | no h ↦ omega arith
@@ -143,7 +143,7 @@ module _ {classes : List ℕ} {n : ℕ} {before least firsts : List ℕ} {b p : 
         getD-set-same firsts p b 0 (omega (arith, so-far .places)),
       )
       | no other ↦ elim (ℕ-discrete c b) [
-        | yes at ↦ other (one-place (subst (λ (m : ℕ). Place classes n before m q) at there) place)
+        | yes at ↦ other (one-place (subst (λ (m : ℕ). Byte-place classes n before m q) at there) place)
         | no less ↦ so-far .fresh q (sym (getD-set-other firsts p q b 0 other) ∙ e) c (omega arith) there
       ]
     ];
@@ -172,7 +172,7 @@ module _ {classes : List ℕ} {n : ℕ} {before least firsts : List ℕ} {b p : 
     };
     fresh = λ q e c h there. elim (ℕ-discrete c b) [
       | yes at ↦ some (subst (λ (m : ℕ). getD firsts m 0 ≡ none)
-          (one-place (subst (λ (m : ℕ). Place classes n before m q) at there) place) e)
+          (one-place (subst (λ (m : ℕ). Byte-place classes n before m q) at there) place) e)
       | no less ↦ so-far .fresh q e c (omega arith) there
     ];
     held = λ q h free. still-came (so-far .held q h free);
@@ -201,41 +201,41 @@ pub parting-all : {classes : List ℕ} {n : ℕ} {before least firsts : List ℕ
     → Parting classes n before least firsts b → byte-count ≤ b → Parted classes n before least
 parting-all so-far all = record { long = so-far .long; each = λ c h. so-far .done c (omega arith) }
 
-module _ {reach codes classes : List ℕ} where
+module _ {rows classes : List ℕ} where
   -- the leaves before an entry take a byte as it is, two both ways, and three by way of one
-  before-back : {p b c : ℕ} → Alike-before reach codes classes p b c → Alike-before reach codes classes p c b
+  before-back : {p b c : ℕ} → Alike-before rows classes p b c → Alike-before rows classes p c b
   before-back u = record { each = λ q h starts. alike-back (u .each q h starts) }
 
-  before-over : {p b c d : ℕ} → Alike-before reach codes classes p b c → Alike-before reach codes classes p c d
-      → Alike-before reach codes classes p b d
+  before-over : {p b c d : ℕ} → Alike-before rows classes p b c → Alike-before rows classes p c d
+      → Alike-before rows classes p b d
   before-over u v = record { each = λ q h starts. alike-over (u .each q h starts) (v .each q h starts) }
 
   -- one entry more, and one less
-  before-more : {p b c : ℕ} → Alike-before reach codes classes p b c
-      → (Leaf-at reach p → Alike classes (getD codes p 0 / 4) b c) → Alike-before reach codes classes (p + 1) b c
+  before-more : {p b c : ℕ} → Alike-before rows classes p b c
+      → (Leaf-entry rows p → Alike classes (entry-number rows p) b c) → Alike-before rows classes (p + 1) b c
   before-more {p} {b} {c} u own = record {
     each = λ q h starts. elim (ℕ-discrete q p) [
-      | yes e ↦ subst (λ (m : ℕ). Alike classes (getD codes m 0 / 4) b c) (sym e)
-          (own (subst (λ (m : ℕ). Leaf-at reach m) e starts))
+      | yes e ↦ subst (λ (m : ℕ). Alike classes (entry-number rows m) b c) (sym e)
+          (own (subst (λ (m : ℕ). Leaf-entry rows m) e starts))
       | no other ↦ u .each q (omega arith) starts
     ];
   }
 
-  before-less : {p b c : ℕ} → Alike-before reach codes classes (p + 1) b c → Alike-before reach codes classes p b c
+  before-less : {p b c : ℕ} → Alike-before rows classes (p + 1) b c → Alike-before rows classes p b c
   before-less u = record { each = λ q h starts. u .each q (omega arith) starts }
 
   -- at first all bytes are in the group of 0
-  pub least-none : Least reach codes classes 0 (replicate byte-count 0)
+  pub least-none : Least rows classes 0 (replicate byte-count 0)
   least-none = record {
     within = λ b h. omega (arith, getD-replicate {A = ℕ} byte-count b 0 0 h);
     alike = λ b h. record { each = λ q l. absurd (omega arith) };
     first = λ b c h u. omega (arith, getD-replicate {A = ℕ} byte-count b 0 0 h);
   }
 
-  module _ {p : ℕ} {least : List ℕ} (so-far : Least reach codes classes p least) where
+  module _ {p : ℕ} {least : List ℕ} (so-far : Least rows classes p least) where
     -- an entry that tells no bytes apart that were not before
-    least-same : ((b c : ℕ) → Alike-before reach codes classes p b c → Leaf-at reach p
-        → Alike classes (getD codes p 0 / 4) b c) → Least reach codes classes (p + 1) least
+    least-same : ((b c : ℕ) → Alike-before rows classes p b c → Leaf-entry rows p
+        → Alike classes (entry-number rows p) b c) → Least rows classes (p + 1) least
     least-same more = record {
       within = so-far .within;
       alike = λ b h. let u = so-far .alike b h in before-more u (more (getD least b 0) b u);
@@ -243,17 +243,17 @@ module _ {reach codes classes : List ℕ} where
     }
 
     -- an entry where no leaf starts
-    pub least-past : (Leaf-at reach p → ⊥) → Least reach codes classes (p + 1) least
+    pub least-past : (Leaf-entry rows p → ⊥) → Least rows classes (p + 1) least
     least-past no-leaf = least-same (λ b c u starts. absurd (no-leaf starts))
 
     -- a leaf whose number was looked at before
-    least-known : {known : List ℕ} → Known reach codes p known → getD known (getD codes p 0 / 4) 0 ≡ 1
-        → Least reach codes classes (p + 1) least
-    least-known knows noted = let (q, h, starts, same) = knows .each (getD codes p 0 / 4) noted in
+    least-known : {known : List ℕ} → Known rows p known → getD known (entry-number rows p) 0 ≡ 1
+        → Least rows classes (p + 1) least
+    least-known knows noted = let (q, h, starts, same) = knows .each (entry-number rows p) noted in
         least-same (λ b c u _. subst (λ (m : ℕ). Alike classes m b c) same (u .each q h starts))
 
     -- bytes taken alike are of one group
-    pub one-group : (b c : ℕ) → b < byte-count → c < byte-count → Alike-before reach codes classes p c b
+    pub one-group : (b c : ℕ) → b < byte-count → c < byte-count → Alike-before rows classes p c b
         → getD least c 0 ≡ getD least b 0
     one-group b c h l u = omega (
       arith,
@@ -262,15 +262,15 @@ module _ {reach codes classes : List ℕ} where
     )
 
     -- a leaf by which the groups are parted
-    least-parted : {after : List ℕ} → Leaf-at reach p → Parted classes (getD codes p 0 / 4) least after
-        → Least reach codes classes (p + 1) after
+    least-parted : {after : List ℕ} → Leaf-entry rows p → Parted classes (entry-number rows p) least after
+        → Least rows classes (p + 1) after
     least-parted {after} starts parts = record {
       within = λ b h. parts .each b h .within;
       alike = λ b h.
           let own = parts .each b h in
           let r = getD after b 0 in
-          let far : Alike-before reach codes classes p (getD least b 0) r =
-          subst (λ (m : ℕ). Alike-before reach codes classes p m r) (own .group)
+          let far : Alike-before rows classes p (getD least b 0) r =
+          subst (λ (m : ℕ). Alike-before rows classes p m r) (own .group)
           (so-far .alike r (omega (arith, own .within))) in
           before-more (before-over (before-back far) (so-far .alike b h)) (λ _. own .alike);
       first = λ b c h u. elim (decLt c byte-count) [
@@ -280,10 +280,10 @@ module _ {reach codes classes : List ℕ} where
     }
 
     -- a leaf that was looked at
-    pub least-next : {known after : List ℕ} → Known reach codes p known → Leaf-at reach p
-        → Looked-at classes (getD codes p 0 / 4) known least after → Least reach codes classes (p + 1) after
+    pub least-next : {known after : List ℕ} → Known rows p known → Leaf-entry rows p
+        → Looked-at classes (entry-number rows p) known least after → Least rows classes (p + 1) after
     least-next knows starts (passed noted same) =
-        subst (λ (l : List ℕ). Least reach codes classes (p + 1) l) (sym same) (least-known knows noted)
+        subst (λ (l : List ℕ). Least rows classes (p + 1) l) (sym same) (least-known knows noted)
     least-next knows starts (parted parts) = least-parted starts parts
 
 -- there is an entry for each byte still
@@ -311,52 +311,55 @@ zeros (suc k) zero = refl
 zeros (suc k) (suc n) = zeros k n
 
 -- at first no number is noted
-pub known-none : (reach codes : List ℕ) (k : ℕ) → Known reach codes 0 (replicate k 0)
-known-none reach codes k = record { each = λ n e. absurd (omega (arith, zeros k n)) }
+pub known-none : (rows : List ℕ) (k : ℕ) → Known rows 0 (replicate k 0)
+known-none rows k = record { each = λ n e. absurd (omega (arith, zeros k n)) }
 
-module _ {reach codes known : List ℕ} {p : ℕ} (so-far : Known reach codes p known) where
+module _ {rows known : List ℕ} {p : ℕ} (so-far : Known rows p known) where
   -- one entry more
-  pub known-past : Known reach codes (p + 1) known
+  pub known-past : Known rows (p + 1) known
   known-past = record {
     each = λ n e. let (q, h, starts, same) = so-far .each n e in (q, omega arith, starts, same);
   }
 
   -- whose number may be noted
-  pub known-next : {after : List ℕ} → Leaf-at reach p → Noted-too (getD codes p 0 / 4) known after
-      → Known reach codes (p + 1) after
+  pub known-next : {after : List ℕ} → Leaf-entry rows p → Noted-too (entry-number rows p) known after
+      → Known rows (p + 1) after
   known-next starts noted = record {
     each = λ n e. ⊎-elim (known-past .each n) (λ same. (p, omega arith, starts, sym same)) (noted .each n e);
   }
 
 -- at first no entry is gone through
-pub looking-none : (reach codes classes : List ℕ) (k : ℕ)
-    → Looking reach codes classes 0 (replicate k 0) (replicate byte-count 0)
-looking-none reach codes classes k = record { long = refl; parts = least-none; knows = known-none reach codes k }
+pub looking-none : (rows classes : List ℕ) (k : ℕ)
+    → Parted-so-far rows classes 0 (replicate k 0) (replicate byte-count 0)
+looking-none rows classes k = record { long = refl; parts = least-none; knows = known-none rows k }
 
 -- told with other forms of what was noted
-pub looking-as : {reach codes classes known known' least least' : List ℕ} {p : ℕ} → known' ≡ known → least' ≡ least
-    → Looking reach codes classes p known least → Looking reach codes classes p known' least'
-looking-as {reach} {codes} {classes} {known} {known'} {least} {least'} {p} e f so-far =
-    subst (λ (l : List ℕ). Looking reach codes classes p l least') (sym e)
-    (subst (λ (l : List ℕ). Looking reach codes classes p known l) (sym f) so-far)
+pub looking-as : {rows classes known known' least least' : List ℕ} {p : ℕ} → known' ≡ known → least' ≡ least
+    → Parted-so-far rows classes p known least → Parted-so-far rows classes p known' least'
+looking-as {rows} {classes} {known} {known'} {least} {least'} {p} e f so-far =
+    subst (λ (l : List ℕ). Parted-so-far rows classes p l least') (sym e)
+    (subst (λ (l : List ℕ). Parted-so-far rows classes p known l) (sym f) so-far)
 
-module _ {reach codes classes known least : List ℕ} {p : ℕ} (so-far : Looking reach codes classes p known least) where
+module _ {rows classes known least : List ℕ} {p : ℕ} (so-far : Parted-so-far rows classes p known least) where
   -- an entry where no leaf starts
-  pub looking-past : (Leaf-at reach p → ⊥) → Looking reach codes classes (p + 1) known least
+  pub looking-past : (Leaf-entry rows p → ⊥) → Parted-so-far rows classes (p + 1) known least
   looking-past no-leaf =
       record { long = so-far .long; parts = least-past (so-far .parts) no-leaf; knows = known-past (so-far .knows) }
 
   -- one where the leaf that starts there is looked at
-  pub looking-next : {known' least' : List ℕ} → Leaf-at reach p → Noted-too (getD codes p 0 / 4) known known'
-      → Looked-at classes (getD codes p 0 / 4) known least least' → Looking reach codes classes (p + 1) known' least'
-  looking-next starts noted looked = record {
-    long = looked-long looked (so-far .long);
-    parts = least-next (so-far .parts) (so-far .knows) starts looked;
-    knows = known-next (so-far .knows) starts noted;
-  }
+  pub looking-next : {known' least' : List ℕ} {n : ℕ} → Leaf-entry rows p → n ≡ entry-number rows p
+      → Noted-too n known known' → Looked-at classes n known least least'
+      → Parted-so-far rows classes (p + 1) known' least'
+  looking-next {known'} {least'} starts is noted looked =
+      let looked-here = subst (λ (m : ℕ). Looked-at classes m known least least') is looked in
+      record {
+        long = looked-long looked-here (so-far .long);
+        parts = least-next (so-far .parts) (so-far .knows) starts looked-here;
+        knows = known-next (so-far .knows) starts (subst (λ (m : ℕ). Noted-too m known known') is noted);
+      }
 
 -- told with another form of the last entry
-pub looking-all : {reach codes classes known least : List ℕ} {p end : ℕ} → Looking reach codes classes p known least
-    → p ≡ end → Least reach codes classes end least
-looking-all {reach} {codes} {classes} {least = least} so-far e =
-    subst (λ (m : ℕ). Least reach codes classes m least) e (so-far .parts)
+pub looking-all : {rows classes known least : List ℕ} {p end : ℕ} → Parted-so-far rows classes p known least
+    → p ≡ end → Least rows classes end least
+looking-all {rows} {classes} {least = least} so-far e =
+    subst (λ (m : ℕ). Least rows classes m least) e (so-far .parts)

@@ -3,18 +3,32 @@ use crate::BYTE_COUNT;
 use crate::parting::KNOWN_COUNT;
 use crate::parting::look_at;
 use closing::bits::has_bit;
-use tables::MASK_COUNT;
-use tables::ROW_SIZE;
-ghost use Prim.Native.Nat.{ℕ, _*_, _≤_};
+use moving::classes::class_of;
+use tables::ROW_WORDS;
+use tables::rows::byte_of;
+use tree::limits::MOST_STATES;
+ghost use Prim.Native.Nat.{_+_, _*_, _≤_, _<_};
 ghost use mathlib.Core.Path.{_≡_};
-ghost use mathlib.Core.List.{List};
 ghost use lib.ListN.{length, take};
 ghost use Rattle.language.specs.Tree.{Tree};
 ghost use Rattle.tree.specs.Leaf.{Leaf};
-ghost use Rattle.tables.specs.Plan.{row-size};
-ghost use Rattle.tables.specs.Tables.{mask-count, Prepared};
+ghost use Rattle.tree.specs.Limits.{most-states};
+ghost use Rattle.tables.specs.Plan.{row-words};
+ghost use Rattle.tables.specs.Tables.{Prepared, Roomy};
 ghost use Rattle.machines.specs.Columns.{byte-count, Columned};
-ghost use Rattle.columns.specs.Numbering.{Grouped, Numbered};
+ghost use Rattle.columns.specs.Alike.{start-code-at};
+ghost use Rattle.columns.specs.ColumnNumbering.{Grouped, Columns-numbered};
+
+// The number of the leaf that starts at a state, by the row of its piece.
+fn start_code_at(rows: &[u64], piece: usize, state: usize) -> u16
+    requires { ⌜ (row-words * piece + row-words ≤ length (now rows)) × (state < most-states) ⌝ }
+    ensures { λ r. ⌜ r ≡ start-code-at (now (rows .entry)) piece state ⌝ }
+{
+    if has_bit(rows[ROW_WORDS * piece + 3], state) {
+        return (2 * class_of(rows, piece, state) + 1) as u16;
+    }
+    (2 * (byte_of(rows, piece, state) + 1)) as u16
+}
 
 // Numbers the groups in the order of their least bytes. Answers how many there are.
 fn number_groups(
@@ -23,7 +37,7 @@ fn number_groups(
     columns: &mut [u8; BYTE_COUNT],
 ) -> usize
     requires { ⌜ Grouped (now least) × (length (now firsts) ≡ byte-count) × (length (now columns) ≡ byte-count) ⌝ }
-    ensures { λ r. ⌜ Numbered (now (least .entry)) byte-count (now (firsts .exit)) (now (columns .exit)) r ⌝ }
+    ensures { λ r. ⌜ Columns-numbered (now (least .entry)) byte-count (now (firsts .exit)) (now (columns .exit)) r ⌝ }
 {
     let mut count: usize = 0;
     let mut byte: usize = 0;
@@ -44,28 +58,28 @@ fn number_groups(
 // Notes for each byte the number of its column, and for each column the byte that it begins with: bytes share a column
 // exactly where no leaf tells them apart. Answers how many columns there are.
 pub fn columns_of(
-    reach: &[u64],
-    codes: &[u16],
+    rows: &[u64],
     count: usize,
     classes: &[u8],
     firsts: &mut [u8; BYTE_COUNT],
     columns: &mut [u8; BYTE_COUNT],
 ) -> usize
-    requires { ⌜ (mask-count * count ≤ length (now reach)) × (row-size * count ≤ length (now codes))
-        × (length (now firsts) ≡ byte-count) × (length (now columns) ≡ byte-count) ⌝ }
+    requires { ⌜ Roomy count (now rows) × (length (now firsts) ≡ byte-count)
+        × (length (now columns) ≡ byte-count) ⌝ }
     ensures { λ r. ⌜ (1 ≤ r) × (r ≤ byte-count) × (length (now (firsts .exit)) ≡ byte-count) ⌝ }
-    ensures { λ r. ⌜ ((t : Tree Leaf) (runs stands tops : List ℕ)
-        → Prepared t (now (reach .entry)) (now (codes .entry)) runs stands tops count
+    ensures { λ r. ⌜ ((t : Tree Leaf) → Prepared t (now (rows .entry)) count
         → Columned (now (classes .entry)) t (take r (now (firsts .exit))) (now (columns .exit))) ⌝ }
 {
     let mut least = [0u8; BYTE_COUNT];
     let mut known = [0u8; KNOWN_COUNT];
-    let end = ROW_SIZE * count;
+    let end = MOST_STATES * count;
     let mut entry = 0;
     while entry < end {
-        let leaves = reach[MASK_COUNT * (entry / ROW_SIZE) + 2];
-        if has_bit(leaves, entry % ROW_SIZE) {
-            look_at(classes, codes[entry] / 4, &mut known, &mut least);
+        let piece = entry / MOST_STATES;
+        let state = entry % MOST_STATES;
+        if has_bit(rows[ROW_WORDS * piece + 2], state) {
+            let number = start_code_at(rows, piece, state);
+            look_at(classes, number, &mut known, &mut least);
         }
         entry += 1;
     }

@@ -12,7 +12,16 @@ use Rattle.tree.specs.Leaf.{Leaf}
 use Rattle.tables.specs.Tables.{Holding}
 use Rattle.exploring.specs.Keys.{number-under}
 use Rattle.exploring.specs.KeysLaws.{same-number}
-use Rattle.exploring.specs.Room.{marks-of, entries-from, Kept, Numbered, with-state, Entered, no-state, new-state}
+use Rattle.exploring.specs.Room.{
+  marks-of,
+  entries-from,
+  Found-kept,
+  States-numbered,
+  with-state,
+  Entry-written,
+  no-state,
+  new-state,
+}
 use Rattle.exploring.specs.RoomLaws.{marks-inside, pasted-before, pasted-after, pasted-part, part-same}
 
 -- the last element of a list with one more
@@ -21,22 +30,22 @@ last-of l a d i e = ap (λ (j : ℕ). getD (l ++ (a ∷ [])) j d) e ∙ getD-app
 
 -- an entry is written behind all states
 module _ (count most : ℕ) (room : List ℕ) (p r : ℕ) (inside : entries-from count most + p < length room) where
-  abbrev entered : List ℕ
-  entered = set room (entries-from count most + p) r
+  abbrev with-entry : List ℕ
+  with-entry = set room (entries-from count most + p) r
 
   -- what stands before stays
-  entered-low : (k : ℕ) → k < entries-from count most + p → getD entered k 0 ≡ getD room k 0
+  entered-low : (k : ℕ) → k < entries-from count most + p → getD with-entry k 0 ≡ getD room k 0
   entered-low k low = getD-set-other room (entries-from count most + p) k r 0 (λ e. omega arith)
 
   -- so do the marks of each state
-  entered-marks : (i : ℕ) → i < most → marks-of count most entered i ≡ marks-of count most room i
-  entered-marks i few = part-same room entered (most + count * i) count
+  entered-marks : (i : ℕ) → i < most → marks-of count most with-entry i ≡ marks-of count most room i
+  entered-marks i few = part-same room with-entry (most + count * i) count
       (length-set room (entries-from count most + p) r)
       (λ k low. entered-low (most + count * i + k) (omega (arith, marks-inside count most i few)))
 
   -- the numbers
-  pub numbered-entry : {masks : List ℕ} {states : ℕ} → states ≤ most → Numbered masks count most states room
-      → Numbered masks count most states entered
+  pub numbered-entry : {masks : List ℕ} {states : ℕ} → states ≤ most → States-numbered masks count most states room
+      → States-numbered masks count most states with-entry
   numbered-entry {masks} few numbered = record {
     numbers = λ i low. entered-low i (omega arith) ∙ numbered .numbers i low
         ∙ ap (λ (l : List ℕ). number-under masks l count) (sym (entered-marks i (omega arith)));
@@ -44,11 +53,11 @@ module _ (count most : ℕ) (room : List ℕ) (p r : ℕ) (inside : entries-from
 
   -- and all that was kept
   pub kept-entry : {classes : List ℕ} {t : Tree Leaf} {texts : List (List ℕ)} {entries : List ℕ}
-      → length texts ≤ most → length entries ≡ p → Kept classes t texts entries count most room
-      → Kept classes t texts (entries ++ (r ∷ [])) count most entered
+      → length texts ≤ most → length entries ≡ p → Found-kept classes t texts entries count most room
+      → Found-kept classes t texts (entries ++ (r ∷ [])) count most with-entry
   kept-entry {classes} {t} {texts} {entries} few so-far kept = record {
     entries-kept = λ q low. elim (ℕ-discrete q p) [
-      | yes e ↦ ap (λ (j : ℕ). getD entered (entries-from count most + j) 0) e
+      | yes e ↦ ap (λ (j : ℕ). getD with-entry (entries-from count most + j) 0) e
           ∙ getD-set-same room (entries-from count most + p) r 0 inside ∙ sym (last-of entries r 0 q (e ∙ sym so-far))
       | no other ↦
           let low : q < length entries = omega (arith, length-append entries (r ∷ []), low) in
@@ -96,7 +105,7 @@ module _ (masks : List ℕ) (count most : ℕ) (room : List ℕ) (i : ℕ) (word
       (λ e. omega arith))
 
   -- so each state can be found again
-  pub numbered-state : Numbered masks count most i room → Numbered masks count most (i + 1) grown
+  pub numbered-state : States-numbered masks count most i room → States-numbered masks count most (i + 1) grown
   numbered-state numbered = record {
     numbers = λ j low. elim (ℕ-discrete j i) [
       | yes e ↦ subst (λ (k : ℕ). getD grown k 0 ≡ number-under masks (marks-of count most grown k) count) (sym e)
@@ -115,8 +124,9 @@ module _ (masks : List ℕ) (count most : ℕ) (room : List ℕ) (i : ℕ) (word
 
   -- and the room holds one state more
   pub kept-state : {classes text : List ℕ} {t : Tree Leaf} {texts : List (List ℕ)} {entries : List ℕ}
-      → length texts ≡ i → Holding classes t text (take count words) → Kept classes t texts entries count most room
-      → Kept classes t (texts ++ (text ∷ [])) entries count most grown
+      → length texts ≡ i → Holding classes t text (take count words)
+      → Found-kept classes t texts entries count most room
+      → Found-kept classes t (texts ++ (text ∷ [])) entries count most grown
   kept-state {classes} {text} {t} {texts} {entries} as-many holding kept = record {
     entries-kept = λ q low. grown-high (entries-from count most + q) (omega (arith, marks-inside count most i few))
         ∙ kept .entries-kept q low;
@@ -134,16 +144,16 @@ module _ (masks : List ℕ) (count most : ℕ) (room : List ℕ) (i : ℕ) (word
 
 -- after an entry each state can be found again, and the room is as long
 pub numbered-next : {masks : List ℕ} {count most states p r : ℕ} {room words after : List ℕ} {then : ℕ}
-    → states ≤ most → r ≤ most → Numbered masks count most states room → count ≤ length words
-    → entries-from count most + p < length room → Entered masks count most states p r room words after then
-    → Numbered masks count most then after
+    → states ≤ most → r ≤ most → States-numbered masks count most states room → count ≤ length words
+    → entries-from count most + p < length room → Entry-written masks count most states p r room words after then
+    → States-numbered masks count most then after
 numbered-next {masks} {count} {most} {states} {p} {r} {room} {words} few low numbered wide fits
     (no-state old is as-before) =
-    subst₂ (λ (n : ℕ) (l : List ℕ). Numbered masks count most n l) (sym as-before) (sym is)
+    subst₂ (λ (n : ℕ) (l : List ℕ). States-numbered masks count most n l) (sym as-before) (sym is)
     (numbered-entry count most room p r fits few numbered)
 numbered-next {masks} {count} {most} {states} {p} {r} {room} {words} few low numbered wide fits
     (new-state new is more) =
-    subst₂ (λ (n : ℕ) (l : List ℕ). Numbered masks count most n l) (sym more) (sym is)
+    subst₂ (λ (n : ℕ) (l : List ℕ). States-numbered masks count most n l) (sym more) (sym is)
     (numbered-state masks count most (set room (entries-from count most + p) r) states words (omega arith) wide
     (rw (length-set room (entries-from count most + p) r) (omega arith))
     (numbered-entry count most room p r fits few numbered))

@@ -5,16 +5,12 @@ use mathlib.Core.Path.{_≡_}
 use mathlib.Core.List.{List}
 use lib.ListN.{getD}
 use lib.Bits.{bitOr, bitAnd, bitXor}
-use Rattle.tables.specs.Tables.{mask-count}
-
--- the mask of the leaves of piece k
-abbrev pub leaf-mask : (reach : List ℕ) → (k : ℕ) → ℕ
-leaf-mask reach k = getD reach (mask-count * k + 2) 0
+use Rattle.tables.specs.Plan.{leaves-mask, top-of}
 
 -- the masks under which words are compared, one for each piece
-pub record Keys (reach tops : List ℕ) (count : ℕ) (masks : List ℕ) : Type 0 where
-  pub first : getD masks 0 0 ≡ bitOr (leaf-mask reach 0) (2 ^ getD tops 0 0)
-  pub others : (k : ℕ) → 0 < k → k < count → getD masks k 0 ≡ leaf-mask reach k
+pub record Keys (rows : List ℕ) (count : ℕ) (masks : List ℕ) : Type 0 where
+  pub first : getD masks 0 0 ≡ bitOr (leaves-mask rows 0) (2 ^ top-of rows 0)
+  pub others : (k : ℕ) → 0 < k → k < count → getD masks k 0 ≡ leaves-mask rows k
 
 -- two runs of words agree under the masks
 pub record Same-under (masks : List ℕ) (count : ℕ) (u v : List ℕ) : Type 0 where

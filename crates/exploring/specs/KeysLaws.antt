@@ -8,19 +8,20 @@ use native.Mathlib.Numerals.{add-one}
 use lib.ListN.{getD, length, set}
 use lib.Seq.{getD-set-same, getD-set-other}
 use lib.Bits.{bitOr, bitAnd, bitXor}
-use Rattle.closing.specs.BitsOfWords.Rows.{Rows}
-use Rattle.exploring.specs.Keys.{leaf-mask, Keys, Same-under, spread, number-under}
+use Rattle.tables.specs.Plan.{leaves-mask, top-of}
+use Rattle.closing.specs.BitsOfWords.MadeAnew.{Made-anew}
+use Rattle.exploring.specs.Keys.{Keys, Same-under, spread, number-under}
 
 -- the masks of the leaves, with the bit of the accepting state set in the first
-pub keys-noted : {reach tops before masks : List ℕ} {count n first : ℕ} → 1 ≤ count → count ≤ length before
-    → Rows (λ k v. v ≡ leaf-mask reach k) before masks 0 n → count ≤ n
-    → first ≡ bitOr (getD masks 0 0) (2 ^ getD tops 0 0)
-    → Keys reach tops count (set masks 0 first)
-keys-noted {reach} {tops} {before} {masks} {count} {n} {first} some room noted all put = record {
+pub keys-noted : {rows before masks : List ℕ} {count n first : ℕ} → 1 ≤ count → count ≤ length before
+    → Made-anew (λ k v. v ≡ leaves-mask rows k) before masks 0 n → count ≤ n
+    → first ≡ bitOr (getD masks 0 0) (2 ^ top-of rows 0)
+    → Keys rows count (set masks 0 first)
+keys-noted {rows} {before} {masks} {count} {n} {first} some room noted all put = record {
   first = getD-set-same masks 0 first 0 (omega (arith, noted .same-length)) ∙ put
-      ∙ ap (λ (m : ℕ). bitOr m (2 ^ getD tops 0 0)) (noted .rows 0 (omega arith));
+      ∙ ap (λ (m : ℕ). bitOr m (2 ^ top-of rows 0)) (noted .anew 0 (omega arith));
   others = λ k later inside. getD-set-other masks 0 k first 0 (λ e. omega arith)
-      ∙ ap (λ (j : ℕ). getD masks j 0) (omega arith) ∙ noted .rows k (omega arith);
+      ∙ ap (λ (j : ℕ). getD masks j 0) (omega arith) ∙ noted .anew k (omega arith);
 }
 
 -- at first none is looked at

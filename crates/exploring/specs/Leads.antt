@@ -14,7 +14,7 @@ use Rattle.tree.specs.Records.{piece-count}
 use Rattle.tables.specs.Words.{Clean}
 use Rattle.tables.specs.Tables.{Prepared, Holding}
 use Rattle.closing.specs.BitsOfWords.Spots.{holds-held, held-at, clean-words}
-use Rattle.closing.specs.BitsOfWords.Alike.{spot-onto}
+use Rattle.closing.specs.BitsOfWords.KnownByMarks.{spot-onto}
 use Rattle.closing.specs.BitsOfWords.Bits.{bit-below, same-bits, bit-zero}
 use Rattle.closing.specs.BitsOfWords.Zero.{All-zero}
 use Rattle.sweeping.specs.Twice.{front-holds, front-clean}
@@ -25,7 +25,7 @@ use Rattle.exploring.specs.Keys.{Same-under}
 use Rattle.exploring.specs.MaskedWords.{held-bit}
 use Rattle.exploring.specs.Room.{marks-of, Sought}
 use Rattle.exploring.specs.RoomLaws.{marks-copied}
-use Rattle.exploring.specs.Progress.{Leading}
+use Rattle.exploring.specs.FindingStates.{Leading}
 
 -- where no state is marked, the words are 0
 zero-words : {classes : List ℕ} {t : Tree Leaf} {w words : List ℕ} → Holding classes t w words
@@ -70,8 +70,8 @@ module _ {classes : List ℕ} {t : Tree Leaf} {w : List ℕ} {b : ℕ} {words : 
   }
 
 -- words hold marks exactly where the first of them do, one for each piece
-pub holding-front : {t : Tree Leaf} {reach codes runs stands tops : List ℕ} {count : ℕ}
-    → Prepared t reach codes runs stands tops count → {classes w : List ℕ} (words : List ℕ)
+pub holding-front : {t : Tree Leaf} {rows : List ℕ} {count : ℕ}
+    → Prepared t rows count → {classes w : List ℕ} (words : List ℕ)
     → Holding classes t w (take count words) ↔ Holding classes t w words
 holding-front {t} {count = count} prepared {classes} {w} words = (
   λ front. record {
@@ -87,8 +87,8 @@ holding-front {t} {count = count} prepared {classes} {w} words = (
 )
 
 -- words into which the marks of a state were copied have no bit past a last state, and hold what the marks hold
-module _ {t : Tree Leaf} {reach codes runs stands tops : List ℕ} {count : ℕ}
-    (prepared : Prepared t reach codes runs stands tops count) {words : List ℕ} (rest : List ℕ) (most : ℕ)
+module _ {t : Tree Leaf} {rows : List ℕ} {count : ℕ}
+    (prepared : Prepared t rows count) {words : List ℕ} (rest : List ℕ) (most : ℕ)
     (room : List ℕ) (i : ℕ) (few : i < most) (fits : most + count * most ≤ length room)
     (put : words ≡ take count (take (most + count * i + count - (most + count * i)) (drop (most + count * i) room))
     ++ rest) where

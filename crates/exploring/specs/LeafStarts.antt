@@ -13,13 +13,11 @@ use Rattle.language.specs.Nested.{Nested, leaf, catenation, union, star, below,
 use Rattle.language.specs.TakenAsOne.{Leaf-start}
 use Rattle.tree.specs.Leaf.{Leaf, character, class, empty-text, has-empty, meaning}
 use Rattle.tables.specs.Words.{Bit, width, run, Own, number, Marked, Holds}
-use Rattle.tables.specs.Plan.{row-size, Is-leaf, leads-on, jumps-to, leads-and-jumps, codes-of}
+use Rattle.tables.specs.Plan.{leaves-mask, Is-leaf, leads-on, jumps-to, leads-and-jumps, codes-of}
 use Rattle.closing.specs.BitsOfWords.Numbers.{number-below}
-use Rattle.closing.specs.BitsOfWords.Rows.{row-at}
 use Rattle.closing.specs.BitsOfWords.Spots.{bit-at, bit-of}
 use Rattle.closing.specs.Passes.Laid.{Lays, Lays-below, Lays-each}
 use Rattle.closing.specs.Passes.Transitions.{left-code, right-code, end-code, inside-code, last-code}
-use Rattle.exploring.specs.Keys.{leaf-mask}
 
 -- q is the start of a leaf of one of the pieces, other than the leaf of the empty text
 abbrev pub Leaf-at : Nested Leaf → State → Type 0
@@ -79,29 +77,29 @@ module _ (classes : List ℕ) where
   origin-leaf (below x) p at = let (q, here, e) = origin-leaf x p at in (left q, here, e)
 
 -- a code says that a leaf starts there exactly where P
-abbrev Says : ℕ → Type 0 → Type 0
-Says code P = Is-leaf code ↔ P
+abbrev Says-leaf : ℕ → Type 0 → Type 0
+Says-leaf code P = Is-leaf code ↔ P
 
 -- codes of other states say that none does
-zero-says : Says 0 ⊥
+zero-says : Says-leaf 0 ⊥
 zero-says = (λ h. h .1 refl, λ none. absurd none)
 
-on-says : Says leads-on ⊥
+on-says : Says-leaf leads-on ⊥
 on-says = (λ h. omega (arith, h .0), λ none. absurd none)
 
-jump-says : (t : ℕ) → Says (jumps-to t) ⊥
+jump-says : (t : ℕ) → Says-leaf (jumps-to t) ⊥
 jump-says t = (λ h. omega (arith, h .0), λ none. absurd none)
 
-both-says : (t : ℕ) → Says (leads-and-jumps t) ⊥
+both-says : (t : ℕ) → Says-leaf (leads-and-jumps t) ⊥
 both-says t = (λ h. omega (arith, h .0), λ none. absurd none)
 
 -- told with another form of the code
-says-at : {c d : ℕ} {P : Type 0} → d ≡ c → Says c P → Says d P
-says-at {c} {d} {P} e says = subst (λ (n : ℕ). Says n P) (sym e) says
+says-at : {c d : ℕ} {P : Type 0} → d ≡ c → Says-leaf c P → Says-leaf d P
+says-at {c} {d} {P} e says = subst (λ (n : ℕ). Says-leaf n P) (sym e) says
 
 -- the code of a state of the top piece says whether a leaf starts there
-code-says : (x : Nested Leaf) (i exit : ℕ) → Says exit ⊥ → (q : State) → Own x q
-    → Says (getD (codes-of x i exit) (number x q) 0) (Leaf-at x q)
+code-says : (x : Nested Leaf) (i exit : ℕ) → Says-leaf exit ⊥ → (q : State) → Own x q
+    → Says-leaf (getD (codes-of x i exit) (number x q) 0) (Leaf-at x q)
 code-says (leaf (character c)) i exit none start o =
     (λ h e. false≢true e, λ h. (omega arith, λ e. omega arith))
 code-says (leaf (class k)) i exit none start o =
@@ -128,28 +126,24 @@ code-says (star x) i exit none (left p) o =
 code-says (below x) i exit none start o = zero-says
 code-says (below x) i exit none accepting o = none
 
-module _ (reach codes : List ℕ) where
+module _ (rows : List ℕ) where
   -- it has the bits of the starts of the piece's leaves
-  own-mask : (x : Nested Leaf) (k : ℕ) → Lays reach codes x k → (q : State) → Own x q
-      → Bit (leaf-mask reach k) (number x q) ↔ Leaf-at x q
+  own-mask : (x : Nested Leaf) (k : ℕ) → Lays rows x k → (q : State) → Own x q
+      → Bit (leaves-mask rows k) (number x q) ↔ Leaf-at x q
   own-mask x k lays q o =
       let inside = number-below x q o in
-      let code : getD codes (row-size * k + number x q) 0 ≡ getD (codes-of x 0 0) (number x q) 0 =
-      sym (row-at codes k (width x) (number x q) inside)
-      ∙ ap (λ (l : List ℕ). getD l (number x q) 0) (lays .coded) in
-      let says : Says (getD codes (row-size * k + number x q) 0) (Leaf-at x q) =
-      says-at code (code-says x 0 0 zero-says q o) in (
-        λ b. says .0 (lays .noted .leaves (number x q) .0 b .1),
-        λ at. lays .noted .leaves (number x q) .1 (inside, says .1 at),
+      let says = code-says x 0 0 zero-says q o in (
+        λ b. says .0 (lays .coded .leaves (number x q) .0 b .1),
+        λ at. lays .coded .leaves (number x q) .1 (inside, says .1 at),
       )
 
   -- words below x, for the pieces from `new` on, are the masks of their leaves
   abbrev Masks-below : Nested Leaf → List ℕ → ℕ → Type 0
-  Masks-below x ws new = (o : ℕ) → o < run x → getD ws o 0 ≡ leaf-mask reach (new + o)
+  Masks-below x ws new = (o : ℕ) → o < run x → getD ws o 0 ≡ leaves-mask rows (new + o)
 
   -- where x's own bits, counted from i, are those of its leaves' starts, so are all
   marked-leaf : (x : Nested Leaf) (w i : ℕ) (ws : List ℕ) (new : ℕ)
-      → ((q : State) → Own x q → Bit w (i + number x q) ↔ Leaf-at x q) → Lays-below reach codes x new
+      → ((q : State) → Own x q → Bit w (i + number x q) ↔ Leaf-at x q) → Lays-below rows x new
       → Masks-below x ws new → (q : State) → Has x q → Marked x w i ws q ↔ Leaf-at x q
   marked-leaf (leaf a) w i ws new top lays masks start has = Iff·trans (bit-at w (omega arith)) (top start tt)
   marked-leaf (leaf a) w i ws new top lays masks accepting has = Iff·trans (bit-at w (omega arith)) (top accepting tt)
@@ -161,7 +155,7 @@ module _ (reach codes : List ℕ) where
   marked-leaf (catenation x y) w i ws new top lays masks (right q) has =
       marked-leaf y w (i + (1 + width x)) (drop (run x) ws) (new + run x)
       (λ p o. Iff·trans (bit-at w (omega arith)) (top (right p) o)) (lays .1)
-      (λ o l. getD-drop (run x) ws o 0 ∙ masks (run x + o) (omega arith) ∙ ap (leaf-mask reach) (omega arith)) q has
+      (λ o l. getD-drop (run x) ws o 0 ∙ masks (run x + o) (omega arith) ∙ ap (leaves-mask rows) (omega arith)) q has
   marked-leaf (union x y) w i ws new top lays masks start has = Iff·trans (bit-at w (omega arith)) (top start tt)
   marked-leaf (union x y) w i ws new top lays masks accepting has = top accepting tt
   marked-leaf (union x y) w i ws new top lays masks (left q) has =
@@ -170,7 +164,7 @@ module _ (reach codes : List ℕ) where
   marked-leaf (union x y) w i ws new top lays masks (right q) has =
       marked-leaf y w (i + (1 + width x)) (drop (run x) ws) (new + run x)
       (λ p o. Iff·trans (bit-at w (omega arith)) (top (right p) o)) (lays .1)
-      (λ o l. getD-drop (run x) ws o 0 ∙ masks (run x + o) (omega arith) ∙ ap (leaf-mask reach) (omega arith)) q has
+      (λ o l. getD-drop (run x) ws o 0 ∙ masks (run x + o) (omega arith) ∙ ap (leaves-mask rows) (omega arith)) q has
   marked-leaf (star x) w i ws new top lays masks start has = Iff·trans (bit-at w (omega arith)) (top start tt)
   marked-leaf (star x) w i ws new top lays masks accepting has = top accepting tt
   marked-leaf (star x) w i ws new top lays masks (left q) has =
@@ -178,19 +172,19 @@ module _ (reach codes : List ℕ) where
   marked-leaf (below x) w i ws new top lays masks start has = Iff·trans (bit-at w (omega arith)) (top start tt)
   marked-leaf (below x) w i ws new top lays masks accepting has = top accepting tt
   marked-leaf (below x) w i ws new top lays masks (left q) has =
-      let first : getD ws 0 0 ≡ leaf-mask reach new = masks 0 (omega arith) ∙ ap (leaf-mask reach) (omega arith) in
+      let first : getD ws 0 0 ≡ leaves-mask rows new = masks 0 (omega arith) ∙ ap (leaves-mask rows) (omega arith) in
       marked-leaf x (getD ws 0 0) 0 (drop 1 ws) (new + 1)
       (λ p o. Iff·trans (bit-at (getD ws 0 0) (omega arith))
       (Iff·trans (bit-of (number x p) first) (own-mask x new (lays .0) p o)))
       (lays .1)
-      (λ o l. getD-drop 1 ws o 0 ∙ masks (1 + o) (omega arith) ∙ ap (leaf-mask reach) (omega arith)) q has
+      (λ o l. getD-drop 1 ws o 0 ∙ masks (1 + o) (omega arith) ∙ ap (leaves-mask rows) (omega arith)) q has
 
   -- the masks of all pieces, taken as words, mark the starts of the leaves
-  pub masks-hold : (x : Nested Leaf) (masks : List ℕ) → Lays-each reach codes x
-      → ((k : ℕ) → k < 1 + run x → getD masks k 0 ≡ leaf-mask reach k) → (q : State) → Has x q
+  pub masks-hold : (x : Nested Leaf) (masks : List ℕ) → Lays-each rows x
+      → ((k : ℕ) → k < 1 + run x → getD masks k 0 ≡ leaves-mask rows k) → (q : State) → Has x q
       → Holds x masks q ↔ Leaf-at x q
   masks-hold x masks lays are =
-      let first : getD masks 0 0 ≡ leaf-mask reach 0 = are 0 (omega arith) in
+      let first : getD masks 0 0 ≡ leaves-mask rows 0 = are 0 (omega arith) in
       marked-leaf x (getD masks 0 0) 0 (drop 1 masks) 1
       (λ p o. Iff·trans (bit-at (getD masks 0 0) (omega arith))
       (Iff·trans (bit-of (number x p) first) (own-mask x 0 (lays .0) p o)))

@@ -6,7 +6,7 @@ pub mod LeafStarts
 pub mod MaskedWords
 pub mod Room
 pub mod RoomLaws
-pub mod Progress
+pub mod FindingStates
 pub mod Keeping
 pub mod Leads
 pub mod Steps

@@ -14,6 +14,7 @@ use Rattle.language.specs.Tree.{Tree}
 use Rattle.tree.specs.Leaf.{Leaf, meaning}
 use Rattle.tree.specs.Pieces.{cut-up, stated}
 use Rattle.tables.specs.Words.{Bit, width, run, Holds}
+use Rattle.tables.specs.Plan.{leaves-mask, top-of}
 use Rattle.tables.specs.Tables.{Prepared, Holding}
 use Rattle.closing.specs.BitsOfWords.Spots.{
   bit-at,
@@ -30,13 +31,13 @@ use Rattle.closing.specs.BitsOfWords.Spots.{
   clean-words,
 }
 use Rattle.closing.specs.Passes.Laid.{lays-each}
-use Rattle.closing.specs.BitsOfWords.Alike.{at, spot-onto}
+use Rattle.closing.specs.BitsOfWords.KnownByMarks.{spot-at, spot-onto}
 use Rattle.closing.specs.BitsOfWords.Bits.{bit-and, bit-with, bit-below, same-bits}
 use Rattle.sweeping.specs.Visiting.{accepting-holds}
 use Rattle.stepping.specs.Inner.{prepared-count}
 use Rattle.machines.specs.Explored.{Marks-after, One-state}
 use Rattle.exploring.specs.LeafStarts.{Leaf-at, leaf-has, leaf-origin, origin-leaf, masks-hold}
-use Rattle.exploring.specs.Keys.{leaf-mask, Keys, Same-under}
+use Rattle.exploring.specs.Keys.{Keys, Same-under}
 
 -- then they agree in each bit of the masks
 under-bit : {masks : List ℕ} {count : ℕ} {u v : List ℕ} → Same-under masks count u v → (k b : ℕ) → k < count
@@ -49,11 +50,12 @@ under-bit {masks} {count} {u} {v} same k b inside masked = (
 )
 
 -- every bit of the masks that one has the other has
-abbrev Follows : (masks : List ℕ) → (count : ℕ) → (u v : List ℕ) → Type 0
-Follows masks count u v = (k b : ℕ) → k < count → Bit (getD masks k 0) b → Bit (getD u k 0) b → Bit (getD v k 0) b
+abbrev Masked-within : (masks : List ℕ) → (count : ℕ) → (u v : List ℕ) → Type 0
+Masked-within masks count u v = (k b : ℕ) → k < count → Bit (getD masks k 0) b → Bit (getD u k 0) b → Bit (getD v k 0) b
 
 -- where they agree in each, they agree
-under-of-bits : (masks : List ℕ) (count : ℕ) (u v : List ℕ) → Follows masks count u v → Follows masks count v u
+under-of-bits : (masks : List ℕ) (count : ℕ) (u v : List ℕ) → Masked-within masks count u v
+    → Masked-within masks count v u
     → Same-under masks count u v
 under-of-bits masks count u v on back = record {
   each = λ k inside. same-bits (bitAnd (getD u k 0) (getD masks k 0)) (bitAnd (getD v k 0) (getD masks k 0)) (λ b. (
@@ -65,26 +67,26 @@ under-of-bits masks count u v on back = record {
 }
 
 -- the bit of a spot, by its word
-pub held-bit : (k b : ℕ) (words : List ℕ) → Set-at (at k b) words ↔ Bit (getD words k 0) b
+pub held-bit : (k b : ℕ) (words : List ℕ) → Set-at (spot-at k b) words ↔ Bit (getD words k 0) b
 held-bit zero b words = (λ h. h, λ h. h)
 held-bit (suc o) b words = (λ h. h, λ h. h)
 
-module _ {t : Tree Leaf} {reach codes runs stands tops : List ℕ} {count : ℕ}
-    (prepared : Prepared t reach codes runs stands tops count) {masks : List ℕ} (keys : Keys reach tops count masks)
+module _ {t : Tree Leaf} {rows : List ℕ} {count : ℕ}
+    (prepared : Prepared t rows count) {masks : List ℕ} (keys : Keys rows count masks)
   where
     abbrev x : Nested Leaf
     x = cut-up t
 
     -- the masks without the bit of the accepting state
     abbrev leaves : List ℕ
-    leaves = leaf-mask reach 0 ∷ drop 1 masks
+    leaves = leaves-mask rows 0 ∷ drop 1 masks
 
     -- they are the masks of the leaves
-    leaves-are : (k : ℕ) → k < 1 + run x → getD leaves k 0 ≡ leaf-mask reach k
+    leaves-are : (k : ℕ) → k < 1 + run x → getD leaves k 0 ≡ leaves-mask rows k
     leaves-are zero h = refl
     leaves-are (suc o) h =
         getD-drop 1 masks o 0 ∙ keys .others (1 + o) (omega arith) (omega (arith, prepared-count prepared))
-        ∙ ap (leaf-mask reach) (omega arith)
+        ∙ ap (leaves-mask rows) (omega arith)
 
     -- past the first they are the same
     later-leaves : (o : ℕ) → getD leaves (suc o) 0 ≡ getD masks (suc o) 0
@@ -92,18 +94,16 @@ module _ {t : Tree Leaf} {reach codes runs stands tops : List ℕ} {count : ℕ}
 
     -- so they mark the starts of leaves
     leaves-hold : (q : State) → Has x q → Holds x leaves q ↔ Leaf-at x q
-    leaves-hold = masks-hold reach codes x leaves
-        (lays-each reach (record { codes = codes; runs = runs; stands = stands; tops = tops }) count (prepared .noted) x
-        (prepared .planned) (omega (arith, prepared-count prepared)))
-        leaves-are
+    leaves-hold = masks-hold rows x leaves
+        (lays-each rows x (prepared .planned)) leaves-are
 
     -- the masks have the bits of the masks of the leaves, and that of the accepting state
-    leaf-bit : (b : ℕ) → Bit (leaf-mask reach 0) b → Bit (getD masks 0 0) b
-    leaf-bit b h = bit-of b (keys .first) .1 (bit-with (leaf-mask reach 0) (getD tops 0 0) b .1 (inl h))
+    leaf-bit : (b : ℕ) → Bit (leaves-mask rows 0) b → Bit (getD masks 0 0) b
+    leaf-bit b h = bit-of b (keys .first) .1 (bit-with (leaves-mask rows 0) (top-of rows 0) b .1 (inl h))
 
-    top-bit : Bit (getD masks 0 0) (getD tops 0 0)
-    top-bit = bit-of (getD tops 0 0) (keys .first) .1
-        (bit-with (leaf-mask reach 0) (getD tops 0 0) (getD tops 0 0) .1 (inr refl))
+    top-bit : Bit (getD masks 0 0) (top-of rows 0)
+    top-bit = bit-of (top-of rows 0) (keys .first) .1
+        (bit-with (leaves-mask rows 0) (top-of rows 0) (top-of rows 0) .1 (inr refl))
 
     -- the spot of the start of a leaf lies under the masks
     spot-same : {u v : List ℕ} → Same-under masks count u v → (s : Spot) → Spot-within (width x) (run x) s
@@ -122,22 +122,22 @@ module _ {t : Tree Leaf} {reach codes runs stands tops : List ℕ} {count : ℕ}
         (holds-held x leaves q has .0 (leaves-hold q has .1 leaf)))
         (Iff·symm (holds-held x v q has)))
 
-    -- the accepting state's bit is the one that the tables tell
-    accepting-bit : (words : List ℕ) → Holds x words accepting ↔ Bit (getD words 0 0) (getD tops 0 0)
+    -- the accepting state's bit is the one that the rows tell
+    accepting-bit : (words : List ℕ) → Holds x words accepting ↔ Bit (getD words 0 0) (top-of rows 0)
     accepting-bit words = Iff·trans (accepting-holds x words)
         (bit-at (getD words 0 0) (sym (prepared .planned .0 .topped)))
 
     -- a bit of the masks is one of the masks of the leaves, or that of the accepting state
     leaf-or-top : (k b : ℕ) → k < count → Bit (getD masks k 0) b
-        → Bit (getD leaves k 0) b ⊎ ((k ≡ 0) × (b ≡ getD tops 0 0))
+        → Bit (getD leaves k 0) b ⊎ ((k ≡ 0) × (b ≡ top-of rows 0))
     leaf-or-top zero b inside lit = ⊎-elim inl (λ e. inr (refl, e))
-        (bit-with (leaf-mask reach 0) (getD tops 0 0) b .0 (bit-of b (keys .first) .0 lit))
+        (bit-with (leaves-mask rows 0) (top-of rows 0) b .0 (bit-of b (keys .first) .0 lit))
     leaf-or-top (suc o) b inside lit =
         inl (bit-of b (later-leaves o) .1 lit)
 
     -- a bit of the masks that is set after one text is set after one that leads to the same state
     follows : {classes v w before after : List ℕ} → Holding classes t v before → Holding classes t w after
-        → One-state classes t v w → Follows masks count before after
+        → One-state classes t v w → Masked-within masks count before after
     follows {classes} {v} {w} {before} {after} first second one k b inside masked lit =
         elim (leaf-or-top k b inside masked) [
           | inl at-leaf ↦
@@ -174,7 +174,7 @@ module _ {t : Tree Leaf} {reach codes runs stands tops : List ℕ} {count : ℕ}
         accepts =
             Iff·trans (Iff·symm (first .modelled accepting tt))
             (Iff·trans (accepting-bit before)
-            (Iff·trans (under-bit same 0 (getD tops 0 0) (omega (arith, prepared-count prepared)) top-bit)
+            (Iff·trans (under-bit same 0 (top-of rows 0) (omega (arith, prepared-count prepared)) top-bit)
             (Iff·trans (Iff·symm (accepting-bit after)) (second .modelled accepting tt))));
       }
 

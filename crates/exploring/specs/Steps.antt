@@ -17,16 +17,16 @@ use Rattle.exploring.specs.MaskedWords.{one-state, same-under}
 use Rattle.exploring.specs.Room.{
   marks-of,
   entries-from,
-  Kept,
-  Numbered,
+  Found-kept,
+  States-numbered,
   with-state,
-  Entered,
+  Entry-written,
   Found-all,
   Too-many,
   no-state,
   new-state,
 }
-use Rattle.exploring.specs.Progress.{Progress, Leading, Exploring}
+use Rattle.exploring.specs.FindingStates.{Progress, Leading, Exploring}
 use Rattle.exploring.specs.Keeping.{kept-entry, numbered-state, kept-state, numbered-next}
 use Rattle.exploring.specs.Leads.{holding-front}
 
@@ -47,18 +47,18 @@ state-inside states columns p some inside =
     div-lt-iff-lt-mul {k = columns} {x = p} {y = states} (omega arith) .1 inside
 
 -- at first the room holds the state of the empty text, and it can be found again
-module _ {reach codes runs stands tops : List ℕ} {count : ℕ} {masks : List ℕ} (keys : Keys reach tops count masks)
+module _ {rows : List ℕ} {count : ℕ} {masks : List ℕ} (keys : Keys rows count masks)
     {classes words : List ℕ}
-    (begun : (t : Tree Leaf) → Prepared t reach codes runs stands tops count → Holding classes t [] words)
+    (begun : (t : Tree Leaf) → Prepared t rows count → Holding classes t [] words)
     (most : ℕ) (room : List ℕ) (some : 1 ≤ most) (enough : count ≤ length words)
     (fits : entries-from count most ≤ length room) {after : List ℕ}
     (put : after ≡ with-state masks count most room 0 words) where
-  pub numbered-first : Numbered masks count most 1 after
-  numbered-first = subst (Numbered masks count most 1) (sym put)
+  pub numbered-first : States-numbered masks count most 1 after
+  numbered-first = subst (States-numbered masks count most 1) (sym put)
       (numbered-state masks count most room 0 words some enough fits
       (record { numbers = λ i low. absurd (omega arith) }))
 
-  pub progress-first : (firsts : List ℕ) (t : Tree Leaf) → Prepared t reach codes runs stands tops count
+  pub progress-first : (firsts : List ℕ) (t : Tree Leaf) → Prepared t rows count
       → Progress classes t firsts count most after 1 0
   progress-first firsts t prepared = record {
     texts = [] ∷ [];
@@ -66,15 +66,15 @@ module _ {reach codes runs stands tops : List ℕ} {count : ℕ} {masks : List �
     explored = at-start;
     as-many = refl;
     so-far = refl;
-    kept = subst (Kept classes t ([] ∷ []) [] count most) (sym put)
+    kept = subst (Found-kept classes t ([] ∷ []) [] count most) (sym put)
         (kept-state masks count most room 0 words some enough fits {texts = []} refl
         (holding-front prepared words .1 (begun t prepared))
         (record { entries-kept = λ q low. absurd (omega arith); marks-kept = λ j low. absurd (omega arith) }));
   }
 
 -- one entry more
-module _ {t : Tree Leaf} {reach codes runs stands tops : List ℕ} {count : ℕ}
-    (prepared : Prepared t reach codes runs stands tops count) {masks : List ℕ} (keys : Keys reach tops count masks)
+module _ {t : Tree Leaf} {rows : List ℕ} {count : ℕ}
+    (prepared : Prepared t rows count) {masks : List ℕ} (keys : Keys rows count masks)
     {classes : List ℕ} (bytes : List ℕ) (columns : ℕ) {most states p r : ℕ} {room words : List ℕ} (some : 1 ≤ columns)
     (enough : columns ≤ length bytes) (inside : p < states * columns)
     (so-far : Progress classes t (take columns bytes) count most room states p)
@@ -121,7 +121,7 @@ module _ {t : Tree Leaf} {reach codes runs stands tops : List ℕ} {count : ℕ}
   ]
 
   -- or to a new one
-  explored-new : states < r → Numbered masks count most states room
+  explored-new : states < r → States-numbered masks count most states room
       → Explored classes t firsts (so-far .texts ++ (text ∷ [])) (so-far .entries ++ (r ∷ []))
   explored-new new numbered =
       let is : 1 + length (so-far .texts) ≡ r = omega (arith, leads .within, so-far .as-many) in
@@ -140,8 +140,8 @@ module _ {t : Tree Leaf} {reach codes runs stands tops : List ℕ} {count : ℕ}
 
   -- so the room holds what was found with that entry, and with a state more where it is new
   pub progress-next : {after : List ℕ} {then : ℕ} → states ≤ most → r ≤ most
-      → Numbered masks count most states room → count ≤ length words → entries-from count most + p < length room
-      → Entered masks count most states p r room words after then
+      → States-numbered masks count most states room → count ≤ length words → entries-from count most + p < length room
+      → Entry-written masks count most states p r room words after then
       → Progress classes t firsts count most after then (p + 1)
   progress-next {after} {then} few low numbered wide fits (no-state old is as-before) = record {
     texts = so-far .texts;
@@ -149,7 +149,7 @@ module _ {t : Tree Leaf} {reach codes runs stands tops : List ℕ} {count : ℕ}
     explored = explored-old old;
     as-many = so-far .as-many ∙ sym as-before;
     so-far = one-more;
-    kept = subst (Kept classes t (so-far .texts) (so-far .entries ++ (r ∷ [])) count most) (sym is)
+    kept = subst (Found-kept classes t (so-far .texts) (so-far .entries ++ (r ∷ [])) count most) (sym is)
         (kept-entry count most room p r fits (omega (arith, so-far .as-many)) (so-far .so-far) (so-far .kept));
   }
   progress-next {after} {then} few low numbered wide fits (new-state new is more) = record {
@@ -158,7 +158,7 @@ module _ {t : Tree Leaf} {reach codes runs stands tops : List ℕ} {count : ℕ}
     explored = explored-new new numbered;
     as-many = length-append (so-far .texts) (text ∷ []) ∙ omega (arith, so-far .as-many);
     so-far = one-more;
-    kept = subst (Kept classes t (so-far .texts ++ (text ∷ [])) (so-far .entries ++ (r ∷ [])) count most) (sym is)
+    kept = subst (Found-kept classes t (so-far .texts ++ (text ∷ [])) (so-far .entries ++ (r ∷ [])) count most) (sym is)
         (kept-state masks count most (set room (entries-from count most + p) r) states words (omega arith) wide
         (rw (length-set room (entries-from count most + p) r) (omega arith)) (so-far .as-many)
         (holding-front prepared words .1 (leads .holding))
@@ -166,7 +166,8 @@ module _ {t : Tree Leaf} {reach codes runs stands tops : List ℕ} {count : ℕ}
   }
 
   -- or there are more states than there is room for
-  pub too-many : most ≤ states → states < r → Numbered masks count most states room → Too-many classes t firsts most
+  pub too-many : most ≤ states → states < r → States-numbered masks count most states room
+      → Too-many classes t firsts most
   too-many full new numbered = record {
     texts = so-far .texts ++ (text ∷ []);
     entries = so-far .entries ++ (r ∷ []);
@@ -192,9 +193,9 @@ found-all bytes columns enough few done all = record {
   kept = done .kept;
 }
 
-module _ {reach codes runs stands tops : List ℕ} {count : ℕ} {masks firsts : List ℕ} {columns most : ℕ}
+module _ {rows : List ℕ} {count : ℕ} {masks firsts : List ℕ} {columns most : ℕ}
     {room words : List ℕ} {states p : ℕ}
-    (here : Exploring reach codes runs stands tops count masks firsts columns most room words states p) where
+    (here : Exploring rows count masks firsts columns most room words states p) where
   -- the states' parts of the room
   pub states-fit : entries-from count most ≤ length room
   states-fit = omega (arith, room-parts count columns most, here .fits)
@@ -240,8 +241,8 @@ module _ {reach codes runs stands tops : List ℕ} {count : ℕ} {masks firsts :
 
     -- it is written
     pub exploring-next : {after later : List ℕ} {r then : ℕ} → r ≤ most → length after ≡ length room
-        → length later ≡ length words → Entered masks count most states p r room later after then
-        → Exploring reach codes runs stands tops count masks firsts columns most after later then (p + 1)
+        → length later ≡ length words → Entry-written masks count most states p r room later after then
+        → Exploring rows count masks firsts columns most after later then (p + 1)
     exploring-next {after} {later} {r} {then} low long as-long entered =
         let grows = more-states entered in
         record {
@@ -263,6 +264,6 @@ module _ {reach codes runs stands tops : List ℕ} {count : ℕ} {masks firsts :
               entered;
         }
       where
-        more-states : Entered masks count most states p r room later after then → (states ≤ then) × (then ≤ most)
+        more-states : Entry-written masks count most states p r room later after then → (states ≤ then) × (then ≤ most)
         more-states (no-state old is as-before) = (omega arith, omega (arith, here .few))
         more-states (new-state new is more) = (omega arith, omega arith)

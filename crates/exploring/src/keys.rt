@@ -1,27 +1,28 @@
 // What of a state's marks counts: the starts of leaves, and the root's accepting state.
 use closing::bits::with_bit;
-use tables::MASK_COUNT;
-use tree::limits::MOST_PIECES;
-ghost use Prim.Native.Nat.{_*_, _≤_, _<_};
+use tables::ROW_WORDS;
+use tables::rows::top_of;
+ghost use Prim.Native.Nat.{_≤_, _<_};
 ghost use mathlib.Core.Path.{_≡_};
-ghost use lib.ListN.{length, getD};
+ghost use lib.ListN.{length};
 ghost use Rattle.tables.specs.Words.{word-bits};
-ghost use Rattle.tables.specs.Tables.{mask-count};
+ghost use Rattle.tables.specs.Plan.{top-of};
+ghost use Rattle.tables.specs.Tables.{Roomy};
 ghost use Rattle.closing.specs.BitsOfWords.Bits.{Tells};
 ghost use Rattle.exploring.specs.Keys.{Keys, Same-under, number-under};
 
 // Notes the masks under which words are compared: the starts of leaves, and in the first the root's accepting state.
-pub fn note_keys(reach: &[u64], tops: &[u8; MOST_PIECES], count: usize, masks: &mut [u64])
-    requires { ⌜ (1 ≤ count) × (count ≤ length (now masks)) × (mask-count * count ≤ length (now reach))
-        × (getD (now tops) 0 0 < word-bits) ⌝ }
-    ensures { λ _. ⌜ Keys (now (reach .entry)) (now (tops .entry)) count (now (masks .exit)) ⌝ }
+pub fn note_keys(rows: &[u64], count: usize, masks: &mut [u64])
+    requires { ⌜ (1 ≤ count) × (count ≤ length (now masks)) × Roomy count (now rows)
+        × (top-of (now rows) 0 < word-bits) ⌝ }
+    ensures { λ _. ⌜ Keys (now (rows .entry)) count (now (masks .exit)) ⌝ }
 {
     let mut k = 0;
     while k < count {
-        masks[k] = reach[MASK_COUNT * k + 2];
+        masks[k] = rows[ROW_WORDS * k + 2];
         k += 1;
     }
-    let top = tops[0] as usize;
+    let top = top_of(rows, 0);
     let leaves = masks[0];
     masks[0] = with_bit(leaves, top);
 }

@@ -5,7 +5,7 @@ use stepping::inner::copy;
 ghost use Prim.Native.Nat.{_+_, _*_, _≤_, _<_};
 ghost use mathlib.Core.Path.{_≡_};
 ghost use lib.ListN.{length};
-ghost use Rattle.exploring.specs.Room.{Sought, with-state, Entered};
+ghost use Rattle.exploring.specs.Room.{Sought, with-state, Entry-written};
 
 // The place among the states of the one whose marks agree with the words under the masks; where there is none, how many
 // states there are. The marks of a state are looked at only where its number is that of the words.
@@ -61,7 +61,8 @@ pub fn enter(
 ) -> usize
     requires { ⌜ (entry ≤ most) × (most + count * most + p < length (now room)) × (count ≤ length (now words))
         × (count ≤ length (now masks)) ⌝ }
-    ensures { λ r. ⌜ Entered (now (masks .entry)) count most states p entry (now (room .entry)) (now (words .entry))
+    ensures { λ r. ⌜ Entry-written (now (masks .entry)) count most states p entry (now (room .entry))
+        (now (words .entry))
         (now (room .exit)) r ⌝ }
 {
     room[most + count * most + p] = entry as u64;

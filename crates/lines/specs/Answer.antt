@@ -5,24 +5,24 @@ use Rattle.lines.specs.declared.LinesAnswer.{LinesAnswer}
 use Rattle.lines.specs.declared.LinesAnswer.the-variants.{Answered, NotGood, TooFewClasses, TooLong, NoRoom}
 
 -- the refusal's number, 0 for none, and its place; how many lines there are, and how many of them are yes
-pub record Numbers : Type 0 where
+pub record Lines-numbers : Type 0 where
   pub refusal : ℕ
   pub place : ℕ
   pub line-count : ℕ
   pub yes-lines : ℕ
 
 -- a refusal gives its number and place 0
-abbrev pub refusing : (number : ℕ) → Numbers
-refusing number = record { refusal = number; place = 0; line-count = 0; yes-lines = 0 }
+abbrev pub refusing-lines : (number : ℕ) → Lines-numbers
+refusing-lines number = record { refusal = number; place = 0; line-count = 0; yes-lines = 0 }
 
 -- where nothing is refused, the two counts
-abbrev pub counting : (line-count yes-lines : ℕ) → Numbers
-counting line-count yes-lines = record { refusal = 0; place = 0; line-count = line-count; yes-lines = yes-lines }
+abbrev pub counting-lines : (line-count yes-lines : ℕ) → Lines-numbers
+counting-lines line-count yes-lines = record { refusal = 0; place = 0; line-count = line-count; yes-lines = yes-lines }
 
 -- the numbers that each case of an answer gives back
-abbrev pub numbers : LinesAnswer → Numbers
-numbers (Answered line-count yes-lines) = counting line-count yes-lines
-numbers NotGood = refusing list-not-good
-numbers TooFewClasses = refusing class-buffer-too-short
-numbers TooLong = refusing text-too-long
-numbers NoRoom = refusing buffer-too-short
+abbrev pub lines-numbers : LinesAnswer → Lines-numbers
+lines-numbers (Answered line-count yes-lines) = counting-lines line-count yes-lines
+lines-numbers NotGood = refusing-lines list-not-good
+lines-numbers TooFewClasses = refusing-lines class-buffer-too-short
+lines-numbers TooLong = refusing-lines text-too-long
+lines-numbers NoRoom = refusing-lines buffer-too-short

@@ -3,4 +3,4 @@ pub mod Answer
 pub mod Promise
 pub mod Unique
 -- the loop over the lines
-pub mod Loop
+pub mod LinesLoop

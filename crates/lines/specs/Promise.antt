@@ -5,10 +5,10 @@ use mathlib.Core.Bool.{Bool, cond}
 use mathlib.Core.List.{List, [], _∷_, _++_}
 use lib.ListN.{length, drop}
 use Rattle.tree.specs.RefusalNumbers.{buffer-too-short}
-use Rattle.finder.specs.Answer.{answering}
+use Rattle.finder.specs.Answer.{answering-match}
 use Rattle.finder.specs.Promise.{Of-good, Refuses, Match-answers}
 use Rattle.input.specs.Lines.{lines}
-use Rattle.lines.specs.Answer.{Numbers, refusing, counting}
+use Rattle.lines.specs.Answer.{Lines-numbers, refusing-lines, counting-lines}
 
 -- the byte of a line: 1 for yes, 0 for no
 abbrev pub answer-byte : Bool → ℕ
@@ -33,15 +33,15 @@ pub record Lines-written (Says : List ℕ → Bool → Type 0) (text before afte
 
 -- match says yes or no of a line
 abbrev pub Match-says : (list classes : List ℕ) → List ℕ → Bool → Type 0
-Match-says list classes line matched = Match-answers list classes line (answering matched)
+Match-says list classes line matched = Match-answers list classes line (answering-match matched)
 
 -- the numbers given back, and the buffer afterwards: a refusal of match for the whole text, 10, 15 or 11; else 9 where
 -- the buffer has fewer bytes than there are lines; else the answers
-pub data Lines-answers (list classes text before after : List ℕ) : Numbers → Type 0 where
+pub data Lines-answers (list classes text before after : List ℕ) : Lines-numbers → Type 0 where
   lines-refused : {number : ℕ} → Refuses list classes text number → after ≡ before
-      → Lines-answers list classes text before after (refusing number)
+      → Lines-answers list classes text before after (refusing-lines number)
   lines-no-room : Of-good list classes text (λ t. length before < length (lines text)) → after ≡ before
-      → Lines-answers list classes text before after (refusing buffer-too-short)
+      → Lines-answers list classes text before after (refusing-lines buffer-too-short)
   lines-answered : {line-count yes-lines : ℕ}
       → Of-good list classes text (λ t. Lines-written (Match-says list classes) text before after line-count yes-lines)
-      → Lines-answers list classes text before after (counting line-count yes-lines)
+      → Lines-answers list classes text before after (counting-lines line-count yes-lines)

@@ -7,12 +7,12 @@ use mathlib.Core.List.{List, [], _∷_, _++_}
 use lib.ListN.{length, drop}
 use Rattle.language.specs.Tree.{Tree}
 use Rattle.tree.specs.Leaf.{Leaf}
-use Rattle.finder.specs.declared.numbers.Numbers.{Numbers as Found-numbers}
+use Rattle.finder.specs.declared.numbers.FoundNumbers.{FoundNumbers}
 use Rattle.finder.specs.Promise.{Of-good, Refuses}
 use Rattle.finder.specs.Refusals.{Answerable, refused, taken-exactly, reason-unique, numbered}
 use Rattle.finder.specs.Unique.{match-unique}
 use Rattle.input.specs.Lines.{lines}
-use Rattle.lines.specs.Answer.{Numbers, refusing, counting}
+use Rattle.lines.specs.Answer.{Lines-numbers, refusing-lines, counting-lines}
 use Rattle.lines.specs.Promise.{
   answer-byte,
   Each-answered,
@@ -65,21 +65,21 @@ module _ {Says : List ℕ → Bool → Type 0} where
     pub written-unique : {text before after after' : List ℕ} {count count' yes-lines yes-lines' : ℕ}
         → Lines-written Says text before after count yes-lines
         → Lines-written Says text before after' count' yes-lines'
-        → (counting count yes-lines ≡ counting count' yes-lines') × (after ≡ after')
+        → (counting-lines count yes-lines ≡ counting-lines count' yes-lines') × (after ≡ after')
     written-unique {text} {before} a b =
         let (bytes, yes-lines) = each-unique (a .each) (b .each) in (
           both (a .counted ∙ sym (b .counted)) yes-lines,
           a .stored ∙ ap (λ (l : List ℕ). l ++ drop (length (lines text)) before) bytes ∙ sym (b .stored),
         )
       where
-        both : {m n k l : ℕ} → m ≡ n → k ≡ l → counting m k ≡ counting n l
+        both : {m n k l : ℕ} → m ≡ n → k ≡ l → counting-lines m k ≡ counting-lines n l
         both e f = cc
 
 -- match says one thing of a line
 pub match-says-one : (list classes line : List ℕ) (m n : Bool) → Match-says list classes line m
     → Match-says list classes line n → m ≡ n
 match-says-one list classes line m n a b =
-    ap (λ (k : Found-numbers). k .matched) (match-unique list classes line a b)
+    ap (λ (k : FoundNumbers). k .matched) (match-unique list classes line a b)
 
 -- what match refuses is not taken
 not-taken : {A : Type 0} {list classes text : List ℕ} {number : ℕ} {P : Tree Leaf → Type 0}
@@ -91,10 +91,10 @@ not-taken {list = list} {classes} {text} r a =
 
 module _ {list classes text before : List ℕ} where
   -- two results that both fit the promise are equal
-  pub lines-unique : {after after' : List ℕ} {n n' : Numbers} → Lines-answers list classes text before after n
+  pub lines-unique : {after after' : List ℕ} {n n' : Lines-numbers} → Lines-answers list classes text before after n
       → Lines-answers list classes text before after' n' → (n ≡ n') × (after ≡ after')
   lines-unique (lines-refused r e) (lines-refused s f) =
-      (ap refusing (reason-unique list classes text (refused r) (refused s)), e ∙ sym f)
+      (ap refusing-lines (reason-unique list classes text (refused r) (refused s)), e ∙ sym f)
   lines-unique (lines-refused r e) (lines-no-room b f) = not-taken r b
   lines-unique (lines-refused r e) (lines-answered b) = not-taken r b
   lines-unique (lines-no-room a e) (lines-refused s f) = not-taken s a

@@ -13,9 +13,9 @@ use Rattle.tabulating.specs.declared.Tabulated.{Tabulated}
 use Rattle.tabulating.specs.declared.Tabulated.the-variants.{Made as Is-tabulated, DoesNotFit as Too-large}
 use Rattle.tabulating.proofs.Tabulated.{the-type as tabulated-type}
 use Rattle.making.specs.Answer.{not-made, made-numbers}
-use Rattle.making.specs.declared.Made.{Made}
-use Rattle.making.specs.declared.Made.the-variants.{Made as Is-made, DoesNotFit, NotGood, TooFewClasses}
-use Rattle.making.proofs.Made.{the-type}
+use Rattle.making.specs.declared.MakingAnswer.{MakingAnswer}
+use Rattle.making.specs.declared.MakingAnswer.the-variants.{Made as Is-made, DoesNotFit, NotGood, TooFewClasses}
+use Rattle.making.proofs.MakingAnswer.{the-type}
 
 module _ {classes : List ℕ} {t : Tree Leaf} {table after room cleared : List ℕ} where
   -- the table was made
@@ -40,7 +40,7 @@ abbrev refusals : List ℕ
 refusals = 0 ∷ list-not-good ∷ class-buffer-too-short ∷ []
 
 -- a case past the first gives back its refusal
-pub told-not-made : (answer : Made) (place : ℕ) → tagOf the-type answer ≡ suc place
+pub told-not-made : (answer : MakingAnswer) (place : ℕ) → tagOf the-type answer ≡ suc place
     → made-numbers answer ≡ not-made (getD refusals place 0)
 told-not-made (Is-made states entries) place tag = absurd (omega arith)
 told-not-made DoesNotFit place tag = let at : 0 ≡ place = omega arith in rw (sym at)

@@ -13,38 +13,38 @@ use Rattle.tabulating.specs.declared.Tabulated.the-variants.{Made as Is-made, D
 use Rattle.tabulating.specs.TabulatesLaws.{One-result, tabulates-once}
 use Rattle.making.specs.Answer.{not-made, making}
 use Rattle.making.specs.Promise.{
-  Refuses,
+  Refuses-making,
   not-good,
   too-few-classes,
-  Of-good,
+  Of-good-classed,
   Makes,
   refused,
   table-made as made,
   does-not-fit as unfit,
 }
-use Rattle.making.specs.declared.numbers.Numbers.{Numbers}
+use Rattle.making.specs.declared.numbers.MadeNumbers.{MadeNumbers}
 
 -- the numbers of an answer for the tree
-abbrev numbers-for : Tabulated → Numbers
+abbrev numbers-for : Tabulated → MadeNumbers
 numbers-for (Is-made states entries) = making states entries
 numbers-for DoesNotFit = not-made 0
 
 -- the same numbers, table and room
-pub record Same (m n : Numbers) (a b c d : List ℕ) : Type 0 where
+pub record Same-making (m n : MadeNumbers) (a b c d : List ℕ) : Type 0 where
   pub same-numbers : m ≡ n
   pub same-table : a ≡ b
   pub same-room : c ≡ d
 
 module _ {list classes : List ℕ} where
   -- a list is refused by one number only
-  same-refusal : {m n : ℕ} → Refuses list classes m → Refuses list classes n → m ≡ n
+  same-refusal : {m n : ℕ} → Refuses-making list classes m → Refuses-making list classes n → m ≡ n
   same-refusal (not-good a) (not-good b) = refl
   same-refusal (not-good a) (too-few-classes (t, good, few)) = absurd (a t good)
   same-refusal (too-few-classes (t, good, few)) (not-good b) = absurd (b t good)
   same-refusal (too-few-classes a) (too-few-classes b) = refl
 
   -- a list that is refused has no table
-  not-both : {n : ℕ} {P : Tree Leaf → Type 0} → Refuses list classes n → Of-good list classes P → ⊥
+  not-both : {n : ℕ} {P : Tree Leaf → Type 0} → Refuses-making list classes n → Of-good-classed list classes P → ⊥
   not-both (not-good a) of = a (of .t) (of .good)
   not-both (too-few-classes (t, good, few)) of =
       let one = good-unique list (of .t) t (of .good) good in
@@ -53,8 +53,9 @@ module _ {list classes : List ℕ} where
 
   module _ {a b c d : List ℕ} where
     -- two answers for the list's tree
-    one-answer : (r s : Tabulated) {P Q : Tree Leaf → Type 0} → Of-good list classes P → Of-good list classes Q
-        → ((t : Tree Leaf) → P t → Q t → One-result a b c d r s) → Same (numbers-for r) (numbers-for s) a b c d
+    one-answer : (r s : Tabulated) {P Q : Tree Leaf → Type 0} → Of-good-classed list classes P
+        → Of-good-classed list classes Q
+        → ((t : Tree Leaf) → P t → Q t → One-result a b c d r s) → Same-making (numbers-for r) (numbers-for s) a b c d
     one-answer r s {P} one other same =
         let result = same (other .t)
         (subst P (good-unique list (one .t) (other .t) (one .good) (other .good)) (one .holds)) (other .holds) in
@@ -65,8 +66,8 @@ module _ {list classes : List ℕ} where
         }
 
     -- the result: two results that fit the promise are the same
-    pub makes-once : {table room : List ℕ} {m n : Numbers} → Makes list classes table a room c m
-        → Makes list classes table b room d n → Same m n a b c d
+    pub makes-once : {table room : List ℕ} {m n : MadeNumbers} → Makes list classes table a room c m
+        → Makes list classes table b room d n → Same-making m n a b c d
     makes-once (refused x e f) (refused y g h) = record {
       same-numbers = ap not-made (same-refusal x y);
       same-table = e ∙ sym g;

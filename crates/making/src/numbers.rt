@@ -1,12 +1,12 @@
 // The numbers that the making of a table gives back.
-use crate::Made;
+use crate::MakingAnswer;
 use tree::refusal_numbers::CLASS_BUFFER_TOO_SHORT;
 use tree::refusal_numbers::LIST_NOT_GOOD;
 ghost use mathlib.Core.Path.{_≡_};
 ghost use Rattle.making.specs.Answer.{made-numbers};
 
 // The refusal's number, 0 for none; whether the table was made; how many states and entries it has.
-pub struct Numbers {
+pub struct MadeNumbers {
     pub refusal: u8,
     pub made: bool,
     pub states: usize,
@@ -14,27 +14,27 @@ pub struct Numbers {
 }
 
 // The numbers of an answer.
-pub fn numbers_of(answer: Made) -> Numbers
+pub fn numbers_of(answer: MakingAnswer) -> MadeNumbers
     ensures { λ r. ⌜ r ≡ made-numbers answer ⌝ }
 {
     match answer {
-        Made::Made { states, entries } => Numbers {
+        MakingAnswer::Made { states, entries } => MadeNumbers {
             refusal: 0,
             made: true,
             states,
             entries,
         },
-        Made::DoesNotFit => not_made(0),
-        Made::NotGood => not_made(LIST_NOT_GOOD),
-        Made::TooFewClasses => not_made(CLASS_BUFFER_TOO_SHORT),
+        MakingAnswer::DoesNotFit => not_made(0),
+        MakingAnswer::NotGood => not_made(LIST_NOT_GOOD),
+        MakingAnswer::TooFewClasses => not_made(CLASS_BUFFER_TOO_SHORT),
     }
 }
 
 // No table was made: it is refused with this number, or does not fit.
-fn not_made(refusal: u8) -> Numbers
+fn not_made(refusal: u8) -> MadeNumbers
     ensures { λ r. ⌜ r ≡ Rattle.making.specs.Answer.not-made refusal ⌝ }
 {
-    Numbers {
+    MadeNumbers {
         refusal,
         made: false,
         states: 0,

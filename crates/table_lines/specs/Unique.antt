@@ -4,7 +4,7 @@ use native.Mathlib.Omega.{arith}
 use mathlib.Core.Path.{_≡_, refl, sym, _∙_}
 use mathlib.Core.Bool.{Bool}
 use mathlib.Core.List.{List}
-use Rattle.lines.specs.Answer.{Numbers}
+use Rattle.lines.specs.Answer.{Lines-numbers}
 use Rattle.lines.specs.Unique.{written-unique}
 use Rattle.table_lines.specs.Promise.{
   Table-says,
@@ -21,7 +21,8 @@ table-says-one table line m n a b = a ∙ sym b
 
 module _ {table text before : List ℕ} where
   -- two results that both fit the promise are equal
-  pub table-lines-unique : {after after' : List ℕ} {n n' : Numbers} → Table-lines-answers table text before after n
+  pub table-lines-unique : {after after' : List ℕ} {n n' : Lines-numbers}
+      → Table-lines-answers table text before after n
       → Table-lines-answers table text before after' n' → (n ≡ n') × (after ≡ after')
   table-lines-unique (table-short a e) (table-short b f) = (refl, e ∙ sym f)
   table-lines-unique (table-short a e) (text-long b long f) = absurd (omega (arith, a, b))

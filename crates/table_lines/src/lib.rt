@@ -1,7 +1,7 @@
 // An answer for each line of a text, by a table of steps.
 use input::line::line_end;
 use input::line::next_line;
-use lines::Counts;
+use lines::LineCounts;
 use lines::room::has_room;
 use running::HEADING;
 use running::run::runs;
@@ -25,7 +25,7 @@ pub enum TableLines {
 }
 
 // Writes the answer for each line.
-fn run_lines(table: &[u16], text: &[u8], answers: &mut [u8]) -> Counts
+fn run_lines(table: &[u16], text: &[u8], answers: &mut [u8]) -> LineCounts
     requires { ⌜ length (lines (now text)) ≤ length (now answers) ⌝ }
     ensures { λ r. ⌜ Lines-written (Table-says (now (table .entry))) (now (text .entry)) (now (answers .entry))
         (now (answers .exit)) (r .lines) (r .yes) ⌝ }
@@ -41,7 +41,7 @@ fn run_lines(table: &[u16], text: &[u8], answers: &mut [u8]) -> Counts
         yes += matched as usize;
         place = next_line(text, end);
     }
-    Counts { lines: count, yes }
+    LineCounts { lines: count, yes }
 }
 
 // Writes a byte for each line of the text, 1 where the table accepts the line and 0 where it does not. Where something

@@ -7,18 +7,18 @@ use denote.Enum.Declared.{tagOf}
 use Rattle.language.specs.Tree.{Tree}
 use Rattle.tree.specs.Leaf.{Leaf}
 use Rattle.exploring.specs.Room.{Found-all, Too-many, Exploration}
-use Rattle.exploring.specs.declared.explore.Explored.{Explored}
-use Rattle.exploring.specs.declared.explore.Explored.the-variants.{Found, Full}
-use Rattle.exploring.proofs.explore.Explored.{the-type}
+use Rattle.exploring.specs.declared.explore.ExploringAnswer.{ExploringAnswer}
+use Rattle.exploring.specs.declared.explore.ExploringAnswer.the-variants.{AllFound, NoRoomLeft}
+use Rattle.exploring.proofs.explore.ExploringAnswer.{the-type}
 
 module _ {classes : List ℕ} {t : Tree Leaf} {firsts : List ℕ} (count : ℕ) {most : ℕ} (room : List ℕ) where
   -- all states were found
-  pub told-found : {answer : Explored} {states : ℕ} → answer ≡ Found states
+  pub told-found : {answer : ExploringAnswer} {states : ℕ} → answer ≡ AllFound states
       → Exploration classes t firsts count most room answer → Found-all classes t firsts count most room states
   told-found e right = subst (Exploration classes t firsts count most room) e right
 
   -- there are more than there is room for
-  pub told-full : (answer : Explored) → tagOf the-type answer ≡ 1
+  pub told-full : (answer : ExploringAnswer) → tagOf the-type answer ≡ 1
       → Exploration classes t firsts count most room answer → Too-many classes t firsts most
-  told-full (Found states) tag right = absurd (omega arith)
-  told-full Full tag right = right
+  told-full (AllFound states) tag right = absurd (omega arith)
+  told-full NoRoomLeft tag right = right

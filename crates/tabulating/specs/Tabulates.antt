@@ -9,7 +9,7 @@ use Rattle.tree.specs.Leaf.{Leaf}
 use Rattle.tree.specs.Records.{piece-count}
 use Rattle.machines.specs.Columns.{Columned}
 use Rattle.machines.specs.Explored.{All-found}
-use Rattle.machines.specs.TableOf.{entry-count, Fits, Table-of}
+use Rattle.machines.specs.TableOf.{entry-count, Table-fits, Table-of}
 use Rattle.tabulating.specs.declared.Tabulated.{Tabulated}
 use Rattle.tabulating.specs.declared.Tabulated.the-variants.{Made, DoesNotFit}
 
@@ -22,7 +22,7 @@ module _ (classes : List ℕ) (t : Tree Leaf) (table after room cleared : List �
     pub found : List ℕ
     pub columned : Columned classes t firsts columns
     pub all : All-found classes t firsts texts found
-    pub fits : Fits (piece-count t) (length firsts) (1 + length texts) (length table) (length room)
+    pub fits : Table-fits (piece-count t) (length firsts) (1 + length texts) (length table) (length room)
     pub made : Table-of classes t firsts columns texts found table after
     pub states-are : states ≡ 1 + length texts
     pub entries-are : entries ≡ entry-count (length firsts) (1 + length texts)
@@ -32,7 +32,7 @@ module _ (classes : List ℕ) (t : Tree Leaf) (table after room cleared : List �
   pub record Does-not-fit : Type 0 where
     pub never : (firsts columns : List ℕ) (texts : List (List ℕ)) (found : List ℕ) → Columned classes t firsts columns
         → All-found classes t firsts texts found
-        → Fits (piece-count t) (length firsts) (1 + length texts) (length table) (length room) → ⊥
+        → Table-fits (piece-count t) (length firsts) (1 + length texts) (length table) (length room) → ⊥
     pub unchanged : after ≡ table
     pub room-cleared : cleared ≡ replicate (length room) 0
 

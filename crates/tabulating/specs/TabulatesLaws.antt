@@ -14,21 +14,22 @@ use Rattle.language.specs.Tree.{Tree}
 use Rattle.tree.specs.Leaf.{Leaf, Matches}
 use Rattle.tree.specs.Records.{piece-count}
 use Rattle.tables.specs.Words.{Bit, width}
+use Rattle.tables.specs.Plan.{top-of}
 use Rattle.tables.specs.Tables.{Prepared}
 use Rattle.stepping.specs.Texts.{all-words, accepting-answer}
 use Rattle.stepping.specs.Inner.{top-low}
 use Rattle.running.specs.Runs.{runs}
 use Rattle.machines.specs.Columns.{byte-count, Columned}
 use Rattle.machines.specs.Explored.{All-found}
-use Rattle.machines.specs.TableOf.{entry-count, Fits, Table-of, most-texts}
+use Rattle.machines.specs.TableOf.{entry-count, Table-fits, Table-of, most-texts}
 use Rattle.machines.specs.TableRuns.{table-runs}
-use Rattle.machines.specs.FitsLaws.{fits-most}
+use Rattle.machines.specs.TableFitsLaws.{fits-most}
 use Rattle.machines.specs.ExploredFacts.{first-text, entry-within}
 use Rattle.machines.specs.AllFoundLaws.{all-found-most}
 use Rattle.machines.specs.ColumnsUnique.{columned-once}
 use Rattle.machines.specs.MadeOnce.{states-once, made-once}
-use Rattle.exploring.specs.Room.{Kept, Found-all, Too-many, marks-of, entries-from}
-use Rattle.writing.specs.Written.{Writable, Written}
+use Rattle.exploring.specs.Room.{Found-kept, Found-all, Too-many, marks-of, entries-from}
+use Rattle.writing.specs.Written.{Writable, Table-written}
 use Rattle.writing.specs.declared.Places.{Places}
 use Rattle.tabulating.specs.declared.Tabulated.{Tabulated}
 use Rattle.tabulating.specs.declared.Tabulated.the-variants.{Made, DoesNotFit}
@@ -42,18 +43,20 @@ made-runs made w bytes = table-runs (made .columned) (made .all) (made .made) w 
 
 -- what comes of at most so many texts: all states were found and written; or no such texts are all, and nothing is
 -- written
-pub data Outcome (classes : List ℕ) (t : Tree Leaf) (firsts columns : List ℕ) (most : ℕ) (table after : List ℕ)
+pub data Tabulating-outcome (classes : List ℕ) (t : Tree Leaf) (firsts columns : List ℕ) (most : ℕ)
+    (table after : List ℕ)
     : Tabulated → Type 0 where
   all-written : {states entries : ℕ} (texts : List (List ℕ)) (found : List ℕ) → All-found classes t firsts texts found
       → length texts ≤ most → Table-of classes t firsts columns texts found table after → states ≡ 1 + length texts
       → entries ≡ entry-count (length firsts) (1 + length texts)
-      → Outcome classes t firsts columns most table after (Made states entries)
+      → Tabulating-outcome classes t firsts columns most table after (Made states entries)
   none-written : ((texts : List (List ℕ)) (found : List ℕ) → All-found classes t firsts texts found
-      → length texts ≤ most → ⊥) → after ≡ table → Outcome classes t firsts columns most table after DoesNotFit
+      → length texts ≤ most → ⊥) → after ≡ table
+      → Tabulating-outcome classes t firsts columns most table after DoesNotFit
 
 -- where the values of a table of n texts and k columns are in the room
-abbrev pub places-of : (count most top k n : ℕ) → Places
-places-of count most top k n = record {
+abbrev pub table-places : (count most top k n : ℕ) → Places
+table-places count most top k n = record {
   marks = most;
   pieces = count;
   top = top;
@@ -69,15 +72,16 @@ bit-or-none w i = elim (decLt (w / 2 ^ i % 2) 1) [
   | no h ↦ inl (omega arith)
 ]
 
-module _ {classes : List ℕ} {t : Tree Leaf} {reach codes runs stands tops : List ℕ} {count most : ℕ}
+module _ {classes : List ℕ} {t : Tree Leaf} {rows : List ℕ} {count most : ℕ}
     {firsts columns : List ℕ} {texts : List (List ℕ)} {found room before after : List ℕ}
-    (prepared : Prepared t reach codes runs stands tops count)
-    (all : All-found classes t firsts texts found) (kept : Kept classes t texts found count most room)
-    (written : Written (places-of count most (getD tops 0 0) (length firsts) (length texts)) columns room before after)
+    (prepared : Prepared t rows count)
+    (all : All-found classes t firsts texts found) (kept : Found-kept classes t texts found count most room)
+    (written : Table-written (table-places count most (top-of rows 0) (length firsts) (length texts)) columns room
+    before after)
     (some : 1 ≤ count) where
   -- the bit of the first word of a text's marks says whether it is of the language
   accepting-bit : (i : ℕ) → i < length texts
-      → Bit (getD room (most + count * i) 0) (getD tops 0 0) ↔ Matches classes t (getD texts i [])
+      → Bit (getD room (most + count * i) 0) (top-of rows 0) ↔ Matches classes t (getD texts i [])
   accepting-bit i there =
       let word : getD (marks-of count most room i) 0 0 ≡ getD room (most + count * i) 0 =
       getD-take count (drop (most + count * i) room) 0 0 some ∙ getD-drop (most + count * i) room 0 0
@@ -91,7 +95,7 @@ module _ {classes : List ℕ} {t : Tree Leaf} {reach codes runs stands tops : Li
       × Matches classes t (getD texts i []))
       ⊎ ((getD after (257 + length firsts * (1 + length texts) + (1 + i)) 0 ≡ 0)
       × (Matches classes t (getD texts i []) → ⊥))
-  accepts-right i there = elim (bit-or-none (getD room (most + count * i) 0) (getD tops 0 0)) [
+  accepts-right i there = elim (bit-or-none (getD room (most + count * i) 0) (top-of rows 0)) [
     | inl one ↦ inl (written .accepts i there ∙ one, accepting-bit i there .0 one)
     | inr none ↦ inr (
       written .accepts i there ∙ none,
@@ -124,22 +128,21 @@ module _ {classes : List ℕ} {t : Tree Leaf} {reach codes runs stands tops : Li
   }
 
 -- what fits into a room fits into one of the same length
-pub fits-in : {pieces width states table-length n m : ℕ} → n ≡ m → Fits pieces width states table-length m
-    → Fits pieces width states table-length n
+pub fits-in : {pieces width states table-length n m : ℕ} → n ≡ m → Table-fits pieces width states table-length m
+    → Table-fits pieces width states table-length n
 fits-in same fits = record { few = fits .few; in-table = fits .in-table; in-room = omega (arith, fits .in-room) }
 
 -- there is a piece
-pub some-piece : {t : Tree Leaf} {reach codes runs stands tops : List ℕ} {count : ℕ}
-    → Prepared t reach codes runs stands tops count → 1 ≤ count
+pub some-piece : {t : Tree Leaf} {rows : List ℕ} {count : ℕ} → Prepared t rows count → 1 ≤ count
 some-piece {t} prepared = omega (arith, prepared .counted, all-words t)
 
-module _ {classes : List ℕ} {t : Tree Leaf} {reach codes runs stands tops : List ℕ} {count most : ℕ}
+module _ {classes : List ℕ} {t : Tree Leaf} {rows : List ℕ} {count most : ℕ}
     {firsts columns : List ℕ} {texts : List (List ℕ)} {found room : List ℕ} (table : List ℕ)
-    (prepared : Prepared t reach codes runs stands tops count) (columned : Columned classes t firsts columns)
-    (all : All-found classes t firsts texts found) (kept : Kept classes t texts found count most room)
-    (fits : Fits count (length firsts) (1 + most) (length table) (length room)) (few : length texts ≤ most) where
+    (prepared : Prepared t rows count) (columned : Columned classes t firsts columns)
+    (all : All-found classes t firsts texts found) (kept : Found-kept classes t texts found count most room)
+    (fits : Table-fits count (length firsts) (1 + most) (length table) (length room)) (few : length texts ≤ most) where
   -- what was found can be written
-  pub can-write : Writable (places-of count most (getD tops 0 0) (length firsts) (length texts)) columns room table
+  pub can-write : Writable (table-places count most (top-of rows 0) (length firsts) (length texts)) columns room table
   can-write =
       let k = length firsts in
       let entries-up : (k + 1) * (1 + length texts) ≤ (k + 1) * (1 + most) = mul-le-mul-left (k + 1) (omega arith) in
@@ -158,25 +161,26 @@ module _ {classes : List ℕ} {t : Tree Leaf} {reach codes runs stands tops : Li
             rw (kept .entries-kept p known) (entry-within classes t firsts (all .explored) p known);
       }
 
-module _ {classes : List ℕ} {t : Tree Leaf} {reach codes runs stands tops : List ℕ} {count most k n : ℕ}
-    {firsts columns room : List ℕ} (prepared : Prepared t reach codes runs stands tops count)
+module _ {classes : List ℕ} {t : Tree Leaf} {rows : List ℕ} {count most top k n : ℕ}
+    {firsts columns room : List ℕ} (prepared : Prepared t rows count) (last : top ≡ top-of rows 0)
     (columned : Columned classes t firsts columns) (wide : length firsts ≡ k)
     (found : Found-all classes t firsts count most room n) where
   -- all states that were found can be written
-  pub found-writable : (table : List ℕ) → Fits count k (1 + most) (length table) (length room)
-      → Writable (places-of count most (getD tops 0 0) k n) columns room table
+  pub found-writable : (table : List ℕ) → Table-fits count k (1 + most) (length table) (length room)
+      → Writable (table-places count most top k n) columns room table
   found-writable table fits =
-      rw (wide, found .as-many) at
+      rw (wide, found .as-many, sym last) at
       (can-write table prepared columned (found .found) (found .kept) (rw wide fits)
       (omega (arith, found .as-many, found .fit)))
 
   -- and make the table
   pub found-written : {before after : List ℕ}
-      → Written (places-of count most (getD tops 0 0) k n) columns room before after
-      → Outcome classes t firsts columns most before after (Made (1 + n) (entry-count k (1 + n)))
+      → Table-written (table-places count most top k n) columns room before after
+      → Tabulating-outcome classes t firsts columns most before after (Made (1 + n) (entry-count k (1 + n)))
   found-written written =
       all-written (found .texts) (found .entries) (found .found) (omega (arith, found .as-many, found .fit))
-      (table-right prepared (found .found) (found .kept) (rw (wide, found .as-many) written) (some-piece prepared))
+      (table-right prepared (found .found) (found .kept) (rw (wide, found .as-many, sym last) written)
+      (some-piece prepared))
       (ap (λ (m : ℕ). 1 + m) (sym (found .as-many)))
       (ap₂ (λ (w m : ℕ). entry-count w (1 + m)) (sym wide) (sym (found .as-many)))
 
@@ -195,7 +199,7 @@ module _ {classes : List ℕ} {t : Tree Leaf} {table after room cleared : List �
   -- the answer is right, where `most` is the number of texts that fit
   pub tabulated : {firsts columns : List ℕ} {most : ℕ} (r : Tabulated) → Columned classes t firsts columns
       → most ≡ most-texts (piece-count t) (length firsts) (length table) (length room)
-      → cleared ≡ replicate (length room) 0 → Outcome classes t firsts columns most table after r
+      → cleared ≡ replicate (length room) 0 → Tabulating-outcome classes t firsts columns most table after r
       → Tabulates classes t table after room cleared r
   tabulated {firsts} {columns} {most} (Made states entries) columned is clean
       (all-written texts found all few made states-are entries-are) =
@@ -218,7 +222,7 @@ module _ {classes : List ℕ} {t : Tree Leaf} {table after room cleared : List �
         never = λ others-firsts others-columns texts found others all fits.
             let (one, _) = columned-once others columned in
             let all-too : All-found classes t firsts texts found = rw one at all in
-            let fits-too : Fits (piece-count t) (length firsts) (1 + length texts) (length table) (length room) =
+            let fits-too : Table-fits (piece-count t) (length firsts) (1 + length texts) (length table) (length room) =
             rw one at fits in
             none texts found all-too
             (omega (

@@ -1,11 +1,11 @@
-// Making a table of steps of the tables of a list: its columns, then its states, found in the lent room, then its
-// entries, written out where all fit.
+// Making a table of steps from the rows of a list's pieces: its columns, then its states, found in the lent room, then
+// its entries, written out where all fit.
 use columns::BYTE_COUNT;
 use columns::columns::columns_of;
-use exploring::explore::Explored;
+use exploring::explore::ExploringAnswer;
 use exploring::explore::explore;
 use running::HEADING;
-use tree::limits::MOST_PIECES;
+use tables::rows::top_of;
 use writing::Places;
 use writing::clear;
 use writing::write_table;
@@ -17,9 +17,9 @@ ghost use Rattle.tree.specs.Leaf.{Leaf};
 ghost use Rattle.tree.specs.Limits.{most-pieces};
 ghost use Rattle.tables.specs.Tables.{Prepared, Ready};
 ghost use Rattle.machines.specs.Columns.{byte-count, Columned};
-ghost use Rattle.machines.specs.TableOf.{most-texts, Fits};
+ghost use Rattle.machines.specs.TableOf.{most-texts, Table-fits};
 ghost use Rattle.tabulating.specs.Tabulates.{Tabulates};
-ghost use Rattle.tabulating.specs.TabulatesLaws.{Outcome};
+ghost use Rattle.tabulating.specs.TabulatesLaws.{Tabulating-outcome};
 
 // How many entries a table has at most, so that an entry of 16 bits can say where a column begins.
 const MOST_ENTRIES: usize = 65536;
@@ -56,11 +56,7 @@ fn most_texts(count: usize, width: usize, entries: usize, words: usize) -> usize
 
 // Finds the states, and writes the table where there are no more texts than `most`.
 fn fill(
-    reach: &[u64],
-    codes: &[u16],
-    runs: &[u8; MOST_PIECES],
-    stands: &[u8; MOST_PIECES],
-    tops: &[u8; MOST_PIECES],
+    rows: &[u64],
     count: usize,
     classes: &[u8],
     firsts: &[u8],
@@ -70,40 +66,26 @@ fn fill(
     table: &mut [u16],
     room: &mut [u64],
 ) -> Tabulated
-    requires { ⌜ Ready (now reach) (now codes) (now runs) (now stands) (now tops) count ⌝ }
+    requires { ⌜ Ready (now rows) count ⌝ }
     requires { ⌜ (1 ≤ width) × (width ≤ length (now firsts)) ⌝ }
-    requires { ⌜ ((t : Tree Leaf)
-        → Prepared t (now reach) (now codes) (now runs) (now stands) (now tops) count
+    requires { ⌜ ((t : Tree Leaf) → Prepared t (now rows) count
         → Columned (now classes) t (take width (now firsts)) (now columns)) ⌝ }
-    requires { ⌜ (1 ≤ most → Fits count width (1 + most) (length (now table)) (length (now room))) ⌝ }
-    ensures { λ r. ⌜ ((t : Tree Leaf)
-        → Prepared t (now (reach .entry)) (now (codes .entry)) (now (runs .entry)) (now (stands .entry))
-        (now (tops .entry)) count → Outcome (now (classes .entry)) t (take width (now (firsts .entry)))
-        (now (columns .entry)) most (now (table .entry)) (now (table .exit)) r) ⌝ }
+    requires { ⌜ (1 ≤ most → Table-fits count width (1 + most) (length (now table)) (length (now room))) ⌝ }
+    ensures { λ r. ⌜ ((t : Tree Leaf) → Prepared t (now (rows .entry)) count
+        → Tabulating-outcome (now (classes .entry)) t (take width (now (firsts .entry))) (now (columns .entry)) most
+        (now (table .entry)) (now (table .exit)) r) ⌝ }
 {
     if most == 0 {
         return Tabulated::DoesNotFit;
     }
-    let explored = explore(
-        reach,
-        codes,
-        runs,
-        stands,
-        tops,
-        count,
-        classes,
-        firsts,
-        width,
-        most,
-        room,
-    );
-    let Explored::Found { states: texts } = explored else {
+    let explored = explore(rows, count, classes, firsts, width, most, room);
+    let ExploringAnswer::AllFound { states: texts } = explored else {
         return Tabulated::DoesNotFit; // the room is full before all states are found
     };
     let states = 1 + texts;
     let entries = HEADING + (width + 1) * states;
     let found_at = most + count * most;
-    let top = tops[0] as usize;
+    let top = top_of(rows, 0);
     let places = Places {
         marks: most,
         pieces: count,
@@ -119,32 +101,23 @@ fn fill(
 // Makes the table in the lent one, with room lent for finding its states. Where it does not fit no entry of the table
 // differs; in both cases every word of the room is 0 afterwards.
 pub fn tabulate(
-    reach: &[u64],
-    codes: &[u16],
-    runs: &[u8; MOST_PIECES],
-    stands: &[u8; MOST_PIECES],
-    tops: &[u8; MOST_PIECES],
+    rows: &[u64],
     count: usize,
     classes: &[u8],
     table: &mut [u16],
     room: &mut [u64],
 ) -> Tabulated
-    requires { ⌜ Ready (now reach) (now codes) (now runs) (now stands) (now tops) count ⌝ }
-    ensures { λ r. ⌜ ((t : Tree Leaf)
-        → Prepared t (now (reach .entry)) (now (codes .entry)) (now (runs .entry)) (now (stands .entry))
-        (now (tops .entry)) count → Tabulates (now (classes .entry)) t (now (table .entry)) (now (table .exit))
-        (now (room .entry)) (now (room .exit)) r) ⌝ }
+    requires { ⌜ Ready (now rows) count ⌝ }
+    ensures { λ r. ⌜ ((t : Tree Leaf) → Prepared t (now (rows .entry)) count
+        → Tabulates (now (classes .entry)) t (now (table .entry)) (now (table .exit)) (now (room .entry))
+        (now (room .exit)) r) ⌝ }
 {
     let mut firsts = [0u8; BYTE_COUNT];
     let mut columns = [0u8; BYTE_COUNT];
-    let width = columns_of(reach, codes, count, classes, &mut firsts, &mut columns);
+    let width = columns_of(rows, count, classes, &mut firsts, &mut columns);
     let most = most_texts(count, width, table.len(), room.len());
     let made = fill(
-        reach,
-        codes,
-        runs,
-        stands,
-        tops,
+        rows,
         count,
         classes,
         &firsts,

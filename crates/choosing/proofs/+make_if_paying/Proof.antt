@@ -14,14 +14,14 @@ use Rattle.choosing.proofs.make_large.Reads as make-large-reads
 use Rattle.choosing.proofs.+make_if_paying.{statement}
 use Rattle.choosing.proofs.+make_if_paying.Tie.{close}
 
-abbrev μ-words : Measures 7 make-if-paying-kinds.ps ℕ
-μ-words κs a = a .1 .1 .1 .1 .1 .1 .1 .1 .0
+abbrev μ-words : Measures 3 make-if-paying-kinds.ps ℕ
+μ-words κs a = a .1 .1 .1 .1 .0
 
-abbrev at-words : ℕ → In 7 make-if-paying-kinds.ps
-at-words t = and 7 make-if-paying-kinds.ps (is 7 make-if-paying-kinds.ps μ-words t) make-if-paying.Pre
+abbrev at-words : ℕ → In 3 make-if-paying-kinds.ps
+at-words t = and 3 make-if-paying-kinds.ps (is 3 make-if-paying-kinds.ps μ-words t) make-if-paying.Pre
 
-abbrev below-words : ℕ → In 7 make-if-paying-kinds.ps
-below-words t = and 7 make-if-paying-kinds.ps (falls 7 make-if-paying-kinds.ps _<_ μ-words t) make-if-paying.Pre
+abbrev below-words : ℕ → In 3 make-if-paying-kinds.ps
+below-words t = and 3 make-if-paying-kinds.ps (falls 3 make-if-paying-kinds.ps _<_ μ-words t) make-if-paying.Pre
 
 abbrev claims : ℕ → lts.Claims
 claims t = (
@@ -38,7 +38,7 @@ none-returns t c = λ tree prepared there. absurd (false≢true there)
 
 less-requires : (t : ℕ) → lts.Need-make-if-paying-requires (claims t) (at-words t) make-if-paying.Post
 less-requires t c κs =
-    let s = c .before .before .before .before .before .before .before in
+    let s = c .before .before .before .before .before .before in
     (omega (arith, s .pre .0, c .before .before .if1 .left), s .pre .1)
 
 less-length : (t : ℕ) → lts.Need-same-length (claims t) (at-words t) make-if-paying.Post

@@ -11,7 +11,7 @@ returns : tie.Need-returns
 returns c = λ t prepared accepts.
     let known = c .before .before in
     rw (c .runs .ensures)
-    (accepts (c .before .if1 .taken) .texts _ (λ i within. known .shared-slice-known5 .given i .fits))
+    (accepts (c .before .if1 .taken) .texts _ (λ i within. known .shared-slice-known4 .given i .fits))
 
 text-matches-requires : tie.Need-text-matches-requires
 text-matches-requires c κs = search needs

@@ -11,11 +11,11 @@ use Rattle.input.specs.EndLaws.{after-start}
 use Rattle.table_lines.specs.Promise.{Table-says}
 use Rattle.table_lines.specs.Lent.{lent-runs}
 use Rattle.lines.specs.Unique.{one-at-most}
-use Rattle.lines.specs.Loop.{
+use Rattle.lines.specs.LinesLoop.{
   Line-space,
   space-here,
   space-next,
-  So-far,
+  Lines-so-far,
   so-far-none,
   so-far-next,
   so-far-done,
@@ -29,7 +29,7 @@ use Rattle.table_lines.proofs.run_lines.Lts as lts
 abbrev Inv-loop : tie.InvT-loop
 Inv-loop table text answers₀ place₀ count₀ yes₀ answers place count yes' =
     Line-space text place count yes' answers × (length answers ≡ length answers₀)
-    × So-far (Table-says table) text answers₀ place count yes' answers
+    × Lines-so-far (Table-says table) text answers₀ place count yes' answers
 
 abbrev μ-loop : tie.MeasureT-loop
 μ-loop table text answers₀ place₀ count₀ yes₀ answers place count yes' = length text - place

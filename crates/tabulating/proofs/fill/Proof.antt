@@ -10,11 +10,11 @@ use lib.Seq.{length-take-le}
 use Rattle.language.specs.Tree.{Tree}
 use Rattle.tree.specs.Leaf.{Leaf}
 use Rattle.tables.specs.Tables.{Prepared}
-use Rattle.stepping.specs.Inner.{top-low}
-use Rattle.machines.specs.TableOf.{most-entries, entry-count, Fits}
+use Rattle.machines.specs.TableOf.{most-entries, entry-count, Table-fits}
 use Rattle.exploring.specs.Room.{Found-all}
 use Rattle.tabulating.specs.TabulatesLaws.{
   none-written,
+  some-piece,
   found-writable,
   found-written,
   never-all,
@@ -27,7 +27,7 @@ use Rattle.tabulating.proofs.fill.Tie as tie
 
 -- where the call began, seen from where the states were found; that, seen from where all were
 abbrev entry : tie.After-explore → tie.Start
-entry c = c .before .before .before .before .before .before .before .before .before
+entry c = c .before .before .before .before .before .before .before .before
 
 abbrev sought : tie.After-known-told → tie.After-explore
 sought c = c .before .before .before .before .before
@@ -38,26 +38,25 @@ width-is c = length-take-le (c .args .width) (c .args .firsts .now) (c .pre .1 .
 
 -- the room's length is a number of 64 bits
 room-short : (c : tie.After-slice-known2)
-    → length (c .before .before .before .before .before .before .args .room .now) < 2 ^ 64
+    → length (c .before .before .before .before .before .args .room .now) < 2 ^ 64
 room-short c = omega arith
 
 -- so many texts fit
 fits-at : (c : tie.After-explore) → let args = entry c .args in
-    Fits (args .count) (args .width) (1 + args .most) (length (args .table .now)) (length (args .room .now))
+    Table-fits (args .count) (args .width) (1 + args .most) (length (args .table .now)) (length (args .room .now))
 fits-at c = entry c .pre .1 .1 .1 (omega (arith, c .before .before .if1 .left))
 
 -- the room when they were found
 abbrev room-then : tie.After-explore → List ℕ
-room-then c = c .explore .last .1 .1 .1 .1 .1 .1 .1 .1 .1 .1 .0
+room-then c = c .explore .last .1 .1 .1 .1 .1 .1 .0
 
 -- it is as long as before
 room-kept : (c : tie.After-explore) → length (room-then c) ≡ length (entry c .args .room .now)
-room-kept c = c .explore .kept .1 .1 .1 .1 .1 .1 .1 .1 .1 .1 .0
+room-kept c = c .explore .kept .1 .1 .1 .1 .1 .1 .0
 
 -- all states were found
 found-at : (c : tie.After-known-told) → let args = entry (sought c) .args in (t : Tree Leaf)
-    → Prepared t (args .reach .now) (args .codes .now) (args .runs .now) (args .stands .now) (args .tops .now)
-    (args .count)
+    → Prepared t (args .rows .now) (args .count)
     → Found-all (args .classes .now) t (take (args .width) (args .firsts .now)) (args .count) (args .most)
     (room-then (sought c)) (c .before .explored .given .0 .0)
 found-at c t prepared =
@@ -94,8 +93,8 @@ returns c = λ t prepared.
 
 explore-requires : tie.Need-explore-requires
 explore-requires c κs =
-    let start = c .before .before .before .before .before .before .before .before in
-    let fits : Fits (start .args .count) (start .args .width) (1 + start .args .most)
+    let start = c .before .before .before .before .before .before .before in
+    let fits : Table-fits (start .args .count) (start .args .width) (1 + start .args .most)
     (length (start .args .table .now)) (length (start .args .room .now)) =
     start .pre .1 .1 .1 (omega (arith, c .before .if1 .left)) in (
       start .pre .0,
@@ -142,11 +141,10 @@ mul-found-at c = omega (arith, found-room c, room-short (sought c .before .befor
 add-found-at : tie.Need-add-found-at
 add-found-at c = omega (arith, found-room c, room-short (sought c .before .before .before))
 
-element-copy-out-top : tie.Need-element-copy-out-top
-element-copy-out-top c = search needs
-
-cast-top : tie.Need-cast-top
-cast-top c = omega (arith, top-low (entry (sought (c .before)) .pre .0 .of-tree .1))
+top-of-requires : tie.Need-top-of-requires
+top-of-requires c κs =
+    let ready = entry (sought c) .pre .0 in
+    omega (arith, ready .roomy, some-piece (ready .of-tree .1))
 
 write-table-requires : tie.Need-write-table-requires
 write-table-requires c κs =
@@ -154,7 +152,8 @@ write-table-requires c κs =
     let at = sought told in
     let start = entry at in
     let tree = start .pre .0 .of-tree in
-    found-writable (tree .1) (start .pre .1 .1 .0 (tree .0) (tree .1)) (width-is start)
+    found-writable (tree .1) (c .before .before .top-of .ensures) (start .pre .1 .1 .0 (tree .0) (tree .1))
+    (width-is start)
     (found-at told (tree .0) (tree .1)) (start .args .table .now)
     (fits-in (room-kept at) (fits-at at))
 
@@ -169,7 +168,8 @@ returns-3 c = λ t prepared.
     let written = c .before .before in
     let told = written .before .before .before .before in
     let start = entry (sought told) in
-    found-written prepared (start .pre .1 .1 .0 t prepared) (width-is start) (found-at told t prepared)
+    found-written prepared (written .before .before .before .top-of .ensures) (start .pre .1 .1 .0 t prepared)
+    (width-is start) (found-at told t prepared)
     (written .write-table .ensures)
 
 pub fill-spec : {M : Type 1} → statement M
@@ -188,8 +188,7 @@ fill-spec =
     add-entries-2
     mul-found-at
     add-found-at
-    element-copy-out-top
-    cast-top
+    top-of-requires
     write-table-requires
     same-length-2
     same-length-3

@@ -8,22 +8,21 @@ use lib.ListN.{length, take, replicate}
 use lib.Seq.{length-take-le}
 use Rattle.tree.specs.Records.{piece-count}
 use Rattle.machines.specs.TableOf.{most-texts}
-use Rattle.machines.specs.FitsLaws.{fits-most}
+use Rattle.machines.specs.TableFitsLaws.{fits-most}
 use Rattle.tabulating.specs.TabulatesLaws.{tabulated}
 use Rattle.tabulating.proofs.tabulate.Statement.{statement}
 use Rattle.tabulating.proofs.tabulate.Tie as tie
 
 -- where the call began, and where its columns were found
 abbrev entry : tie.After-columns-of → tie.Start
-entry c = c .before .before .before .before .before .before .before .before
+entry c = c .before .before .before .before .before .before .before
 
 abbrev columned-at : tie.After-most-texts → tie.After-columns-of
 columned-at c = c .before
 
 columns-of-requires : tie.Need-columns-of-requires
 columns-of-requires c κs =
-    let roomy = c .before .before .before .before .before .before .before .pre .roomy in
-    (roomy .reach-room, roomy .codes-room, refl, refl)
+    (c .before .before .before .before .before .before .pre .roomy, refl, refl)
 
 most-texts-requires : tie.Need-most-texts-requires
 most-texts-requires c κs =
@@ -39,7 +38,7 @@ fill-requires c κs =
       (
         (columned .columns-of .ensures .0 .0, omega (arith, columned .columns-of .ensures .0)),
         (
-          λ t prepared. columned .columns-of .ensures .1 t _ _ _ prepared,
+          λ t prepared. columned .columns-of .ensures .1 t prepared,
           λ some.
               fits-most (args .count) (columned .columns-of .result) (length (args .table .now))
               (length (args .room .now)) (at .most-texts .result) some .1 (omega (arith, at .most-texts .ensures)),
@@ -67,7 +66,7 @@ returns c = λ t prepared.
     let columned = columned-at counted in
     let args = entry columned .args in
     let width = columned .columns-of .result in
-    let firsts = columned .columns-of .last .1 .1 .1 .1 .0 in
+    let firsts = columned .columns-of .last .1 .1 .1 .0 in
     let wide : length (take width firsts) ≡ width =
     length-take-le width firsts (omega (arith, columned .columns-of .ensures .0)) in
     let most-is : counted .most-texts .result
@@ -77,8 +76,8 @@ returns c = λ t prepared.
     (prepared .counted) (sym wide) in
     let clean : cleared .clear .last .0 ≡ replicate (length (args .room .now)) 0 =
     cleared .clear .ensures
-    ∙ ap (λ (n : ℕ). replicate n 0) (filled .fill .kept .1 .1 .1 .1 .1 .1 .1 .1 .1 .1 .1 .1 .0) in
-    tabulated (filled .fill .result) (columned .columns-of .ensures .1 t _ _ _ prepared) most-is clean
+    ∙ ap (λ (n : ℕ). replicate n 0) (filled .fill .kept .1 .1 .1 .1 .1 .1 .1 .1 .0) in
+    tabulated (filled .fill .result) (columned .columns-of .ensures .1 t prepared) most-is clean
     (filled .fill .ensures t prepared)
 
 pub tabulate-spec : {M : Type 1} → statement M

@@ -4,46 +4,43 @@ use Prim.Native.Nat.{_-_, _*_, _≤_}
 use mathlib.Core.Logic.{⊎-elim}
 use native.Mathlib.Omega.{arith}
 use borrow.Author.Needs.{needs}
-use Rattle.tables.specs.Plan.{row-size}
-use Rattle.columns.specs.Parting.{known-count, Looking}
+use Rattle.tree.specs.Limits.{most-states}
+use Rattle.columns.specs.Parting.{known-count, Parted-so-far}
 use Rattle.columns.specs.PartingLaws.{looking-none, looking-as, looking-past, looking-next, looking-all}
-use Rattle.columns.specs.NumberingLaws.{least-grouped, some-group, columned}
+use Rattle.columns.specs.ColumnNumberingLaws.{least-grouped, some-group, columned}
 use Rattle.columns.proofs.columns.columns_of.Statement.{statement}
 use Rattle.columns.proofs.columns.columns_of.Tie as tie
 
 abbrev Inv-loop : tie.InvT-loop
-Inv-loop reach codes count classes firsts columns least₀ known₀ end entry₀ least known entry =
-    (entry ≤ row-size * count) × Looking reach codes classes entry known least
+Inv-loop rows count classes firsts columns least₀ known₀ end entry₀ least known entry =
+    (entry ≤ most-states * count) × Parted-so-far rows classes entry known least
 
 abbrev μ-loop : tie.MeasureT-loop
-μ-loop reach codes count classes firsts columns least₀ known₀ end entry₀ least known entry = row-size * count - entry
+μ-loop rows count classes firsts columns least₀ known₀ end entry₀ least known entry = most-states * count - entry
 
 mul-end : tie.Need-mul-end Inv-loop μ-loop
 mul-end c = search needs
 
 loop-holds : tie.Need-loop-holds Inv-loop μ-loop
-loop-holds c = (omega arith, looking-none _ _ _ known-count)
+loop-holds c = (omega arith, looking-none _ _ known-count)
 
-mul-leaves : tie.Need-mul-leaves Inv-loop μ-loop
-mul-leaves c = search needs
+mul-has-bit : tie.Need-mul-has-bit Inv-loop μ-loop
+mul-has-bit c = search needs
 
-add-leaves : tie.Need-add-leaves Inv-loop μ-loop
-add-leaves c = search needs
+add-has-bit : tie.Need-add-has-bit Inv-loop μ-loop
+add-has-bit c = search needs
 
-mul-leaves-2 : tie.Need-mul-leaves-2 Inv-loop μ-loop
-mul-leaves-2 c = search needs
+mul-has-bit-2 : tie.Need-mul-has-bit-2 Inv-loop μ-loop
+mul-has-bit-2 c = search needs
 
-shared-slice-read-leaves : tie.Need-shared-slice-read-leaves Inv-loop μ-loop
-shared-slice-read-leaves c = search needs
+shared-slice-read-has-bit : tie.Need-shared-slice-read-has-bit Inv-loop μ-loop
+shared-slice-read-has-bit c = search needs
 
 has-bit-requires : tie.Need-has-bit-requires Inv-loop μ-loop
 has-bit-requires c κs = search needs
 
-mul-look-at : tie.Need-mul-look-at Inv-loop μ-loop
-mul-look-at c = search needs
-
-shared-slice-read-look-at : tie.Need-shared-slice-read-look-at Inv-loop μ-loop
-shared-slice-read-look-at c = search needs
+start-code-at-requires : tie.Need-start-code-at-requires Inv-loop μ-loop
+start-code-at-requires c κs = search needs
 
 look-at-requires : tie.Need-look-at-requires Inv-loop μ-loop
 look-at-requires c κs = search needs
@@ -62,7 +59,7 @@ loop-again c =
       omega (arith, turn .loop-test .taken),
       ⊎-elim
           (λ w. looking-as (w .6) (w .5)
-          (looking-next (so-far .1) (told .holds (w .0 .taken)) (w .4 .ensures .0) (w .4 .ensures .1)))
+          (looking-next (so-far .1) (told .holds (w .0 .taken)) (w .1 .ensures) (w .4 .ensures .0) (w .4 .ensures .1)))
           (λ w. looking-as (w .2) (w .1) (looking-past (so-far .1) (told .fails (w .0 .left))))
           (c .if1 .came),
     )
@@ -74,8 +71,8 @@ after-loop c = c .before .before .before
 number-groups-requires : tie.Need-number-groups-requires Inv-loop μ-loop
 number-groups-requires c κs =
     let ended = after-loop c .before in
-    let asked = ended .before .before .before .before .pre in
-    (least-grouped (ended .loop .inv .1 .parts), asked .2, asked .3)
+    let asked = ended .before .before .before .pre in
+    (least-grouped (ended .loop .inv .1 .parts), asked .1, asked .2)
 
 returns : tie.Need-returns Inv-loop μ-loop
 returns c =
@@ -83,7 +80,7 @@ returns c =
     let (at-most, so-far) = ended .before .loop .inv in
     let numbered = c .number-groups .ensures in (
       (some-group numbered, numbered .few, numbered .firsts-long),
-      λ t runs stands tops prepared. columned prepared
+      λ t prepared. columned prepared
           (looking-all so-far (omega (arith, at-most, ended .loop-test .left))) numbered,
     )
 
@@ -95,13 +92,12 @@ columns-of-spec =
     μ-loop
     mul-end
     loop-holds
-    mul-leaves
-    add-leaves
-    mul-leaves-2
-    shared-slice-read-leaves
+    mul-has-bit
+    add-has-bit
+    mul-has-bit-2
+    shared-slice-read-has-bit
     has-bit-requires
-    mul-look-at
-    shared-slice-read-look-at
+    start-code-at-requires
     look-at-requires
     add-entry
     loop-less

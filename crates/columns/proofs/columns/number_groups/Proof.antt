@@ -5,13 +5,20 @@ use mathlib.Core.Logic.{⊎-elim}
 use native.Mathlib.Omega.{arith}
 use borrow.Author.Needs.{needs}
 use Rattle.machines.specs.Columns.{byte-count}
-use Rattle.columns.specs.Numbering.{Numbered}
-use Rattle.columns.specs.NumberingLaws.{numbered-none, numbered-new, numbered-same, numbered-as, numbered-all}
+use Rattle.columns.specs.ColumnNumbering.{Columns-numbered}
+use Rattle.columns.specs.ColumnNumberingLaws.{
+  numbered-none,
+  numbered-new,
+  numbered-same,
+  numbered-as,
+  numbered-all,
+}
 use Rattle.columns.proofs.columns.number_groups.Statement.{statement}
 use Rattle.columns.proofs.columns.number_groups.Tie as tie
 
 abbrev Inv-loop : tie.InvT-loop
-Inv-loop least firsts₀ columns₀ count₀ byte₀ firsts columns count byte = Numbered least byte firsts columns count
+Inv-loop least firsts₀ columns₀ count₀ byte₀ firsts columns count byte =
+    Columns-numbered least byte firsts columns count
 
 abbrev μ-loop : tie.MeasureT-loop
 μ-loop least firsts₀ columns₀ count₀ byte₀ firsts columns count byte = byte-count - byte

@@ -15,7 +15,7 @@ use Rattle.exploring.proofs.explore.entry_of.Tie as tie
 -- where the call began; where the marks were copied out, seen from where they are lent again; and where the words were
 -- moved, seen from its end
 abbrev entry : tie.After-slice-known → tie.Start
-entry c = c .before .before .before .before .before .before
+entry c = c .before .before .before .before .before
 
 abbrev lent : tie.After-copy → tie.After-slice-known
 lent c = c .before .before .before

@@ -20,18 +20,18 @@ abbrev noted : tie.After-begin → tie.After-note-keys
 noted c = c .before .before .before
 
 abbrev entry : tie.After-note-keys → tie.Start
-entry c = c .before .before .before .before .before .before .before
+entry c = c .before .before .before .before .before .before
 
 slice-aggregate-note-keys : tie.Need-slice-aggregate-note-keys
 slice-aggregate-note-keys c = search needs
 
 note-keys-requires : tie.Need-note-keys-requires
 note-keys-requires c κs =
-    let ready = c .before .before .before .before .before .before .pre .0 in
+    let ready = c .before .before .before .before .before .pre .0 in
     let prepared = ready .of-tree .1 in (
       omega (arith, prepared-count prepared),
       search (needs, prepared .counted, prepared .few),
-      ready .roomy .reach-room,
+      ready .roomy,
       top-low prepared,
     )
 
@@ -63,7 +63,7 @@ explore-on-requires c κs =
     let prepared = pre .0 .of-tree .1 in
     let fits : a .most + a .count * a .most ≤ length (a .room .now) =
     omega (arith, room-parts (a .count) (a .columns) (a .most), pre .1 .3) in
-    let long = marks .begin .kept .1 .1 .1 .1 .1 .1 .0 in (
+    let long = marks .begin .kept .1 .1 .0 in (
       pre .0,
       (
         (
@@ -71,7 +71,7 @@ explore-on-requires c κs =
           pre .1 .1,
           pre .1 .2,
           omega (arith, first .keep .kept .0, pre .1 .3),
-          search (needs, prepared .counted, prepared .few, keys .note-keys .kept .1 .1 .1 .0),
+          search (needs, prepared .counted, prepared .few, keys .note-keys .kept .1 .1 .0),
         ),
         (
           (

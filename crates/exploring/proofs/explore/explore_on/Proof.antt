@@ -9,7 +9,7 @@ use lib.ListN.{length, take}
 use Rattle.language.specs.Tree.{Tree}
 use Rattle.tree.specs.Leaf.{Leaf}
 use Rattle.tables.specs.Tables.{Prepared}
-use Rattle.exploring.specs.Progress.{Progress, Exploring}
+use Rattle.exploring.specs.FindingStates.{Progress, Exploring}
 use Rattle.exploring.specs.Steps.{
   states-fit,
   entries-fit,
@@ -27,19 +27,19 @@ use Rattle.exploring.proofs.explore.explore_on.Statement.{statement}
 use Rattle.exploring.proofs.explore.explore_on.Tie as tie
 
 abbrev Inv-loop : tie.InvT-loop
-Inv-loop reach codes runs stands tops count classes masks firsts columns most room₀ _ _ _ room words states p =
-    Exploring reach codes runs stands tops count masks firsts columns most room words states p
+Inv-loop rows count classes masks firsts columns most room₀ _ _ _ room words states p =
+    Exploring rows count masks firsts columns most room words states p
     × (length room ≡ length room₀)
-    × ((t : Tree Leaf) → Prepared t reach codes runs stands tops count
+    × ((t : Tree Leaf) → Prepared t rows count
     → Progress classes t (take columns firsts) count most room states p)
 
 abbrev μ-loop : tie.MeasureT-loop
-μ-loop reach codes runs stands tops count classes masks firsts columns most room₀ _ _ _ room words states p =
+μ-loop rows count classes masks firsts columns most room₀ _ _ _ room words states p =
     columns * most - p
 
 -- where the call began, seen from the loop; the loop, seen from where an entry is known
 abbrev entry : tie.At-loop Inv-loop μ-loop → tie.Start Inv-loop μ-loop
-entry c = c .before .before .before .before .before .before .before
+entry c = c .before .before .before .before .before .before
 
 abbrev looking : tie.After-entry-of Inv-loop μ-loop → tie.At-loop Inv-loop μ-loop
 looking c = c .before .before .before .before .before
@@ -108,7 +108,7 @@ enter-requires c κs =
     let here = looking known-entry .loop .inv .0 in (
       omega (arith, c .before .before .if1 .left),
       entry-fits here (known-entry .before .before .before .before .loop-test .taken),
-      omega (arith, words-fit here, known-entry .entry-of .kept .1 .1 .1 .1 .1 .1 .1 .1 .1 .1 .1 .1 .1 .0),
+      omega (arith, words-fit here, known-entry .entry-of .kept .1 .1 .1 .1 .1 .1 .1 .1 .1 .0),
       here .masks-room,
     )
 
@@ -131,7 +131,7 @@ loop-again c =
     let at = looking known-entry in
     let here = at .loop .inv .0 in
     let inside = known-entry .before .before .before .before .loop-test .taken in
-    let as-long = known-entry .entry-of .kept .1 .1 .1 .1 .1 .1 .1 .1 .1 .1 .1 .1 .1 .0 in (
+    let as-long = known-entry .entry-of .kept .1 .1 .1 .1 .1 .1 .1 .1 .1 .0 in (
       exploring-next here inside (omega (arith, written .before .before .before .if1 .left)) (written .enter .kept .0)
           as-long (written .enter .ensures),
       written .enter .kept .0 ∙ at .loop .inv .1,

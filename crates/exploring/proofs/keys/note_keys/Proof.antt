@@ -1,24 +1,26 @@
 -- `exploring::keys::note_keys` meets its contract: the masks of the leaves of the first k pieces are noted. The measure
 -- is how many are left.
-use Prim.Native.Nat.{_-_, _≤_}
-use mathlib.Core.Path.{_≡_, refl}
+use Prim.Native.Nat.{ℕ, _-_, _^_, _≤_}
+use mathlib.Core.Path.{_≡_, refl, ap, _∙_}
 use native.Mathlib.Omega.{arith}
 use borrow.Author.Needs.{needs}
-use Rattle.closing.specs.BitsOfWords.Rows.{Rows, rows-none, rows-set-at}
-use Rattle.exploring.specs.Keys.{leaf-mask}
+use lib.ListN.{getD}
+use lib.Bits.{bitOr}
+use Rattle.tables.specs.Plan.{leaves-mask}
+use Rattle.closing.specs.BitsOfWords.MadeAnew.{Made-anew, anew-none, anew-set-at}
 use Rattle.exploring.specs.KeysLaws.{keys-noted}
 use Rattle.exploring.proofs.keys.note_keys.Statement.{statement}
 use Rattle.exploring.proofs.keys.note_keys.Tie as tie
 
 abbrev Inv-loop : tie.InvT-loop
-Inv-loop reach tops count masks₀ k₀ masks k =
-    (k ≤ count) × Rows (λ j v. v ≡ leaf-mask reach j) masks₀ masks 0 k
+Inv-loop rows count masks₀ k₀ masks k =
+    (k ≤ count) × Made-anew (λ j v. v ≡ leaves-mask rows j) masks₀ masks 0 k
 
 abbrev μ-loop : tie.MeasureT-loop
-μ-loop reach tops count masks₀ k₀ masks k = count - k
+μ-loop rows count masks₀ k₀ masks k = count - k
 
 loop-holds : tie.Need-loop-holds Inv-loop μ-loop
-loop-holds c = (omega arith, rows-none _ _ 0)
+loop-holds c = (omega arith, anew-none _ _ 0)
 
 mul-masks : tie.Need-mul-masks Inv-loop μ-loop
 mul-masks c = search needs
@@ -46,13 +48,10 @@ loop-less c = search needs
 
 loop-again : tie.Need-loop-again Inv-loop μ-loop
 loop-again c =
-    (search needs, rows-set-at (c .before .before .loop .inv .1) _ (omega arith) (omega arith) refl)
+    (search needs, anew-set-at (c .before .before .loop .inv .1) _ (omega arith) (omega arith) refl)
 
-element-copy-out-top : tie.Need-element-copy-out-top Inv-loop μ-loop
-element-copy-out-top c = search needs
-
-cast-top : tie.Need-cast-top Inv-loop μ-loop
-cast-top c = search needs
+top-of-requires : tie.Need-top-of-requires Inv-loop μ-loop
+top-of-requires c κs = search needs
 
 slice-read-leaves : tie.Need-slice-read-leaves Inv-loop μ-loop
 slice-read-leaves c = search needs
@@ -68,8 +67,10 @@ same-length c = search needs
 
 returns : tie.Need-returns Inv-loop μ-loop
 returns c =
-    keys-noted (omega arith) (omega arith) (c .before .before .before .before .loop .inv .1) (omega arith)
-    (c .with-bit .ensures)
+    let ended = c .before .before .before .before in
+    let masks = ended .loop .masks in
+    keys-noted (omega arith) (omega arith) (ended .loop .inv .1) (omega arith)
+    (c .with-bit .ensures ∙ ap (λ (top : ℕ). bitOr (getD masks 0 0) (2 ^ top)) (c .before .before .top-of .ensures))
 
 pub note-keys-spec : {M : Type 1} → statement M
 note-keys-spec =
@@ -87,8 +88,7 @@ note-keys-spec =
     add-k
     loop-less
     loop-again
-    element-copy-out-top
-    cast-top
+    top-of-requires
     slice-read-leaves
     with-bit-requires
     slice-write-masks-2

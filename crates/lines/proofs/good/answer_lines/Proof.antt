@@ -13,11 +13,11 @@ use Rattle.input.specs.Lines.{lines}
 use Rattle.input.specs.EndLaws.{after-start}
 use Rattle.lines.specs.Promise.{Match-says}
 use Rattle.lines.specs.Unique.{one-at-most}
-use Rattle.lines.specs.Loop.{
+use Rattle.lines.specs.LinesLoop.{
   Line-space,
   space-here,
   space-next,
-  So-far,
+  Lines-so-far,
   so-far-none,
   so-far-next,
   so-far-done,
@@ -30,14 +30,14 @@ use Rattle.lines.proofs.good.answer_lines.Reads as reads
 use Rattle.lines.proofs.good.answer_lines.Lts as lts
 
 abbrev Inv-loop : tie.InvT-loop
-Inv-loop reach codes runs stands tops pieces classes text answers₀ place₀ count₀ yes₀ answers place count yes' =
+Inv-loop rows pieces classes text answers₀ place₀ count₀ yes₀ answers place count yes' =
     Line-space text place count yes' answers × (length answers ≡ length answers₀)
     × ((list : List ℕ) (taken : Answerable list classes text)
-    → Prepared (taken .t) reach codes runs stands tops pieces
-    → So-far (Match-says list classes) text answers₀ place count yes' answers)
+    → Prepared (taken .t) rows pieces
+    → Lines-so-far (Match-says list classes) text answers₀ place count yes' answers)
 
 abbrev μ-loop : tie.MeasureT-loop
-μ-loop reach codes runs stands tops pieces classes text answers₀ place₀ count₀ yes₀ answers place count yes' =
+μ-loop rows pieces classes text answers₀ place₀ count₀ yes₀ answers place count yes' =
     length text - place
 
 -- the line and the loop's head, seen from its answer
@@ -49,7 +49,7 @@ head c = c .before .before .before .before
 
 -- the line begins before the end of the text, and there is a byte for its answer
 begins : (c : tie.After-text-matches Inv-loop μ-loop)
-    → head c .loop .place < length (head c .before .before .before .before .before .before .args .text .now)
+    → head c .loop .place < length (head c .before .before .before .before .before .args .text .now)
 begins c = omega (arith, c .before .before .before .loop-test .taken)
 
 room-here : (c : tie.After-text-matches Inv-loop μ-loop) → head c .loop .count < length (head c .loop .answers)
@@ -57,7 +57,7 @@ room-here c = space-here (head c .loop .inv .0) _ (line-of c .line-end .ensures)
 
 loop-holds : tie.Need-loop-holds Inv-loop μ-loop
 loop-holds c =
-    let pre = c .before .before .before .before .before .pre in (
+    let pre = c .before .before .before .before .pre in (
       record { inside = omega arith; ranked = omega arith; enough = omega (arith, pre .1) },
       refl,
       λ list taken prepared. so-far-none (Match-says list _) _ _,
@@ -131,7 +131,7 @@ same-length c = search needs
 returns : tie.Need-returns Inv-loop μ-loop
 returns c = λ list taken prepared.
     so-far-done (Match-says list _) _ _ (c .before .loop .inv .2 list taken prepared) (omega arith)
-    (c .before .before .before .before .before .before .before .pre .1)
+    (c .before .before .before .before .before .before .pre .1)
 
 pub answer-lines-spec : {M : Type 1} → statement M
 answer-lines-spec =

@@ -8,7 +8,7 @@ use lib.ListN.{length, drop}
 use Rattle.input.specs.Lines.{lines}
 use Rattle.input.specs.EndLaws.{after-start, after-inside, lines-none}
 use Rattle.input.specs.LineLaws.{lines-count}
-use Rattle.lines.specs.Loop.{fewer}
+use Rattle.lines.specs.LinesLoop.{fewer}
 use Rattle.lines.proofs.room.count_lines.Statement.{statement}
 use Rattle.lines.proofs.room.count_lines.Tie as tie
 use Rattle.lines.proofs.room.count_lines.Reads as reads

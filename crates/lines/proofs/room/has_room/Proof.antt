@@ -22,7 +22,8 @@ returns : tie.Need-returns
 returns c = told-yes (omega (arith, c .if1 .taken, lines-count (c .before .before .args .text .now)))
 
 returns-2 : tie.Need-returns-2
-returns-2 c = rw (← c .count-lines .ensures) (told-order (c .count-lines .result) (c .before .before .before .args .room))
+returns-2 c = rw (← c .count-lines .ensures)
+    (told-order (c .count-lines .result) (c .before .before .before .args .room))
 
 pub has-room-spec : {M : Type 1} → statement M
 has-room-spec = tie.close (tie.spec returns count-lines-requires returns-2)

@@ -9,16 +9,16 @@ use lib.Seq.{getD-set-same, getD-set-other, getD-take, length-take-le}
 use Rattle.language.specs.Tree.{Tree}
 use Rattle.language.specs.TakenAsOne.{Not-told-apart}
 use Rattle.tree.specs.Leaf.{Leaf, meaning}
-use Rattle.tables.specs.Plan.{row-size}
+use Rattle.tree.specs.Limits.{most-states}
 use Rattle.tables.specs.Tables.{Prepared}
 use Rattle.machines.specs.Columns.{byte-count, Columned}
-use Rattle.columns.specs.AlikeInTables.{alike-told, told-alike}
+use Rattle.columns.specs.AlikeInTable.{alike-told, told-alike}
 use Rattle.columns.specs.Parting.{Least}
 use Rattle.columns.specs.PartingLaws.{one-group}
-use Rattle.columns.specs.Numbering.{Grouped, Numbered}
+use Rattle.columns.specs.ColumnNumbering.{Grouped, Columns-numbered}
 
 -- the least bytes of groups are their own
-pub least-grouped : {reach codes classes : List ℕ} {p : ℕ} {least : List ℕ} → Least reach codes classes p least
+pub least-grouped : {rows classes : List ℕ} {p : ℕ} {least : List ℕ} → Least rows classes p least
     → Grouped least
 least-grouped {least = least} so-far = record {
   within = so-far .within;
@@ -27,7 +27,7 @@ least-grouped {least = least} so-far = record {
 
 -- at first none is numbered
 pub numbered-none : (least firsts columns : List ℕ) → length firsts ≡ byte-count → length columns ≡ byte-count
-    → Numbered least 0 firsts columns 0
+    → Columns-numbered least 0 firsts columns 0
 numbered-none least firsts columns firsts-long columns-long = record {
   at-most = omega arith;
   few = omega arith;
@@ -40,7 +40,7 @@ numbered-none least firsts columns firsts-long columns-long = record {
   ordered = λ i j l h. absurd (omega arith);
 }
 
-module _ {least firsts columns : List ℕ} {b count : ℕ} (so-far : Numbered least b firsts columns count)
+module _ {least firsts columns : List ℕ} {b count : ℕ} (so-far : Columns-numbered least b firsts columns count)
     (inside : b < byte-count) where
   -- the byte's own entry, set, and the others
   here : (v : ℕ) → getD (set columns b v) b 0 ≡ v
@@ -56,7 +56,8 @@ module _ {least firsts columns : List ℕ} {b count : ℕ} (so-far : Numbered le
   earlier v i h = getD-set-other firsts count i v 0 (omega arith)
 
   -- a byte with which a group begins
-  pub numbered-new : getD least b 0 ≡ b → Numbered least (b + 1) (set firsts count b) (set columns b count) (count + 1)
+  pub numbered-new : getD least b 0 ≡ b → Columns-numbered least (b + 1) (set firsts count b) (set columns b count)
+      (count + 1)
   numbered-new begins = record {
     at-most = omega arith;
     few = omega (arith, so-far .few);
@@ -99,7 +100,7 @@ module _ {least firsts columns : List ℕ} {b count : ℕ} (so-far : Numbered le
 
   -- a byte of a group that is numbered
   pub numbered-same : Grouped least → (getD least b 0 ≡ b → ⊥)
-      → Numbered least (b + 1) firsts (set columns b (getD columns (getD least b 0) 0)) count
+      → Columns-numbered least (b + 1) firsts (set columns b (getD columns (getD least b 0) 0)) count
   numbered-same grouped other =
       let r = getD least b 0 in
       let less : r < b = omega (arith, grouped .within b inside, other) in
@@ -127,28 +128,28 @@ module _ {least firsts columns : List ℕ} {b count : ℕ} (so-far : Numbered le
 
 -- told with other forms of what was noted
 pub numbered-as : {least firsts firsts' columns columns' : List ℕ} {b count count' : ℕ} → firsts' ≡ firsts
-    → columns' ≡ columns → count' ≡ count → Numbered least b firsts columns count
-    → Numbered least b firsts' columns' count'
+    → columns' ≡ columns → count' ≡ count → Columns-numbered least b firsts columns count
+    → Columns-numbered least b firsts' columns' count'
 numbered-as {least} {firsts} {firsts'} {columns} {columns'} {b} {count} {count'} e f g so-far =
-    subst (λ (l : List ℕ). Numbered least b l columns' count') (sym e)
-    (subst (λ (l : List ℕ). Numbered least b firsts l count') (sym f)
-    (subst (λ (m : ℕ). Numbered least b firsts columns m) (sym g) so-far))
+    subst (λ (l : List ℕ). Columns-numbered least b l columns' count') (sym e)
+    (subst (λ (l : List ℕ). Columns-numbered least b firsts l count') (sym f)
+    (subst (λ (m : ℕ). Columns-numbered least b firsts columns m) (sym g) so-far))
 
 -- told with another form of the byte's number
-pub numbered-all : {least firsts columns : List ℕ} {b count : ℕ} → Numbered least b firsts columns count
-    → byte-count ≤ b → Numbered least byte-count firsts columns count
+pub numbered-all : {least firsts columns : List ℕ} {b count : ℕ} → Columns-numbered least b firsts columns count
+    → byte-count ≤ b → Columns-numbered least byte-count firsts columns count
 numbered-all {least} {firsts} {columns} {b} {count} so-far all =
-    subst (λ (m : ℕ). Numbered least m firsts columns count) (omega (arith, so-far .at-most)) so-far
+    subst (λ (m : ℕ). Columns-numbered least m firsts columns count) (omega (arith, so-far .at-most)) so-far
 
 -- there is a group, as there is a byte
-pub some-group : {least firsts columns : List ℕ} {count : ℕ} → Numbered least byte-count firsts columns count
+pub some-group : {least firsts columns : List ℕ} {count : ℕ} → Columns-numbered least byte-count firsts columns count
     → 1 ≤ count
 some-group all = omega (arith, all .within 0 (omega arith))
 
--- the columns of the tree whose tables these are
-pub columned : {reach codes runs stands tops classes least firsts columns : List ℕ} {count groups : ℕ} {t : Tree Leaf}
-    → Prepared t reach codes runs stands tops count → Least reach codes classes (row-size * count) least
-    → Numbered least byte-count firsts columns groups → Columned classes t (take groups firsts) columns
+-- the columns of the tree whose rows these are
+pub columned : {rows classes least firsts columns : List ℕ} {count groups : ℕ} {t : Tree Leaf}
+    → Prepared t rows count → Least rows classes (most-states * count) least
+    → Columns-numbered least byte-count firsts columns groups → Columned classes t (take groups firsts) columns
 columned {classes = classes} {least} {firsts} {columns} {groups = groups} {t = t} prepared parted all = record {
   all = all .columns-long;
   within = λ b h. omega (arith, length-take-le groups firsts enough, all .within b h);

@@ -12,7 +12,7 @@ pub record Grouped (least : List ℕ) : Type 0 where
 
 -- the groups of the bytes before b are numbered: there are `count`, `firsts` has their least bytes, and `columns` for
 -- each byte the number of its group
-pub record Numbered (least : List ℕ) (b : ℕ) (firsts columns : List ℕ) (count : ℕ) : Type 0 where
+pub record Columns-numbered (least : List ℕ) (b : ℕ) (firsts columns : List ℕ) (count : ℕ) : Type 0 where
   pub at-most : b ≤ byte-count
   pub few : count ≤ b
   pub firsts-long : length firsts ≡ byte-count

@@ -12,7 +12,7 @@ use Rattle.matching.specs.PartLaws.{part-length}
 use Rattle.finder.specs.Promise.{match-answered}
 use Rattle.finder.specs.Refusals.{Answerable}
 use Rattle.input.specs.Lines.{lines}
-use Rattle.input.specs.Ends.{Ends, after}
+use Rattle.input.specs.Ends.{Ends, after-end}
 use Rattle.input.specs.EndLaws.{after-inside, line-at, lines-none, lent-part}
 use Rattle.printing.specs.Printing.{printed, Prints}
 use Rattle.printing.specs.PrintingLaws.{prints-none, prints-join, prints-byte}
@@ -28,7 +28,7 @@ at-front buffer bytes =
 
 -- one line fewer is left after a line
 pub fewer : (text : List ℕ) (place end : ℕ) → Ends text place end → place < length text
-    → length (lines (drop place text)) ≡ length (lines (drop (after text end) text)) + 1
+    → length (lines (drop place text)) ≡ length (lines (drop (after-end text end) text)) + 1
 fewer text place end ends some = ap length (line-at text place end ends some) ∙ omega arith
 
 -- there is a byte for each line from a place on, after so many lines and yes lines
@@ -45,7 +45,7 @@ module _ {text : List ℕ} {place count yes-lines : ℕ} {out : List ℕ} (s : L
 
   -- and the others are for those after it
   pub space-next : (matched : Bool)
-      → Line-space text (after text end) (count + 1) (yes-lines + answer-byte matched)
+      → Line-space text (after-end text end) (count + 1) (yes-lines + answer-byte matched)
       (set out count (answer-byte matched))
   space-next matched = record {
     inside = after-inside text end (ends .inside);
@@ -55,14 +55,14 @@ module _ {text : List ℕ} {place count yes-lines : ℕ} {out : List ℕ} (s : L
 
 module _ (Says : List ℕ → Bool → Type 0) (text before : List ℕ) where
   -- what is written so far
-  pub record So-far (place count yes-lines : ℕ) (out : List ℕ) : Type 0 where
+  pub record Lines-so-far (place count yes-lines : ℕ) (out : List ℕ) : Type 0 where
     pub written : List ℕ
     pub prints : Prints before 0 written out count
     pub to-come : (bytes : List ℕ) (more : ℕ) → Each-answered Says (lines (drop place text)) bytes more
         → Each-answered Says (lines text) (written ++ bytes) (yes-lines + more)
 
   -- nothing at first
-  pub so-far-none : So-far 0 0 0 before
+  pub so-far-none : Lines-so-far 0 0 0 before
   so-far-none = record {
     written = [];
     prints = prints-none before 0 (omega arith);
@@ -70,10 +70,11 @@ module _ (Says : List ℕ → Bool → Type 0) (text before : List ℕ) where
   }
 
   -- the byte of one more line
-  pub so-far-next : {place count yes-lines : ℕ} {out : List ℕ} → So-far place count yes-lines out → (end : ℕ)
+  pub so-far-next : {place count yes-lines : ℕ} {out : List ℕ} → Lines-so-far place count yes-lines out → (end : ℕ)
       → Ends text place end → place < length text → count < length out → (matched : Bool)
       → Says (part place end text) matched
-      → So-far (after text end) (count + 1) (yes-lines + answer-byte matched) (set out count (answer-byte matched))
+      → Lines-so-far (after-end text end) (count + 1) (yes-lines + answer-byte matched)
+      (set out count (answer-byte matched))
   so-far-next {place} {count} {yes-lines} {out} so end ends some room matched says = record {
     written = so .written ++ (answer-byte matched ∷ []);
     prints = prints-join (so .prints) (prints-byte out count (answer-byte matched) room);
@@ -88,7 +89,7 @@ module _ (Says : List ℕ → Bool → Type 0) (text before : List ℕ) where
   }
 
   -- all, where no line is left
-  pub so-far-done : {place count yes-lines : ℕ} {out : List ℕ} → So-far place count yes-lines out
+  pub so-far-done : {place count yes-lines : ℕ} {out : List ℕ} → Lines-so-far place count yes-lines out
       → length text ≤ place → length (lines text) ≤ length before
       → Lines-written Says text before out count yes-lines
   so-far-done {place} {count} {yes-lines} {out} so none room =
