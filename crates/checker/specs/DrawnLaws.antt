@@ -48,7 +48,7 @@ use Rattle.checker.specs.ExpandedLaws.{
   expanded-size,
 }
 use Rattle.checker.specs.Drawn.{classes-of, classes-in, recorded, recorded-from, drawn}
-use Rattle.checker.specs.Alike.{nodes-recorded}
+use Rattle.checker.specs.OneShape.{nodes-recorded}
 
 -- the numbers from n on, so many of them
 abbrev upwards : ℕ → ℕ → List ℕ

@@ -3,10 +3,11 @@
 pub mod Drawn
 pub mod Expanded
 pub mod ExpandedLaws
-pub mod Alike
+pub mod OneShape
+pub mod AlikeMeasured
 pub mod Relabelled
 pub mod DrawnLaws
 pub mod SameLanguage
 pub mod Checked
 pub mod ClassStore
-pub mod Count
+pub mod Counted

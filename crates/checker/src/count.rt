@@ -18,10 +18,10 @@ ghost use Rattle.tree.specs.Limits.{most-labels};
 ghost use Rattle.cutting.specs.Measured.{Postorder};
 ghost use Rattle.operands.specs.Bytes.{syntax-of};
 ghost use Rattle.checker.specs.Relabelled.{class-labels};
-ghost use Rattle.checker.specs.Count.{Labels-counted, Count-answer};
+ghost use Rattle.checker.specs.Counted.{Labels-counted, Check-answer};
 
 // 1 for the label of a class leaf.
-fn one_if_class(label: u16) -> usize
+fn one_if_class_label(label: u16) -> usize
     ensures { λ r. ⌜ r ≡ class-labels (label ∷ []) ⌝ }
 {
     if label % 8 == CLASS_LABEL {
@@ -31,13 +31,13 @@ fn one_if_class(label: u16) -> usize
 }
 
 // How many labels are those of class leaves.
-fn class_count(labels: &[u16]) -> usize
+pub fn class_count(labels: &[u16]) -> usize
     ensures { λ r. ⌜ r ≡ class-labels (now (labels .entry)) ⌝ }
 {
     let mut count = 0;
     let mut i = 0;
     while i < labels.len() {
-        count += one_if_class(labels[i]);
+        count += one_if_class_label(labels[i]);
         i += 1;
     }
     count
@@ -70,7 +70,7 @@ fn count_labels(labels: &[u16]) -> CountedAnswer
 // Counting has its own frame, so that its arrays are not there while the readers go deep.
 pub fn count_first(expr: &[u8], labels: &mut [u16]) -> CountedAnswer
     requires { ⌜ most-labels ≡ length (now labels) ⌝ }
-    ensures { λ r. ⌜ Count-answer (syntax-of false) (now (expr .entry)) (now (labels .exit)) r ⌝ }
+    ensures { λ r. ⌜ Check-answer (syntax-of false) (now (expr .entry)) (now (labels .exit)) r ⌝ }
 {
     let whole = expression(expr, labels, false, false);
     match whole {
@@ -82,7 +82,7 @@ pub fn count_first(expr: &[u8], labels: &mut [u16]) -> CountedAnswer
 // The same of the second syntax, and 17 where the tree that the signs stand for has more nodes than there are labels.
 pub fn count_second(expr: &[u8], labels: &mut [u16]) -> CountedAnswer
     requires { ⌜ most-labels ≡ length (now labels) ⌝ }
-    ensures { λ r. ⌜ Count-answer (syntax-of true) (now (expr .entry)) (now (labels .exit)) r ⌝ }
+    ensures { λ r. ⌜ Check-answer (syntax-of true) (now (expr .entry)) (now (labels .exit)) r ⌝ }
 {
     let whole = expression(expr, labels, true, false);
     match whole {

@@ -33,7 +33,7 @@ use Rattle.checker.specs.ExpandedLaws.{
 }
 use Rattle.checker.specs.Drawn.{classes-of, classes-in, recorded, drawn}
 use Rattle.checker.specs.DrawnLaws.{first-has-no-class}
-use Rattle.reader.specs.Answer.{Numbers, refusing, reading, answer-for, answered}
+use Rattle.reader.specs.Answer.{Read-numbers, refusing-read, reading, answer-for, read-answered}
 use Rattle.checker.specs.Checked.{
   Counted-numbers,
   refusing-counts,
@@ -48,15 +48,15 @@ use Rattle.reader.specs.SecondKept.{counts-injective}
 use Rattle.checker.specs.declared.answer.CountedAnswer.{CountedAnswer}
 
 -- the numbers of the first reader's answer: a check's, but for the classes, of which it has none
-abbrev pub without-classes : Counted-numbers → Numbers
+abbrev pub without-classes : Counted-numbers → Read-numbers
 without-classes n =
     record { refusal = n .refusal; place = n .place; records = n .records; pieces = n .pieces }
 
 -- what storing makes of a check's answer: a refusal stays, else 9 where the records do not fit
-abbrev pub after-check : Counted-numbers → (room : ℕ) → Numbers
+abbrev pub after-check : Counted-numbers → (room : ℕ) → Read-numbers
 after-check n room =
     cond (eqb (n .refusal) 0)
-    (cond (ltb room (record-size * n .records)) (refusing buffer-too-short 0) (without-classes n))
+    (cond (ltb room (record-size * n .records)) (refusing-read buffer-too-short 0) (without-classes n))
     (without-classes n)
 
 -- and for the second reader 15 after it, where the class records do not fit
@@ -69,7 +69,7 @@ after-second-check n room class-room =
 
 -- a refusal is not 0
 refused-after : (number place room : ℕ) → 1 ≤ number
-    → refusing number place ≡ after-check (refusing-counts number place) room
+    → refusing-read number place ≡ after-check (refusing-counts number place) room
 refused-after number place room h = rw (ne-eqb number 0 (λ e. omega arith))
 
 refused-after-second : (number place room class-room : ℕ) → 1 ≤ number
@@ -78,8 +78,8 @@ refused-after-second number place room class-room h = rw (ne-eqb number 0 (λ e.
 
 -- of a tree: by the test for its pieces
 tree-after : (t : Tree Atom) (room : ℕ) (many : Bool)
-    → cond many (refusing too-many-pieces 0) (cond (ltb room (record-size * nodes (recorded t)))
-    (refusing buffer-too-short 0) (reading (recorded t)))
+    → cond many (refusing-read too-many-pieces 0) (cond (ltb room (record-size * nodes (recorded t)))
+    (refusing-read buffer-too-short 0) (reading (recorded t)))
     ≡ after-check (cond many (refusing-counts too-many-pieces 0) (counting t)) room
 tree-after t room true = refl
 tree-after t room false = refl
@@ -106,7 +106,7 @@ outcome-after-second (refused number place) room class-room h =
 outcome-after-second (tree t) room class-room h = tree-after-second t room class-room (too-many t)
 
 -- `read` answers as the check does, or 9
-pub write-after-check : (bytes : List ℕ) (room : ℕ) → answered bytes room ≡ after-check (checked first bytes) room
+pub write-after-check : (bytes : List ℕ) (room : ℕ) → read-answered bytes room ≡ after-check (checked first bytes) room
 write-after-check bytes room =
     outcome-after (expanded first bytes) room (λ number place e. expanded-refusal first bytes number place e .least)
 
@@ -158,7 +158,7 @@ check-bufferless syntax bytes = bufferless-outcome syntax bytes (expanded syntax
 -- the two tests of storing, by their answers
 nine-picks : (n : Counted-numbers) (room : ℕ) (none short : Bool) → Bufferless (n .refusal)
     → eqb (n .refusal) 0 ≡ none → ltb room (record-size * n .records) ≡ short
-    → (cond none (cond short (refusing buffer-too-short 0) (without-classes n)) (without-classes n) .refusal
+    → (cond none (cond short (refusing-read buffer-too-short 0) (without-classes n)) (without-classes n) .refusal
     ≡ buffer-too-short) ↔ ((n .refusal ≡ 0) × (room < record-size * n .records))
 nine-picks n room true true b e f =
     (λ h. (eqb-true (n .refusal) 0 e, ltb-true room _ f), λ h. refl)
@@ -175,7 +175,7 @@ nine-picks n room false short b e f = (
     not-zero e = let z : _≡_ {A = ℕ} 0 1 = cc in omega arith
 
 -- `read` gives 9 exactly when the check refuses nothing and the buffer is shorter than the records
-pub nine-exactly : (bytes : List ℕ) (room : ℕ) → (answered bytes room .refusal ≡ buffer-too-short)
+pub nine-exactly : (bytes : List ℕ) (room : ℕ) → (read-answered bytes room .refusal ≡ buffer-too-short)
     ↔ ((checked first bytes .refusal ≡ 0) × (room < record-size * checked first bytes .records))
 nine-exactly bytes room =
     let n = checked first bytes in

@@ -23,7 +23,7 @@ use Rattle.operands.specs.Scanner.{Outcome, tree, refused}
 use Rattle.checker.specs.Expanded.{expanded}
 use Rattle.checker.specs.Drawn.{drawn}
 use Rattle.checker.specs.DrawnLaws.{Written-as, drawn-exactly, drawn-refusal, drawn-size}
-use Rattle.reader.specs.Answer.{refusing, reading, answer-for, answered}
+use Rattle.reader.specs.Answer.{refusing-read, reading, answer-for, read-answered}
 
 -- some cut of t with pieces of at most 15 nodes has at most 128 of them
 abbrev pub Small-enough : Tree Leaf → Type 0
@@ -43,7 +43,8 @@ pub record Fit-to-read (bytes : List ℕ) (room : ℕ) : Type 0 where
 
 -- of the answers to a tree, only the one past both tests is no refusal
 past-both : (t : Tree Leaf) (many short : Bool)
-    → cond many (refusing too-many-pieces 0) (cond short (refusing buffer-too-short 0) (reading t)) .refusal ≡ 0
+    → cond many (refusing-read too-many-pieces 0) (cond short (refusing-read buffer-too-short 0) (reading t)) .refusal
+    ≡ 0
     → (many ≡ false) × (short ≡ false)
 past-both t true short e = absurd (omega arith)
 past-both t false true e = absurd (omega arith)
@@ -66,7 +67,7 @@ taken-outcome bytes room (tree t) scans e =
     }
 
 -- what is fit to be read is read
-fit-taken : (bytes : List ℕ) (room : ℕ) → Fit-to-read bytes room → answered bytes room .refusal ≡ 0
+fit-taken : (bytes : List ℕ) (room : ℕ) → Fit-to-read bytes room → read-answered bytes room .refusal ≡ 0
 fit-taken bytes room fit =
     rw (
       drawn-exactly first bytes (fit .t) .1 (fit .few, fit .written),
@@ -75,7 +76,7 @@ fit-taken bytes room fit =
     )
 
 -- an expression is read exactly when it is fit
-pub fit-exactly : (bytes : List ℕ) (room : ℕ) → (answered bytes room .refusal ≡ 0) ↔ Fit-to-read bytes room
+pub fit-exactly : (bytes : List ℕ) (room : ℕ) → (read-answered bytes room .refusal ≡ 0) ↔ Fit-to-read bytes room
 fit-exactly bytes room = (taken-outcome bytes room (drawn (expanded first bytes)) refl, fit-taken bytes room)
 
 -- the expression has at most 1,024 bytes, is written by the grammar, and its tree can be cut into few enough small
@@ -85,7 +86,7 @@ Expressible bytes = (length bytes ≤ longest-expression) × ((t : Tree Leaf) ×
 
 module _ (bytes : List ℕ) (room : ℕ) (enough : record-size * most-labels ≤ room) where
   -- with room for 2,047 records it is read exactly then: it has no more
-  pub expression-read-exactly : (answered bytes room .refusal ≡ 0) ↔ Expressible bytes
+  pub expression-read-exactly : (read-answered bytes room .refusal ≡ 0) ↔ Expressible bytes
   expression-read-exactly = (
     λ e. let fit = fit-exactly bytes room .0 e in (fit .few, (fit .t, fit .written, fit .small)),
     λ (few, (t, written, small)).
@@ -101,10 +102,10 @@ module _ (bytes : List ℕ) (room : ℕ) (enough : record-size * most-labels ≤
   )
 
   -- and is refused exactly when not
-  pub expression-refused-exactly : (1 ≤ answered bytes room .refusal) ↔ (Expressible bytes → ⊥)
+  pub expression-refused-exactly : (1 ≤ read-answered bytes room .refusal) ↔ (Expressible bytes → ⊥)
   expression-refused-exactly = (
     λ h fit. omega (arith, expression-read-exactly .1 fit),
-    λ never. elim (decLt 0 (answered bytes room .refusal)) [
+    λ never. elim (decLt 0 (read-answered bytes room .refusal)) [
       | yes h ↦ omega arith
       | no h
           ↦ absurd (never (expression-read-exactly .0 (omega arith)))

@@ -25,34 +25,37 @@ use Rattle.checker.specs.DrawnLaws.{drawn-tree, drawn-refusal, ranked-recorded}
 use Rattle.reader.specs.PlacesIn.{places-in}
 use Rattle.reader.specs.PlacesInLaws.{drawn-places, placed-length, placed-good}
 use Rattle.reader.specs.Answer.{
-  Numbers,
-  refusing,
+  Read-numbers,
+  refusing-read,
   reading,
-  numbers,
+  read-numbers,
   answer-for,
   buffer-for,
-  answered,
+  read-answered,
   records-after,
 }
 use Rattle.reader.specs.declared.answer.ReadAnswer.{ReadAnswer}
 use Rattle.reader.specs.declared.answer.ReadAnswer.the-variants.{Read, Refused}
 
 -- an answer is known from its numbers, where these are neither a refusal nor a record
-numbers-injective : (r s : ReadAnswer) → numbers r ≡ numbers s → (numbers r .refusal ≡ 0 → numbers r .records ≡ 0 → ⊥)
+numbers-injective : (r s : ReadAnswer) → read-numbers r ≡ read-numbers s
+    → (read-numbers r .refusal ≡ 0 → read-numbers r .records ≡ 0 → ⊥)
     → r ≡ s
 numbers-injective (Read records pieces) (Read records′ pieces′) e sure =
-    cc (ap (λ (n : Numbers). n .records) e, ap (λ (n : Numbers). n .pieces) e)
+    cc (ap (λ (n : Read-numbers). n .records) e, ap (λ (n : Read-numbers). n .pieces) e)
 numbers-injective (Refused number place) (Refused number′ place′) e sure =
-    cc (ap (λ (n : Numbers). n .refusal) e, ap (λ (n : Numbers). n .place) e)
+    cc (ap (λ (n : Read-numbers). n .refusal) e, ap (λ (n : Read-numbers). n .place) e)
 numbers-injective (Read records pieces) (Refused number place) e sure =
-    absurd (sure refl (ap (λ (n : Numbers). n .records) e))
+    absurd (sure refl (ap (λ (n : Read-numbers). n .records) e))
 numbers-injective (Refused number place) (Read records pieces) e sure =
-    absurd (sure (ap (λ (n : Numbers). n .refusal) e) refl)
+    absurd (sure (ap (λ (n : Read-numbers). n .refusal) e) refl)
 
 -- what is answered is a refusal, or has a record
 sure-pick : (t : Tree Leaf) (many short : Bool)
-    → cond many (refusing too-many-pieces 0) (cond short (refusing buffer-too-short 0) (reading t)) .refusal ≡ 0
-    → cond many (refusing too-many-pieces 0) (cond short (refusing buffer-too-short 0) (reading t)) .records ≡ 0 → ⊥
+    → cond many (refusing-read too-many-pieces 0) (cond short (refusing-read buffer-too-short 0) (reading t)) .refusal
+    ≡ 0
+    → cond many (refusing-read too-many-pieces 0) (cond short (refusing-read buffer-too-short 0) (reading t)) .records
+    ≡ 0 → ⊥
 sure-pick t true short e f = omega arith
 sure-pick t false true e f = omega arith
 sure-pick t false false e f = omega (arith, nodes-positive t)
@@ -65,8 +68,8 @@ sure-answer bytes room (tree t) scans e f = sure-pick t (ltb most-pieces (piece-
     (record-size * nodes t)) e f
 
 -- two answers that both fit the promise are equal
-pub answer-unique : (bytes : List ℕ) (room : ℕ) (r s : ReadAnswer) → numbers r ≡ answered bytes room
-    → numbers s ≡ answered bytes room → r ≡ s
+pub answer-unique : (bytes : List ℕ) (room : ℕ) (r s : ReadAnswer) → read-numbers r ≡ read-answered bytes room
+    → read-numbers s ≡ read-answered bytes room → r ≡ s
 answer-unique bytes room r s e f =
     numbers-injective r s (e ∙ sym f) (rw e (sure-answer bytes room (drawn (expanded first bytes)) refl))
 
@@ -84,17 +87,17 @@ pub record Kept (bytes before after : List ℕ) (records pieces : ℕ) : Type 0 
 
 kept-pick : (bytes before after : List ℕ) (records pieces : ℕ) (t : Tree Leaf) → drawn (expanded first bytes) ≡ tree t
     → (many short : Bool) → ltb most-pieces (piece-count t) ≡ many → ltb (length before) (record-size * nodes t) ≡ short
-    → numbers (Read records pieces)
-    ≡ cond many (refusing too-many-pieces 0) (cond short (refusing buffer-too-short 0) (reading t))
+    → read-numbers (Read records pieces)
+    ≡ cond many (refusing-read too-many-pieces 0) (cond short (refusing-read buffer-too-short 0) (reading t))
     → after ≡ cond many before (cond short before (with-places (places-in first bytes) (encode t)
     ++ drop (record-size * nodes t) before))
     → Kept bytes before after records pieces
 kept-pick bytes before after records pieces t scans true short m h e f =
-    absurd (omega (arith, ap (λ (n : Numbers). n .refusal) e))
+    absurd (omega (arith, ap (λ (n : Read-numbers). n .refusal) e))
 kept-pick bytes before after records pieces t scans false true m h e f =
-    absurd (omega (arith, ap (λ (n : Numbers). n .refusal) e))
+    absurd (omega (arith, ap (λ (n : Read-numbers). n .refusal) e))
 kept-pick bytes before after records pieces t scans false false m h e f =
-    let counted : records ≡ nodes t = ap (λ (n : Numbers). n .records) e in
+    let counted : records ≡ nodes t = ap (λ (n : Read-numbers). n .records) e in
     let of = drawn-places first bytes t scans in
     let list : List ℕ = with-places (places-in first bytes) (encode t) in
     let size : ℕ = record-size * nodes t in
@@ -107,7 +110,7 @@ kept-pick bytes before after records pieces t scans false false m h e f =
       read = t;
       scans = scans;
       counted = counted;
-      parted = ap (λ (n : Numbers). n .pieces) e;
+      parted = ap (λ (n : Read-numbers). n .pieces) e;
       fits = omega (arith, ltb-false (length before) (record-size * nodes t) h);
       list = taken;
       good = rw taken (placed-good (places-in first bytes) t of (ltb-false most-pieces (piece-count t) m) ranked);
@@ -116,42 +119,43 @@ kept-pick bytes before after records pieces t scans false false m h e f =
 
 kept-outcome : (bytes before after : List ℕ) (records pieces : ℕ) (outcome : Outcome (Tree Leaf))
     → drawn (expanded first bytes) ≡ outcome
-    → numbers (Read records pieces) ≡ answer-for outcome (length before) → after ≡ buffer-for (places-in first bytes)
+    → read-numbers (Read records pieces) ≡ answer-for outcome (length before)
+    → after ≡ buffer-for (places-in first bytes)
     outcome before
     → Kept bytes before after records pieces
 kept-outcome bytes before after records pieces (refused number place) scans e f =
-    absurd (omega (arith, ap (λ (n : Numbers). n .refusal) e, drawn-refusal first bytes number place scans .least))
+    absurd (omega (arith, ap (λ (n : Read-numbers). n .refusal) e, drawn-refusal first bytes number place scans .least))
 kept-outcome bytes before after records pieces (tree t) scans e f =
     kept-pick bytes before after records pieces t scans (ltb most-pieces (piece-count t)) (ltb (length before)
     (record-size * nodes t))
     refl refl e f
 
 -- from what `read` promises, where it answers that the records were written
-pub kept : (bytes before after : List ℕ) (records pieces : ℕ) → numbers (Read records pieces)
-    ≡ answered bytes (length before) → after ≡ records-after bytes before → Kept bytes before after records pieces
+pub kept : (bytes before after : List ℕ) (records pieces : ℕ) → read-numbers (Read records pieces)
+    ≡ read-answered bytes (length before) → after ≡ records-after bytes before → Kept bytes before after records pieces
 kept bytes before after records pieces e f =
     kept-outcome bytes before after records pieces (drawn (expanded first bytes)) refl e f
 
 -- where it answers a refusal, no byte of the buffer differs
 same-pick : (places before : List ℕ) (number place : ℕ) (t : Tree Leaf) (many short : Bool)
-    → numbers (Refused number place)
-    ≡ cond many (refusing too-many-pieces 0) (cond short (refusing buffer-too-short 0) (reading t))
+    → read-numbers (Refused number place)
+    ≡ cond many (refusing-read too-many-pieces 0) (cond short (refusing-read buffer-too-short 0) (reading t))
     → cond many before (cond short before (with-places places (encode t) ++ drop (record-size * nodes t) before))
     ≡ before
 same-pick places before number place t true short e = refl
 same-pick places before number place t false true e = refl
 same-pick places before number place t false false e =
-    absurd (omega (arith, nodes-positive t, ap (λ (n : Numbers). n .records) e))
+    absurd (omega (arith, nodes-positive t, ap (λ (n : Read-numbers). n .records) e))
 
 same-outcome : (places before : List ℕ) (number place : ℕ) (outcome : Outcome (Tree Leaf))
-    → numbers (Refused number place) ≡ answer-for outcome (length before)
+    → read-numbers (Refused number place) ≡ answer-for outcome (length before)
     → buffer-for places outcome before ≡ before
 same-outcome places before number place (refused number′ place′) e = refl
 same-outcome places before number place (tree t) e =
     same-pick places before number place t (ltb most-pieces (piece-count t))
     (ltb (length before) (record-size * nodes t)) e
 
-pub refusal-keeps : (bytes before after : List ℕ) (number place : ℕ) → numbers (Refused number place)
-    ≡ answered bytes (length before) → after ≡ records-after bytes before → after ≡ before
+pub refusal-keeps : (bytes before after : List ℕ) (number place : ℕ) → read-numbers (Refused number place)
+    ≡ read-answered bytes (length before) → after ≡ records-after bytes before → after ≡ before
 refusal-keeps bytes before after number place e f = f
     ∙ same-outcome (places-in first bytes) before number place (drawn (expanded first bytes)) e

@@ -7,6 +7,7 @@ pub mod Kept
 pub mod SecondKept
 pub mod Placing
 pub mod Store
+pub mod LabelsStored
 pub mod Check
 pub mod TooLarge
 pub mod Exactly

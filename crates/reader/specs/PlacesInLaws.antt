@@ -29,7 +29,7 @@ use Rattle.operands.specs.PlacesInside.{low-places}
 use Rattle.checker.specs.Expanded.{expansion, expanded}
 use Rattle.checker.specs.ExpandedLaws.{expanded-tree}
 use Rattle.checker.specs.Drawn.{recorded, drawn}
-use Rattle.checker.specs.Alike.{nodes-recorded}
+use Rattle.checker.specs.OneShape.{nodes-recorded}
 use Rattle.checker.specs.DrawnLaws.{drawn-tree}
 use Rattle.reader.specs.PlacesIn.{places-for, places-in}
 

@@ -19,9 +19,9 @@ use Rattle.operands.specs.declared.part.Part.{Part}
 use Rattle.operands.specs.declared.part.Part.the-variants.{Read, Refused}
 use Rattle.checker.specs.Expanded.{expansion, expanded}
 use Rattle.checker.specs.ExpandedLaws.{expanded-tree, expanded-size}
-use Rattle.checker.specs.Alike.{nodes-recorded}
+use Rattle.checker.specs.OneShape.{nodes-recorded}
 use Rattle.reader.specs.PlacesIn.{places-for, places-in}
-use Rattle.checker.specs.Count.{Reading-counted, counts-are}
+use Rattle.checker.specs.Counted.{Reading-counted, counts-are}
 
 -- the expression has a tree of so many nodes
 pub record Places-due (syntax : Syntax) (bytes : List ℕ) (count : ℕ) : Type 0 where

@@ -1,5 +1,5 @@
--- What storing promises: where it can refuse it gives 9, and for the second reader 15 after it; else the buffers hold
--- the records, and the class records.
+-- What the readers promise of what is counted: where it does not fit 9, and for the second reader 15 after it; else the
+-- buffers hold the records, and the class records.
 use Prim.Native.Nat.{ℕ, _+_, _*_, _<_, _≤_}
 use native.Mathlib.Omega.{arith}
 use mathlib.Core.Path.{_≡_, refl, ap, sym, _∙_}
@@ -28,23 +28,20 @@ use Rattle.reader.specs.PlacesIn.{places-in}
 use Rattle.reader.specs.PlacesInLaws.{recorded-places, placed-recorded}
 use Rattle.operands.specs.LeavesPlaced.{written-at}
 use Rattle.checker.specs.Relabelled.{
-  class-labels,
   relabelled,
   labelled-classes,
   classes-labelled,
-  classes-counted,
   labels-numbered,
 }
-use Rattle.checker.specs.ClassStore.{Labels-placed, labels-placed}
-use Rattle.checker.specs.Count.{Reading-counted, Reading-refused, Counts-are, counts-are}
+use Rattle.checker.specs.Counted.{Reading-counted, Reading-refused, Counts-are, counts-are}
 use Rattle.reader.specs.Answer.{
-  Numbers,
-  refusing,
+  Read-numbers,
+  refusing-read,
   reading,
-  numbers,
+  read-numbers,
   answer-for,
   buffer-for,
-  answered,
+  read-answered,
   records-after,
 }
 use Rattle.tree.specs.Lengths.{nodes-positive}
@@ -92,7 +89,7 @@ first-same {bytes} c =
 
 -- what `read` promises, of its answer and of the buffer
 pub record Read-answer (bytes before after : List ℕ) (r : ReadAnswer) : Type 0 where
-  pub answer : numbers r ≡ answered bytes (length before)
+  pub answer : read-numbers r ≡ read-answered bytes (length before)
   pub buffer : after ≡ records-after bytes before
 
 module _ {bytes later : List ℕ} {records pieces classes : ℕ}
@@ -153,7 +150,7 @@ refused-before-storing (tree t) number place e = refused-pick t number place (to
 
 -- what `read` then answers
 refused-answer : {outcome : Outcome (Tree Atom)} {number place : ℕ} → Refused-before outcome number place → (room : ℕ)
-    → refusing number place ≡ answer-for (drawn outcome) room
+    → refusing-read number place ≡ answer-for (drawn outcome) room
 refused-answer by-bytes room = refl
 refused-answer (by-pieces m) room = rw m
 
@@ -184,14 +181,6 @@ module _ {bytes later : List ℕ} {count pieces class-count : ℕ}
   -- the labels of the records' tree are those in the scratch, numbered
   pub second-labels : relabelled (take count later) 0 ≡ labels (recorded second-tree)
   second-labels = ap (λ (ls : List ℕ). relabelled ls 0) (c .written) ∙ labels-numbered bytes (c .read) 0
-
-  -- the class labels in the scratch are as many as the classes, and hold their places
-  pub second-class-labels : class-labels (take count later) ≡ class-count
-  second-class-labels =
-      ap class-labels (c .written) ∙ sym (classes-counted bytes (c .read)) ∙ sym (counts-are c .classed)
-
-  pub second-placed : Labels-placed bytes (take count later)
-  second-placed = rw (c .written) (labels-placed bytes (c .read) (c .placed))
 
 module _ {bytes later : List ℕ} {count pieces class-count : ℕ}
     (c : Reading-counted second bytes later count pieces class-count) (records classes : List ℕ) where

@@ -21,25 +21,25 @@ use Rattle.operands.specs.Scanner.{tree}
 use Rattle.checker.specs.Expanded.{expanded}
 use Rattle.checker.specs.Drawn.{drawn}
 use Rattle.checker.specs.DrawnLaws.{Written-as, drawn-exactly}
-use Rattle.reader.specs.Answer.{Numbers, refusing, reading, answer-for, answered}
+use Rattle.reader.specs.Answer.{Read-numbers, refusing-read, reading, answer-for, read-answered}
 
 -- of the answers to a tree, only the one for too many pieces has the number 8
 eight-first : (t : Tree Leaf) (many short : Bool)
-    → cond many (refusing too-many-pieces 0) (cond short (refusing buffer-too-short 0) (reading t))
-    ≡ refusing too-many-pieces 0 → many ≡ true
+    → cond many (refusing-read too-many-pieces 0) (cond short (refusing-read buffer-too-short 0) (reading t))
+    ≡ refusing-read too-many-pieces 0 → many ≡ true
 eight-first t true short e = refl
-eight-first t false true e = absurd (omega (arith, ap (λ (n : Numbers). n .refusal) e))
-eight-first t false false e = absurd (omega (arith, ap (λ (n : Numbers). n .refusal) e))
+eight-first t false true e = absurd (omega (arith, ap (λ (n : Read-numbers). n .refusal) e))
+eight-first t false false e = absurd (omega (arith, ap (λ (n : Read-numbers). n .refusal) e))
 
 -- the cut decides
-eight-tree : (t : Tree Leaf) (room : ℕ) → (answer-for (tree t) room ≡ refusing too-many-pieces 0)
+eight-tree : (t : Tree Leaf) (room : ℕ) → (answer-for (tree t) room ≡ refusing-read too-many-pieces 0)
     ↔ (most-pieces < piece-count t)
 eight-tree t room = (
   λ e. ltb-true most-pieces (piece-count t) (eight-first t (ltb most-pieces (piece-count t)) (ltb room
       (record-size * nodes t)) e),
   λ many. ap
-      (λ (b : Bool). cond b (refusing too-many-pieces 0)
-      (cond (ltb room (record-size * nodes t)) (refusing buffer-too-short 0) (reading t)))
+      (λ (b : Bool). cond b (refusing-read too-many-pieces 0)
+      (cond (ltb room (record-size * nodes t)) (refusing-read buffer-too-short 0) (reading t)))
       (lt-ltb most-pieces (piece-count t) many),
 )
 
@@ -47,7 +47,7 @@ eight-tree t room = (
 -- nodes has more than 128 pieces
 pub too-large-exactly : (bytes : List ℕ) (room : ℕ) (t : Tree Leaf) → length bytes ≤ longest-expression
     → Written-as first bytes t
-    → (answered bytes room ≡ refusing too-many-pieces 0) ↔ ((c : Cut t) → Fits t c → most-pieces < pieces t c)
+    → (read-answered bytes room ≡ refusing-read too-many-pieces 0) ↔ ((c : Cut t) → Fits t c → most-pieces < pieces t c)
 too-large-exactly bytes room t few w =
     let scans : drawn (expanded first bytes) ≡ tree t = drawn-exactly first bytes t .1 (few, w) in (
       λ e. too-many-exactly t .0 (eight-tree t room .0 (rw scans at e)),

@@ -30,7 +30,7 @@ use Rattle.operands.specs.LeavesPlaced.{atom-at, Leaf-placed, written-at, Leave
 use Rattle.operands.specs.Scanner.{Atom, no-text, tree, refused, due, nothing, scan, scanned}
 use Rattle.operands.specs.Grammar.{united}
 use Rattle.operands.specs.Stopping.{closes-united}
-use Rattle.operands.specs.Surroundings.{from, Fails, accepts, closes-none}
+use Rattle.operands.specs.Surroundings.{scan-from, Fails, accepts, closes-none}
 use Rattle.operands.specs.Reading.{whole-tree, Whole}
 use Rattle.operands.specs.declared.part.Part.{Part}
 use Rattle.operands.specs.declared.part.Part.the-variants.{Read, Refused}
@@ -76,8 +76,8 @@ too-long syntax (b ∷ bytes) h =
 -- else the scan decides
 sized : (syntax : Syntax) (bytes : List ℕ) → (length bytes ≡ 0 → ⊥) → length bytes ≤ longest-expression
     → scanned syntax bytes
-    ≡ from syntax bytes 0 due nothing []
-unfolding scanned from
+    ≡ scan-from syntax bytes 0 due nothing []
+unfolding scanned scan-from
 sized syntax [] some h = absurd (some refl)
 sized syntax (b ∷ bytes) some h = ap (λ (t : Bool). cond t (refused expression-too-long longest-expression) (scan syntax
     (b ∷ bytes) 0 due nothing []))

@@ -1,13 +1,39 @@
 // A catenation: operands one after the other, up to a `|`, a `)` or the end.
+use crate::join::put_join;
 use crate::operand::operand;
 use operands::part::Part;
-use repeats::copies::put_note;
 use tree::layout::CATENATION_LABEL;
+ghost use Prim.Native.Nat.{_≤_};
+ghost use lib.ListN.{length};
 ghost use Rattle.operands.specs.Bytes.{syntax-of};
 ghost use Rattle.operands.specs.Grammar.{joined};
 ghost use Rattle.operands.specs.Reading.{Scratch-room, Part-answer};
+ghost use Rattle.scanner.specs.Rounds.{Operand-due};
 
-// Reads a catenation from a place on: the place of its node is where its right operand begins.
+// Whether an operand is due at a place, in a catenation that begins at `at`.
+fn operand_due(expr: &[u8], at: usize, place: usize) -> bool
+    requires { ⌜ place ≤ length (now expr) ⌝ }
+    ensures { λ r. ⌜ Operand-due (now (expr .entry)) at place r ⌝ }
+{
+    if place == at {
+        return true;
+    }
+    if place == expr.len() {
+        return false;
+    }
+    let byte = expr[place];
+    if byte == b'|' {
+        return false;
+    }
+    if byte == b')' {
+        return false;
+    }
+    true
+}
+
+// Reads a catenation from a place on: the place of its node is where its right operand begins. The reader of an operand
+// is called at one place only, and that of a catenation too, so that the compiler makes one function of the three: each
+// open group then has one frame.
 pub fn catenation(
     expr: &[u8],
     at: usize,
@@ -22,25 +48,14 @@ pub fn catenation(
         (now (notes .entry)) (now
         (notes .exit)) r ⌝ }
 {
-    let first = operand(expr, at, depth, notes, count, second, places);
-    let Part::Read { next, count } = first else {
-        return first;
-    };
-    let mut place = next;
+    let mut place = at;
     let mut n = count;
-    while place < expr.len() {
-        let byte = expr[place];
-        if byte == b'|' {
-            break;
-        }
-        if byte == b')' {
-            break;
-        }
+    while operand_due(expr, at, place) {
         let part = operand(expr, place, depth, notes, n, second, places);
         let Part::Read { next, count } = part else {
             return part;
         };
-        n = put_note(notes, count, CATENATION_LABEL, place as u16, places);
+        n = put_join(notes, count, CATENATION_LABEL, at, place, places);
         place = next;
     }
     Part::Read {

@@ -7,9 +7,37 @@ use tree::limits::MOST_GROUPS;
 use tree::refusal_numbers::GROUP_LEFT_OPEN;
 use tree::refusal_numbers::OPERAND_MISSING;
 use tree::refusal_numbers::TOO_MANY_GROUPS;
+ghost use Prim.Native.Nat.{_≤_};
+ghost use lib.ListN.{length};
 ghost use Rattle.operands.specs.Bytes.{syntax-of};
 ghost use Rattle.operands.specs.Grammar.{starred};
 ghost use Rattle.operands.specs.Reading.{Scratch-room, Part-answer};
+ghost use Rattle.scanner.specs.Rounds.{Sign-follows};
+
+// Whether a byte that is a sign after an operand, in one syntax or in both, stands at a place. Mostly none does, and
+// then the reader of signs need not be called.
+fn sign_follows(expr: &[u8], at: usize) -> bool
+    requires { ⌜ at ≤ length (now expr) ⌝ }
+    ensures { λ r. ⌜ Sign-follows (now (expr .entry)) at r ⌝ }
+{
+    if at == expr.len() {
+        return false;
+    }
+    let byte = expr[at];
+    if byte == b'*' {
+        return true;
+    }
+    if byte == b'+' {
+        return true;
+    }
+    if byte == b'?' {
+        return true;
+    }
+    if byte == b'{' {
+        return true;
+    }
+    false
+}
 
 // Reads the operand at a place: 3 where none stands there, 4 and 6 at a `(`, 7, 14 and 16. Its labels begin at `count`.
 pub fn operand(
@@ -57,5 +85,8 @@ pub fn operand(
     let Part::Read { next, count } = part else {
         return part;
     };
-    signs(expr, next, notes, begin, count, second, places)
+    if sign_follows(expr, next) {
+        return signs(expr, next, notes, begin, count, second, places);
+    }
+    Part::Read { next, count }
 }

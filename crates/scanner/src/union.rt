@@ -1,11 +1,43 @@
 // A union: catenations with `|` between them, up to a `)` or the end.
 use crate::catenation::catenation;
+use crate::join::put_join;
 use operands::part::Part;
-use repeats::copies::put_note;
 use tree::layout::UNION_LABEL;
+ghost use Prim.Native.Nat.{_≤_};
+ghost use lib.ListN.{length};
+ghost use Rattle.tree.specs.Limits.{longest-expression};
 ghost use Rattle.operands.specs.Bytes.{syntax-of};
 ghost use Rattle.operands.specs.Grammar.{united};
 ghost use Rattle.operands.specs.Reading.{Scratch-room, Part-answer};
+ghost use Rattle.scanner.specs.Rounds.{Branch-due, Branch-begins};
+
+// Whether a branch is due at a place, in a union that begins at `at`.
+fn branch_due(expr: &[u8], at: usize, place: usize) -> bool
+    requires { ⌜ place ≤ length (now expr) ⌝ }
+    ensures { λ r. ⌜ Branch-due (now (expr .entry)) at place r ⌝ }
+{
+    if place == at {
+        return true;
+    }
+    if place == expr.len() {
+        return false;
+    }
+    if expr[place] == b'|' {
+        return true;
+    }
+    false
+}
+
+// Where the branch begins that is due at a place: the first one there, another after its `|`.
+fn branch_begin(at: usize, place: usize) -> usize
+    requires { ⌜ place ≤ longest-expression ⌝ }
+    ensures { λ r. ⌜ Branch-begins at place r ⌝ }
+{
+    if place == at {
+        return at;
+    }
+    place + 1
+}
 
 // Reads a union from a place on: the place of its node is its `|`.
 pub fn union(
@@ -22,21 +54,15 @@ pub fn union(
         (now (notes .entry)) (now
         (notes .exit)) r ⌝ }
 {
-    let first = catenation(expr, at, depth, notes, count, second, places);
-    let Part::Read { next, count } = first else {
-        return first;
-    };
-    let mut place = next;
+    let mut place = at;
     let mut n = count;
-    while place < expr.len() {
-        if expr[place] != b'|' {
-            break;
-        }
-        let part = catenation(expr, place + 1, depth, notes, n, second, places);
+    while branch_due(expr, at, place) {
+        let begin = branch_begin(at, place);
+        let part = catenation(expr, begin, depth, notes, n, second, places);
         let Part::Read { next, count } = part else {
             return part;
         };
-        n = put_note(notes, count, UNION_LABEL, place as u16, places);
+        n = put_join(notes, count, UNION_LABEL, at, place, places);
         place = next;
     }
     Part::Read {

@@ -1,8 +1,8 @@
 // The class records of a tree, and the numbers of its classes, from its class labels.
 use classes::class::class_members;
 use classes::members::VALUE_COUNT;
-use classes::members::fill;
-use classes::members::put;
+use classes::members::set_all;
+use classes::members::set_range;
 use classes::members::write_class_record;
 use tree::layout::CLASS_LABEL;
 use tree::layout::CLASS_RECORD_SIZE;
@@ -25,8 +25,8 @@ fn class_values(expr: &[u8], at: usize, members: &mut [u8])
     ensures { λ _. ⌜ Members (class-at (now (expr .entry)) at) (now (members .exit)) ⌝ }
 {
     if expr[at] == b'.' {
-        fill(members, 1);
-        put(members, 10, 10, 0);
+        set_all(members, 1);
+        set_range(members, 10, 10, 0);
         return;
     }
     class_members(expr, at, members);

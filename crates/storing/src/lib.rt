@@ -1,3 +1,2 @@
-// Stores what a tree's labels say: its records, and its class records.
+// Stores what a tree's class labels say: its class records.
 pub mod class_records;
-pub mod records;

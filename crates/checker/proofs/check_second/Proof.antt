@@ -1,6 +1,6 @@
--- `reader::check_second` meets its contract: reading and counting is the check.
+-- `checker::check_second` meets its contract: reading and counting is the check.
 use borrow.Author.Needs.{needs}
-use Rattle.checker.specs.Count.{count-checks}
+use Rattle.checker.specs.Counted.{count-checks}
 use Rattle.checker.proofs.check_second.Statement.{statement}
 use Rattle.checker.proofs.check_second.Tie as tie
 

@@ -1,4 +1,4 @@
--- `reader::count::count_first` meets its contract: the labels of the expression's tree stand in the scratch, and are
+-- `checker::count::count_first` meets its contract: the labels of the expression's tree stand in the scratch, and are
 -- counted; or the refusal is handed on.
 use Prim.Native.Nat.{_≤_}
 use mathlib.Core.Path.{_≡_, refl, sym, _∙_}
@@ -7,7 +7,7 @@ use lib.ListN.{length}
 use lib.Seq.{length-take-le}
 use Rattle.operands.specs.Bytes.{first}
 use Rattle.scanner.specs.Expression.{Labels-read, labels-read}
-use Rattle.checker.specs.Count.{refused-before, first-bounded, read-counted}
+use Rattle.checker.specs.Counted.{refused-before, first-bounded, read-counted}
 use borrow.Author.Needs.{needs}
 use Rattle.checker.proofs.count.count_first.Statement.{statement}
 use Rattle.checker.proofs.count.count_first.Tie as tie

@@ -1,6 +1,6 @@
--- `reader::count::count_labels` meets its contract: each answer is that of the tree that the labels are of.
+-- `checker::count::count_labels` meets its contract: each answer is that of the tree that the labels are of.
 use native.Mathlib.Omega.{arith}
-use Rattle.checker.specs.Count.{counted-many, counted-few}
+use Rattle.checker.specs.Counted.{counted-many, counted-few}
 use borrow.Author.Needs.{needs}
 use Rattle.checker.proofs.count.count_labels.Statement.{statement}
 use Rattle.checker.proofs.count.count_labels.Tie as tie

@@ -1,4 +1,4 @@
--- `reader::count::count_second` meets its contract: the labels of the tree that the signs stand for stand in the
+-- `checker::count::count_second` meets its contract: the labels of the tree that the signs stand for stand in the
 -- scratch, and are counted; or it has too many nodes, or the refusal is handed on.
 use Prim.Native.Nat.{_≤_}
 use mathlib.Core.Path.{_≡_, refl, sym, _∙_}
@@ -7,7 +7,7 @@ use lib.ListN.{length}
 use lib.Seq.{length-take-le}
 use Rattle.operands.specs.Bytes.{second}
 use Rattle.scanner.specs.Expression.{Labels-read, labels-read}
-use Rattle.checker.specs.Count.{refused-before, too-large-read, read-counted}
+use Rattle.checker.specs.Counted.{refused-before, too-large-read, read-counted}
 use borrow.Author.Needs.{needs}
 use Rattle.checker.proofs.count.count_second.Statement.{statement}
 use Rattle.checker.proofs.count.count_second.Tie as tie

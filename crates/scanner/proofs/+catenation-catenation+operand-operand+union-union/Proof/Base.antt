@@ -17,7 +17,11 @@ use Rattle.scanner.proofs.union.union.Kinds as union-kinds
 use Rattle.scanner.proofs.+catenation-catenation+operand-operand+union-union.Lts-union-union as union-lts
 use Rattle.signs.proofs.single.single.Reads as single-reads
 use Rattle.signs.proofs.signs.signs.Reads as signs-reads
-use Rattle.repeats.proofs.copies.put_note.Reads as put-note-reads
+use Rattle.scanner.proofs.join.put_join.Reads as put-join-reads
+use Rattle.scanner.proofs.catenation.operand_due.Reads as operand-due-reads
+use Rattle.scanner.proofs.union.branch_due.Reads as branch-due-reads
+use Rattle.scanner.proofs.union.branch_begin.Reads as branch-begin-reads
+use Rattle.scanner.proofs.operand.sign_follows.Reads as sign-follows-reads
 
 abbrev pub μ-operand : Measures 2 operand-kinds.ps ℕ
 μ-operand κs a = 3 * (length (a .0 .now) - a .1 .0) + 0
@@ -58,12 +62,30 @@ operand-claims t = (
   signs-reads.Learnt,
   single-reads.Asked,
   single-reads.Learnt,
+  sign-follows-reads.Pre,
+  sign-follows-reads.Post,
 )
 
 -- what `catenation` knows of those that it calls
 abbrev pub catenation-claims : ℕ → catenation-lts.Claims
-catenation-claims t = (operand-below t, operand.Post, put-note-reads.Asked, put-note-reads.Learnt)
+catenation-claims t = (
+  operand-due-reads.Pre,
+  operand-due-reads.Post,
+  operand-below t,
+  operand.Post,
+  put-join-reads.Pre,
+  put-join-reads.Post,
+)
 
 -- what `union` knows of those that it calls
 abbrev pub union-claims : ℕ → union-lts.Claims
-union-claims t = (catenation-below t, catenation.Post, put-note-reads.Asked, put-note-reads.Learnt)
+union-claims t = (
+  branch-due-reads.Pre,
+  branch-due-reads.Post,
+  branch-begin-reads.Pre,
+  branch-begin-reads.Post,
+  catenation-below t,
+  catenation.Post,
+  put-join-reads.Pre,
+  put-join-reads.Post,
+)

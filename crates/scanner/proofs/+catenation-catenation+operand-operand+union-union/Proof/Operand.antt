@@ -7,6 +7,7 @@ use Rattle.operands.specs.Grammar.{starred, united}
 use Rattle.operands.specs.Surroundings.{fails-end, fails-deep, fails-group, fails-open}
 use Rattle.operands.specs.Reading.{Whole, Read-up-to}
 use Rattle.operands.specs.ReadingLaws.{went-group, then-signs}
+use Rattle.scanner.specs.RoundsLaws.{no-sign-stops}
 use Rattle.scanner.proofs.operand.operand.Reads as operand
 use Rattle.scanner.proofs.+catenation-catenation+operand-operand+union-union.Lts-operand-operand as lts
 use Rattle.scanner.proofs.+catenation-catenation+operand-operand+union-union.Proof.Base.{
@@ -151,12 +152,25 @@ returns-6 t c =
     let r = rw e at (c .before .before .before .before .single .ensures) in
     rw e (r .fails _)
 
+pub sign-follows-requires : (t : ℕ) → lts.Need-sign-follows-requires (operand-claims t) (operand-at t) operand.Post
+sign-follows-requires t c κs = let r = single-read t c in omega arith
+
 pub signs-requires-2 : (t : ℕ) → lts.Need-signs-requires-2 (operand-claims t) (operand-at t) operand.Post
-signs-requires-2 t c κs = let r = single-read t (c .before) in omega arith
+signs-requires-2 t c κs = let r = single-read t (c .before .before .before) in omega arith
 
 pub same-length-5 : (t : ℕ) → lts.Need-same-length-5 (operand-claims t) (operand-at t) operand.Post
 same-length-5 t c = search needs
 
 pub returns-7 : (t : ℕ) → lts.Need-returns-7 (operand-claims t) (operand-at t) operand.Post
 returns-7 t c = then-signs (c .before .before .signs2 .last .1 .1 .0) (c .before .before .signs2 .result)
-    (single-read t (c .before .before .before .before)) (c .before .before .signs2 .ensures)
+    (single-read t (c .before .before .before .before .before .before)) (c .before .before .signs2 .ensures)
+
+pub same-length-6 : (t : ℕ) → lts.Need-same-length-6 (operand-claims t) (operand-at t) operand.Post
+same-length-6 t c = search needs
+
+pub returns-8 : (t : ℕ) → lts.Need-returns-8 (operand-claims t) (operand-at t) operand.Post
+returns-8 t c =
+    record {
+      went = single-read t (c .before .before);
+      stops = no-sign-stops _ (c .before .sign-follows .ensures) (c .if5 .left);
+    }

@@ -7,10 +7,10 @@ use Rattle.storing.proofs.class_records.class_values.Statement.{stateme
 use Rattle.storing.proofs.class_records.class_values.Tie as tie
 
 -- where the members were filled for the dot, and where the call began
-abbrev filled : tie.After-put-arg → tie.After-fill
+abbrev filled : tie.After-set-range-arg → tie.After-set-all
 filled c = c .before .before .before
 
-abbrev dot-found : tie.After-fill → tie.Then1
+abbrev dot-found : tie.After-set-all → tie.Then1
 dot-found c = c .before .before
 
 abbrev entry : tie.After-shared-slice-known2 → tie.Start
@@ -20,13 +20,13 @@ shared-slice-read-if1 : tie.Need-shared-slice-read-if1
 shared-slice-read-if1 c =
     let s = entry c in inside-at (s .args .expr .now) (s .args .at) (s .pre .0)
 
-fill-requires : tie.Need-fill-requires
-fill-requires c κs = search needs
+set-all-requires : tie.Need-set-all-requires
+set-all-requires c κs = search needs
 
-put-requires : tie.Need-put-requires
-put-requires c κs =
+set-range-requires : tie.Need-set-range-requires
+set-range-requires c κs =
     let f = filled c in
-    let s = entry (dot-found f .before) in (omega arith, omega (arith, f .fill .kept .0, s .pre .1))
+    let s = entry (dot-found f .before) in (omega arith, omega (arith, f .set-all .kept .0, s .pre .1))
 
 same-length : tie.Need-same-length
 same-length c = search needs
@@ -38,9 +38,9 @@ returns c =
     let dot = dot-found f in
     let s = entry (dot .before) in
     rw (dot-at (s .args .expr .now) (s .args .at) (dot .if1 .taken))
-    (dot-members (f .fill .last .0) (p .put .last .0) (f .fill .kept .0
-    ∙ s .pre .1) (f .fill .ensures) (p .put .kept .0)
-    (p .put .ensures))
+    (dot-members (f .set-all .last .0) (p .set-range .last .0) (f .set-all .kept .0
+    ∙ s .pre .1) (f .set-all .ensures) (p .set-range .kept .0)
+    (p .set-range .ensures))
 
 class-members-requires : tie.Need-class-members-requires
 class-members-requires c κs =
@@ -60,5 +60,6 @@ returns-2 c =
 
 pub class-values-spec : {M : Type 1} → statement M
 class-values-spec =
-    tie.close (tie.spec shared-slice-read-if1 fill-requires put-requires same-length returns class-members-requires
+    tie.close (tie.spec shared-slice-read-if1 set-all-requires set-range-requires same-length returns
+    class-members-requires
     same-length-2 returns-2)

@@ -1,4 +1,5 @@
--- `storing::class_records::number_classes` meets its contract. The loop's invariant: the labels before `i` are numbered.
+-- `storing::class_records::number_classes` meets its contract. The loop's invariant: the labels before `i` are
+-- numbered.
 use Prim.Native.Nat.{ℕ, _-_, _≤_}
 use mathlib.Core.Path.{_≡_, refl, _∙_}
 use native.Mathlib.Omega.{arith}

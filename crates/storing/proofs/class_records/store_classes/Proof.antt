@@ -1,5 +1,5 @@
--- `storing::class_records::store_classes` meets its contract. The loop's invariant: the class records of the labels before `i`
--- are stored.
+-- `storing::class_records::store_classes` meets its contract. The loop's invariant: the class records of the labels
+-- before `i` are stored.
 use Prim.Native.Nat.{ℕ, _-_, _≤_}
 use mathlib.Core.Path.{_≡_, refl, _∙_}
 use native.Mathlib.Omega.{arith}

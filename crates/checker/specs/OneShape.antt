@@ -11,35 +11,36 @@ use Rattle.checker.specs.Drawn.{classes-in, recorded, recorded-from}
 use Rattle.operands.specs.LeavesPlaced.{written-at}
 
 -- two trees of one shape
-pub data Alike {A B : Type 0} : Tree A → Tree B → Type 0 where
-  leaves : {a : A} {b : B} → Alike (leaf a) (leaf b)
-  catenations : {s t : Tree A} {u v : Tree B} → Alike s u → Alike t v → Alike (catenation s t) (catenation u v)
-  unions : {s t : Tree A} {u v : Tree B} → Alike s u → Alike t v → Alike (union s t) (union u v)
-  stars : {s : Tree A} {u : Tree B} → Alike s u → Alike (star s) (star u)
+pub data One-shape {A B : Type 0} : Tree A → Tree B → Type 0 where
+  leaves : {a : A} {b : B} → One-shape (leaf a) (leaf b)
+  catenations : {s t : Tree A} {u v : Tree B} → One-shape s u → One-shape t v
+      → One-shape (catenation s t) (catenation u v)
+  unions : {s t : Tree A} {u v : Tree B} → One-shape s u → One-shape t v → One-shape (union s t) (union u v)
+  stars : {s : Tree A} {u : Tree B} → One-shape s u → One-shape (star s) (star u)
 
 -- the nodes
-pub alike-nodes : {A B : Type 0} {s : Tree A} {t : Tree B} → Alike s t → nodes s ≡ nodes t
+pub alike-nodes : {A B : Type 0} {s : Tree A} {t : Tree B} → One-shape s t → nodes s ≡ nodes t
 alike-nodes leaves = refl
 alike-nodes (catenations p q) = rw (alike-nodes p, alike-nodes q)
 alike-nodes (unions p q) = rw (alike-nodes p, alike-nodes q)
 alike-nodes (stars p) = rw (alike-nodes p)
 
 -- the open sizes
-alike-open : {A B : Type 0} {s : Tree A} {t : Tree B} → Alike s t → open-size s ≡ open-size t
+pub alike-open : {A B : Type 0} {s : Tree A} {t : Tree B} → One-shape s t → open-size s ≡ open-size t
 alike-open leaves = refl
 alike-open (catenations p q) = rw (alike-open p, alike-open q)
 alike-open (unions p q) = rw (alike-open p, alike-open q)
 alike-open (stars p) = rw (alike-open p)
 
 -- the cut edges
-alike-cuts : {A B : Type 0} {s : Tree A} {t : Tree B} → Alike s t → cuts s (wanted s) ≡ cuts t (wanted t)
+pub alike-cuts : {A B : Type 0} {s : Tree A} {t : Tree B} → One-shape s t → cuts s (wanted s) ≡ cuts t (wanted t)
 alike-cuts leaves = refl
 alike-cuts (catenations p q) = rw (alike-open p, alike-open q, alike-cuts p, alike-cuts q)
 alike-cuts (unions p q) = rw (alike-open p, alike-open q, alike-cuts p, alike-cuts q)
 alike-cuts (stars p) = rw (alike-open p, alike-cuts p)
 
 -- the tree of the records has the shape of the written one
-recorded-alike : (t : Tree Atom) (next : ℕ) → Alike t (recorded-from t next)
+pub recorded-alike : (t : Tree Atom) (next : ℕ) → One-shape t (recorded-from t next)
 recorded-alike (leaf (literal b)) next = leaves
 recorded-alike (leaf (one-of class)) next = leaves
 recorded-alike (leaf no-text) next = leaves
@@ -48,7 +49,7 @@ recorded-alike (union s t) next = unions (recorded-alike s next) (recorded-alike
 recorded-alike (star s) next = stars (recorded-alike s next)
 
 -- and so has the tree with places
-written-alike : (bytes : List ℕ) (p : Tree Leaf) → Alike p (written-at bytes p)
+pub written-alike : (bytes : List ℕ) (p : Tree Leaf) → One-shape p (written-at bytes p)
 written-alike bytes (leaf (character b)) = leaves
 written-alike bytes (leaf (Leaf.class at)) = leaves
 written-alike bytes (leaf Leaf.empty-text) = leaves

@@ -23,8 +23,8 @@ use Rattle.checker.specs.Expanded.{expansion, expanded-for, expanded}
 use Rattle.checker.specs.ExpandedLaws.{expanded-small, expanded-large, form-first}
 use Rattle.checker.specs.Drawn.{classes-in, recorded}
 use Rattle.operands.specs.LeavesPlaced.{written-at, Leaves-placed}
-use Rattle.checker.specs.Alike.{nodes-placed, nodes-recorded, pieces-placed}
-use Rattle.checker.specs.Relabelled.{class-labels, classes-counted, class-labels-le}
+use Rattle.checker.specs.OneShape.{nodes-placed, nodes-recorded, pieces-placed}
+use Rattle.checker.specs.Relabelled.{class-labels, classes-counted}
 use Rattle.scanner.specs.Expression.{Labels-read, Expression-refused}
 use Rattle.checker.specs.Checked.{
   Counted-numbers,
@@ -85,23 +85,18 @@ pub record Reading-counted (syntax : Syntax) (bytes later : List ℕ) (records p
   pub bounded : records ≤ most-labels
   pub numbers : counted-numbers (Counted records pieces classes) ≡ checked-for (expanded syntax bytes)
 
--- the same of the first syntax, whatever the count of classes
-pub record First-counted (bytes later : List ℕ) (records pieces : ℕ) : Type 0 where
-  pub classes : ℕ
-  pub counts : Reading-counted first bytes later records pieces classes
-
 -- the expression is refused
 pub record Reading-refused (syntax : Syntax) (bytes : List ℕ) (number place : ℕ) : Type 0 where
   pub numbers : refusing-counts number place ≡ checked-for (expanded syntax bytes)
 
 -- what reading and counting answers
-abbrev pub Count-answer : Syntax → (bytes later : List ℕ) → CountedAnswer → Type 0
-Count-answer syntax bytes later (Counted records pieces classes) =
+abbrev pub Check-answer : Syntax → (bytes later : List ℕ) → CountedAnswer → Type 0
+Check-answer syntax bytes later (Counted records pieces classes) =
     Reading-counted syntax bytes later records pieces classes
-Count-answer syntax bytes later (Refused number place) = Reading-refused syntax bytes number place
+Check-answer syntax bytes later (Refused number place) = Reading-refused syntax bytes number place
 
 -- it is a check
-pub count-checks : (syntax : Syntax) (bytes later : List ℕ) (r : CountedAnswer) → Count-answer syntax bytes later r
+pub count-checks : (syntax : Syntax) (bytes later : List ℕ) (r : CountedAnswer) → Check-answer syntax bytes later r
     → counted-numbers r ≡ checked-for (expanded syntax bytes)
 count-checks syntax bytes later (Counted records pieces classes) a = a .numbers
 count-checks syntax bytes later (Refused number place) a = a .numbers
@@ -144,7 +139,7 @@ first-bounded {bytes} w =
 -- what was read is counted
 pub read-counted : {syntax : Syntax} {bytes later : List ℕ} {total : ℕ} (r : CountedAnswer)
     → Labels-read syntax bytes later total → total ≤ most-labels → (ls : List ℕ) → ls ≡ take total later
-    → length ls ≡ total → Labels-counted ls r → Count-answer syntax bytes later r
+    → length ls ≡ total → Labels-counted ls r → Check-answer syntax bytes later r
 read-counted {syntax} {bytes} {later} {total} (Counted records pieces classes) w few ls e long a =
     let p = w .read in
     let same : ls ≡ labels p = e ∙ w .written few in
@@ -196,19 +191,3 @@ pub counts-are : {syntax : Syntax} {bytes later : List ℕ} {records pieces clas
 counts-are {syntax} {bytes} {later} {records} {pieces} {classes} c =
     counts-pick (written-at bytes (c .read)) records pieces classes (too-many (written-at bytes (c .read))) refl
     (c .numbers ∙ ap checked-for (c .scans))
-
--- there are no more classes than records
-pub classes-bounded : {syntax : Syntax} {bytes later : List ℕ} {records pieces classes : ℕ}
-    → Reading-counted syntax bytes later records pieces classes → classes ≤ records
-classes-bounded {bytes = bytes} c =
-    let counts = counts-are c in
-    let p = c .read in
-    omega (
-      arith,
-      counts .counted,
-      counts .classed,
-      classes-counted bytes p,
-      class-labels-le (labels p),
-      length-labels p,
-      nodes-placed bytes p,
-    )
