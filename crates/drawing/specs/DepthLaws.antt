@@ -7,7 +7,7 @@ use lib.Dec.{ltb, eqb}
 use borrow.Author.Tests.{lt-ltb, le-ltb, eq-eqb, ne-eqb}
 use Rattle.tree.specs.Layout.{class-kind, kind-at, left-at, right-at}
 use Rattle.tree.specs.Limits.{most-records}
-use Rattle.drawing.specs.Depth.{most-level, untold, level, told-children}
+use Rattle.record_line.specs.Depth.{most-level, untold, level, told-children}
 
 module _ (table : List ℕ) (i : ℕ) where
   -- a record that lies deeper than is drawn

@@ -7,8 +7,8 @@ use lib.Dec.{eqb}
 use Rattle.tree.specs.Layout.{piece-at}
 use Rattle.operands.specs.Text.{bytes}
 use Rattle.showing.specs.Shown.{shown}
-use Rattle.drawing.specs.Depth.{untold, level, told-children}
-use Rattle.drawing.specs.Node.{record-line}
+use Rattle.record_line.specs.Depth.{untold, level, told-children}
+use Rattle.record_line.specs.Node.{record-line}
 use Rattle.drawing.specs.Marks.{marks}
 
 -- an empty line where a piece is not that of the line above

@@ -11,9 +11,9 @@ use Rattle.tree.specs.Limits.{most-records}
 use Rattle.operands.specs.Text.{bytes}
 use Rattle.printing.specs.Printing.{Prints}
 use Rattle.printing.specs.PrintingLaws.{prints-join, prints-none}
-use Rattle.drawing.specs.Depth.{untold, level, told-children}
-use Rattle.drawing.specs.Node.{record-line, most-line}
-use Rattle.drawing.specs.NodeLaws.{Of-bytes, line-length}
+use Rattle.record_line.specs.Depth.{untold, level, told-children}
+use Rattle.record_line.specs.Node.{record-line, most-line}
+use Rattle.record_line.specs.NodeLaws.{All-bytes, line-length}
 use Rattle.drawing.specs.Drawing.{gap, lines-below, record-lines}
 
 -- no line for no records
@@ -37,7 +37,8 @@ gap-length above piece = go (eqb above piece)
     go false = omega arith
 
 -- what is printed so far, and the lines still to come, are all lines
-pub record So-far (whole before : List ℕ) (at : ℕ) (list table : List ℕ) (above i : ℕ) (after : List ℕ) (next : ℕ) :
+pub record Drawn-so-far (whole before : List ℕ) (at : ℕ) (list table : List ℕ) (above i : ℕ) (after : List ℕ)
+    (next : ℕ) :
     Type 0 where
   pub done : List ℕ
   pub prints : Prints before at done after next
@@ -45,7 +46,7 @@ pub record So-far (whole before : List ℕ) (at : ℕ) (list table : List ℕ) (
 
 -- nothing is printed yet
 pub so-far-none : (before : List ℕ) (at : ℕ) (list table : List ℕ) (records : ℕ) → table ≡ untold → at ≤ length before
-    → So-far (record-lines list records) before at list table 0 records before at
+    → Drawn-so-far (record-lines list records) before at list table 0 records before at
 so-far-none before at list table records e h = record {
   done = [];
   prints = prints-none before at h;
@@ -63,10 +64,10 @@ lines-are list table above i piece depth told e f g = rw (g, f, e) (sym (lines-n
 pub so-far-next : {whole before : List ℕ} {at : ℕ} {list table : List ℕ} {above records : ℕ} {after : List ℕ}
     {next : ℕ} (i piece depth : ℕ) {told : List ℕ} → records ≡ suc i → piece ≡ piece-at list i
     → depth ≡ level table i → told ≡ told-children list table i depth
-    → So-far whole before at list table above records after next
+    → Drawn-so-far whole before at list table above records after next
     → {middle last : List ℕ} {begun end : ℕ} → Prints after next (gap above piece) middle begun
     → Prints middle begun (record-line list i depth) last end
-    → So-far whole before at list told piece i last end
+    → Drawn-so-far whole before at list told piece i last end
 so-far-next {list = list} {table = table} {above = above} i piece depth {told} last-is e f g so p q = record {
   done = so .done ++ (gap above piece ++ record-line list i depth);
   prints = prints-join (so .prints) (prints-join p q);
@@ -78,7 +79,7 @@ so-far-next {list = list} {table = table} {above = above} i piece depth {told} l
 
 -- all lines are printed
 pub so-far-done : {whole before : List ℕ} {at : ℕ} {list table : List ℕ} {above i : ℕ} {after : List ℕ} {next : ℕ}
-    → i ≡ 0 → So-far whole before at list table above i after next → Prints before at whole after next
+    → i ≡ 0 → Drawn-so-far whole before at list table above i after next → Prints before at whole after next
 so-far-done {list = list} {table = table} {above = above} e so =
     let all : so .done ≡ _ =
     sym (append-nil (so .done)) ∙ ap (λ (rest : List ℕ). so .done ++ rest) (sym (lines-none list table above))

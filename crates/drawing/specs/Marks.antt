@@ -5,7 +5,7 @@ use mathlib.Core.List.{List, [], _∷_, _++_}
 use lib.ListN.{getD}
 use lib.Dec.{eqb}
 use Rattle.tree.specs.Layout.{place-at}
-use Rattle.showing.specs.Shown.{width, spaces}
+use Rattle.showing.specs.Shown.{shown-width, spaces}
 
 -- whether one of the first records has this place
 unfoldable pub placed : (list : List ℕ) (records place : ℕ) → Bool
@@ -18,7 +18,7 @@ mark list records place = cond (placed list records place) 94 32
 
 -- a mark under a byte, as wide as that byte is shown
 unfoldable pub mark-at : (marked byte : ℕ) → List ℕ
-mark-at marked byte = marked ∷ spaces (width byte - 1)
+mark-at marked byte = marked ∷ spaces (shown-width byte - 1)
 
 -- the marks under the first bytes of a rule
 unfoldable pub marks : (rule list : List ℕ) (records count : ℕ) → List ℕ

@@ -8,10 +8,10 @@ use lib.ListN.{length, getD, length-append}
 use lib.Dec.{eqb}
 use borrow.Author.Tests.{eq-eqb, ne-eqb}
 use Rattle.tree.specs.Layout.{place-at}
-use Rattle.showing.specs.Shown.{width, spaces}
+use Rattle.showing.specs.Shown.{shown-width, spaces}
 use Rattle.showing.specs.ShownLaws.{spaces-length}
 use Rattle.drawing.specs.Marks.{placed, mark, mark-at, marks}
-use Rattle.drawing.specs.NodeLaws.{wide}
+use Rattle.record_line.specs.NodeLaws.{wide}
 
 module _ (list : List ℕ) (place : ℕ) where
   -- no record is left
@@ -41,15 +41,15 @@ module _ (list : List ℕ) (records place : ℕ) where
   mark-none e = rw e refl
 
 -- a mark and the spaces after it
-pub mark-is : (marked byte columns : ℕ) → columns ≡ width byte
+pub mark-is : (marked byte columns : ℕ) → columns ≡ shown-width byte
     → mark-at marked byte ≡ (marked ∷ []) ++ spaces (columns - 1)
 unfolding mark-at
 mark-is marked byte columns e = ap (λ (n : ℕ). marked ∷ spaces (n - 1)) (sym e)
 
 -- a mark is as wide as its byte
-pub mark-length : (marked byte : ℕ) → length (mark-at marked byte) ≡ width byte
+pub mark-length : (marked byte : ℕ) → length (mark-at marked byte) ≡ shown-width byte
 unfolding mark-at
-mark-length marked byte = omega (arith, spaces-length (width byte - 1), wide byte .some)
+mark-length marked byte = omega (arith, spaces-length (shown-width byte - 1), wide byte .some)
 
 module _ (rule list : List ℕ) (records : ℕ) where
   -- no mark, and one more

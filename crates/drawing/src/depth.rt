@@ -8,7 +8,7 @@ ghost use mathlib.Core.Path.{_≡_};
 ghost use lib.ListN.{length, set};
 ghost use Rattle.tree.specs.Layout.{record-size};
 ghost use Rattle.tree.specs.Limits.{most-records};
-ghost use Rattle.drawing.specs.Depth.{most-level, level, told-children};
+ghost use Rattle.record_line.specs.Depth.{most-level, level, told-children};
 
 // A line is indented by so many levels at most.
 const MOST_LEVEL: usize = 20;

@@ -1,14 +1,12 @@
 // A rule and its records drawn: the rule, a mark under each place that made a node, and a line for each record.
 pub mod depth;
-pub mod line;
 pub mod marks;
-pub mod node;
 
 use depth::level;
 use depth::tell_children;
-use line::put_line;
 use marks::put_marks;
 use printing::print::put;
+use record_line::line::put_line;
 use showing::bytes::put_shown;
 use tree::layout::piece_at;
 use tree::limits::MOST_RECORDS;
@@ -18,7 +16,7 @@ ghost use lib.ListN.{length};
 ghost use Rattle.tree.specs.Layout.{record-size};
 ghost use Rattle.tree.specs.Limits.{longest-expression, most-records};
 ghost use Rattle.printing.specs.Printing.{Prints};
-ghost use Rattle.drawing.specs.Node.{most-line};
+ghost use Rattle.record_line.specs.Node.{most-line};
 ghost use Rattle.drawing.specs.Drawing.{gap, record-lines, drawing, most-drawn};
 
 // Prints an empty line where a piece is not that of the line above.

@@ -1,6 +1,6 @@
 // The marks under the places that made a node.
 use showing::bytes::put_spaces;
-use showing::bytes::width;
+use showing::bytes::shown_width;
 use tree::layout::place_at;
 ghost use Prim.Native.Nat.{_+_, _*_, _≤_, _<_};
 ghost use mathlib.Core.Path.{_≡_};
@@ -45,7 +45,7 @@ fn put_mark(out: &mut [u8], at: usize, byte: u8, marked: u8) -> usize
     requires { ⌜ at + 4 ≤ length (now out) ⌝ }
     ensures { λ r. ⌜ Prints (now (out .entry)) at (mark-at marked byte) (now (out .exit)) r ⌝ }
 {
-    let columns = width(byte);
+    let columns = shown_width(byte);
     out[at] = marked;
     put_spaces(out, at + 1, columns - 1)
 }

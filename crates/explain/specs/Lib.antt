@@ -1,3 +1,2 @@
 -- What the program's own functions ask and promise.
 pub mod Space
-pub mod ReadWithin

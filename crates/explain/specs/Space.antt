@@ -3,9 +3,9 @@ use Prim.Native.Nat.{ℕ}
 use mathlib.Core.Path.{_≡_}
 use mathlib.Core.List.{List}
 use lib.ListN.{length}
-use Rattle.printing.specs.Print.{too-long-line}
+use Rattle.printing.specs.ReportLines.{too-long-line}
 use Rattle.explaining.specs.Explained.{explained}
 
 -- for what fills the buffer, all that is printed is that it is too long
-pub record Space (buffer : List ℕ) : Type 0 where
+pub record Explain-space (buffer : List ℕ) : Type 0 where
   pub too-long : (input : List ℕ) → length input ≡ length buffer → explained input ≡ too-long-line

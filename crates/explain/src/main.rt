@@ -1,60 +1,10 @@
 // Reads standard input, and writes what the rule on its first line is read as.
 use explaining::Explained;
 use explaining::MOST_EXPLAINED;
-use libc::EINTR;
-use libc::STDIN_FILENO;
 use libc::STDOUT_FILENO;
-ghost use Rattle.explain.specs.Space.{Space};
-ghost use Rattle.explain.specs.ReadWithin.{Read-within};
-
-// What reading the input comes to.
-enum Input {
-    // So many bytes were read: up to the input's end, or as many as there is space for.
-    Read { count: usize },
-    // A read failed.
-    Failed,
-}
-
-// So many times a read is tried at most, so that the program ends however often it is interrupted.
-const MOST_TRIES: usize = 1000000;
-
-// Whether this is the answer of a read that a signal interrupted.
-fn interrupted(got: isize) -> bool {
-    got < 0 && os::errno() == EINTR
-}
-
-// One read of standard input; a read that a signal interrupted is tried again.
-fn read_part(part: &mut [u8]) -> isize {
-    let mut got = libc::read(STDIN_FILENO, part);
-    let mut tries = 1;
-    while tries < MOST_TRIES {
-        if !interrupted(got) {
-            break;
-        }
-        got = libc::read(STDIN_FILENO, part);
-        tries += 1;
-    }
-    got
-}
-
-// Reads standard input, which may come in many parts, into a buffer.
-fn read_input(input: &mut [u8]) -> Input
-    ensures { λ r. ⌜ Read-within (now (input .exit)) r ⌝ }
-{
-    let mut count = 0;
-    while count < input.len() {
-        let got = read_part(&mut input[count..]);
-        if got < 0 {
-            return Input::Failed;
-        }
-        let more = io::count(got, &input[count..]);
-        if more == 0 {
-            break;
-        }
-        count += more;
-    }
-    Input::Read { count }
-}
+use streams::Input;
+use streams::read_input;
+ghost use Rattle.explain.specs.Space.{Explain-space};
 
 // Writes the output for an input, by way of a buffer that is long enough for every output.
 fn write_output(input: &[u8], output: &mut [u8]) {
@@ -69,7 +19,7 @@ fn write_output(input: &[u8], output: &mut [u8]) {
 
 // Reads the input, and writes the output for it; a read or a write that fails is told on standard error.
 fn run(input: &mut [u8], output: &mut [u8; MOST_EXPLAINED])
-    requires space { ⌜ Space (now input) ⌝ }
+    requires space { ⌜ Explain-space (now input) ⌝ }
 {
     let read = read_input(input);
     let Input::Read { count } = read else {

@@ -15,9 +15,9 @@ use Rattle.checker.specs.Expanded.{expanded}
 use Rattle.checker.specs.Drawn.{recorded}
 use Rattle.checker.specs.Checked.{too-many}
 use Rattle.reader.specs.PlacesIn.{places-in}
-use Rattle.printing.specs.Limits.{longest-input}
+use Rattle.printing.specs.OutputLimits.{longest-input}
 use Rattle.input.specs.Lines.{lines, expression}
-use Rattle.printing.specs.Print.{too-long-line}
+use Rattle.printing.specs.ReportLines.{too-long-line}
 use Rattle.showing.specs.Refusal.{refusal-lines}
 use Rattle.drawing.specs.Drawing.{drawing, most-drawn}
 

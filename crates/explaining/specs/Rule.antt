@@ -24,14 +24,14 @@ use Rattle.checker.specs.DrawnLaws.{class-count-recorded}
 use Rattle.checker.specs.Checked.{Counted-numbers, refusing-counts, counting, too-many}
 use Rattle.reader.specs.SecondAnswer.{too-short, too-few-classes, pick-stored, second-answer-for, second-answered}
 use Rattle.reader.specs.SecondKept.{Second-kept}
-use Rattle.printing.specs.Limits.{longest-input}
+use Rattle.printing.specs.OutputLimits.{longest-input}
 use Rattle.input.specs.Lines.{lines, expression}
-use Rattle.printing.specs.Print.{too-long-line}
+use Rattle.printing.specs.ReportLines.{too-long-line}
 use Rattle.printing.specs.Printing.{Prints, printed}
 use Rattle.showing.specs.Refusal.{most-shown, refusal-lines, lent-refusal}
 use Rattle.drawing.specs.Drawing.{drawing}
 use Rattle.explaining.specs.Explained.{most-explained, records-of, explained-for, explained-rule, explained}
-use Rattle.explaining.specs.Promise.{Wrote, Explains}
+use Rattle.explaining.specs.Promise.{Explanation-written, Explains}
 use Rattle.explaining.specs.declared.Explained.{Explained}
 use Rattle.explaining.specs.declared.Explained.the-variants.{Written}
 
@@ -101,7 +101,7 @@ pub lent-long : (room : ℕ) (rule : List ℕ) (number place : ℕ) → most-exp
 lent-long room rule number place h = rw (le-ltb room most-shown (omega arith)) refl
 
 -- what is known of a rule that was read
-pub record Read (rule list : List ℕ) (records : ℕ) : Type 0 where
+pub record Rule-read (rule list : List ℕ) (records : ℕ) : Type 0 where
   pub few : records ≤ most-records
   pub short : length rule ≤ longest-expression
   pub drawn : explained-rule rule ≡ drawing rule list records
@@ -109,7 +109,7 @@ pub record Read (rule list : List ℕ) (records : ℕ) : Type 0 where
 -- where reading answers that the records were written, they are drawn
 pub read-rule : {rule before classes-before after classes-after : List ℕ} {records pieces classes : ℕ}
     → Second-kept rule before classes-before after classes-after records pieces classes
-    → Read rule (take (record-size * records) after) records
+    → Rule-read rule (take (record-size * records) after) records
 unfolding explained-rule
 read-rule {rule} {records = records} kept =
     let t = kept .read in
@@ -124,7 +124,7 @@ read-rule {rule} {records = records} kept =
 
 -- an output printed at the front is all that is promised
 pub wrote : {input before after : List ℕ} {size : ℕ} → most-explained ≤ length before
-    → Prints before 0 (explained input) after size → Wrote input before after size
+    → Prints before 0 (explained input) after size → Explanation-written input before after size
 unfolding printed
 wrote {input} {before} {after} {size} room p = record {
   room = room;
@@ -147,5 +147,5 @@ explained-short input h = rw (le-ltb longest-input (length input) h) refl
 pub written-within : (input before after : List ℕ) (r : Explained) (size : ℕ) → Explains input before after r
     → r ≡ Written size → size ≤ length before
 written-within input before after r size p e =
-    let w : Wrote input before after size = subst (Explains input before after) e p in
+    let w : Explanation-written input before after size = subst (Explains input before after) e p in
     w .inside

@@ -9,11 +9,10 @@ use native.Mathlib.Omega.{arith}
 use lib.ListN.{length, getD, take, drop, drop-of-length-le, length-drop, take-append-drop}
 use lib.Dec.{eqb}
 use borrow.Author.Tests.{eqb-true, ne-eqb}
-use lib.Seq.{take-nil, take-add, take-all, drop-at, drop-drop, drop-append-le, length-take-le}
-use Rattle.matching.specs.Found.{part}
-use Rattle.matching.specs.PartLaws.{part-length}
+use lib.Seq.{take-nil, take-add, take-all, drop-at, drop-drop, drop-append-le, length-take-le, length-slice}
+use Rattle.input.specs.Part.{part}
 use Rattle.input.specs.Lines.{begins-end, lines, expression, texts}
-use Rattle.input.specs.Ends.{end-size, Ends, after}
+use Rattle.input.specs.Ends.{end-size, Ends, after-end}
 use Rattle.input.specs.LineLaws.{lines-end, lines-ended, lines-last}
 
 -- the end at a place, by the byte there and the next one
@@ -65,7 +64,7 @@ end-within (b ∷ c ∷ rest) = go (eqb b 10) (begins-end b (c ∷ rest))
     go false false = omega arith
 
 -- so the place after it lies within the input
-pub after-inside : (input : List ℕ) (end : ℕ) → end ≤ length input → after input end ≤ length input
+pub after-inside : (input : List ℕ) (end : ℕ) → end ≤ length input → after-end input end ≤ length input
 after-inside input end h = omega (arith, end-within (drop end input), length-drop end input)
 
 -- no line is left at the end of the input
@@ -86,7 +85,7 @@ module _ (input : List ℕ) (start end : ℕ) (e : Ends input start end) where
   unbroken-from i h = rw (drop-drop i start input) (e .unbroken (start + i) (omega arith) (omega arith))
 
   -- a line takes a byte
-  pub after-start : start < length input → start < after input end
+  pub after-start : start < length input → start < after-end input end
   after-start some =
       elim (decLt end (length input)) [
         | yes h ↦ omega (arith, e .ordered, e .stops h)
@@ -95,18 +94,18 @@ module _ (input : List ℕ) (start end : ℕ) (e : Ends input start end) where
 
   -- a place before the end of the input begins a line
   pub line-at : start < length input → lines (drop start input)
-      ≡ part start end input ∷ lines (drop (after input end) input)
+      ≡ part start end input ∷ lines (drop (after-end input end) input)
   line-at some =
       elim (decLt end (length input)) [
         | yes h ↦
             rw split
             (lines-ended (part start end input) (drop end input)
-            (λ i k. rw (← split) (unbroken-from i (omega (arith, part-length start end input (e .inside)))))
+            (λ i k. rw (← split) (unbroken-from i (omega (arith, length-slice start end input (e .inside)))))
             (lines-end (drop end input) (e .stops h)
             ∙ ap (λ (left : List ℕ). [] ∷ lines left) (drop-drop (end-size (drop end input)) end input)))
         | no h ↦
             let all : part start end input ≡ drop start input = ap (drop start) (take-all end input (omega arith)) in
-            rw (all, lines-none input (after input end) (omega arith))
+            rw (all, lines-none input (after-end input end) (omega arith))
             (lines-last (drop start input) (omega (arith, length-drop start input))
             (λ i k. unbroken-from i (omega (arith, length-drop start input))))
       ]
@@ -114,12 +113,12 @@ module _ (input : List ℕ) (start end : ℕ) (e : Ends input start end) where
 -- the input's first line is the expression, and the texts are the lines left after it
 pub record First-line (input : List ℕ) (end : ℕ) : Type 0 where
   pub is-expression : expression (lines input) ≡ part 0 end input
-  pub are-texts : texts (lines input) ≡ lines (drop (after input end) input)
+  pub are-texts : texts (lines input) ≡ lines (drop (after-end input end) input)
 
 pub first-line : (input : List ℕ) (end : ℕ) → Ends input 0 end → First-line input end
 unfolding lines
 first-line [] end e =
-    record { is-expression = sym (take-nil end); are-texts = sym (lines-none [] (after [] end) (omega arith)) }
+    record { is-expression = sym (take-nil end); are-texts = sym (lines-none [] (after-end [] end) (omega arith)) }
 first-line (b ∷ rest) end e =
     let here = line-at (b ∷ rest) 0 end e (omega arith) in
     record { is-expression = ap expression here; are-texts = ap texts here }

@@ -20,5 +20,5 @@ pub record Ends (input : List ℕ) (start end : ℕ) : Type 0 where
   pub stops : end < length input → 0 < end-size (drop end input)
 
 -- the place after the end
-abbrev pub after : (input : List ℕ) (end : ℕ) → ℕ
-after input end = end + end-size (drop end input)
+abbrev pub after-end : (input : List ℕ) (end : ℕ) → ℕ
+after-end input end = end + end-size (drop end input)

@@ -1,4 +1,5 @@
 -- The lines of an input: first the definition, then where they end.
+pub mod Part
 pub mod Lines
 pub mod Ends
 pub mod LineLaws

@@ -10,8 +10,8 @@ use Rattle.input.specs.Lines.{in-line, begins-end, lines, expression, te
 use Rattle.input.specs.Ends.{end-size}
 
 -- the lines of a byte and the bytes after it, by what the two tests say of it
-abbrev from : (b : ℕ) (ten begins : Bool) → List (List ℕ) → List (List ℕ)
-from b ten begins later = cond ten ([] ∷ later) (cond begins later (in-line b later))
+abbrev lines-from : (b : ℕ) (ten begins : Bool) → List (List ℕ) → List (List ℕ)
+lines-from b ten begins later = cond ten ([] ∷ later) (cond begins later (in-line b later))
 
 -- after a 13 that begins an end, its 10 ends the line
 ten-next : (b : ℕ) (rest : List ℕ) → begins-end b rest ≡ true → lines rest ≡ [] ∷ lines (drop 1 rest)
@@ -27,7 +27,7 @@ lines-end (b ∷ rest) some = go (eqb b 10) (begins-end b rest) (ten-next b rest
   where
     go : (ten begins : Bool) → (begins ≡ true → lines rest ≡ [] ∷ lines (drop 1 rest))
         → 0 < cond ten 1 (cond begins 2 0)
-        → from b ten begins (lines rest) ≡ [] ∷ lines (drop (cond ten 1 (cond begins 2 0)) (b ∷ rest))
+        → lines-from b ten begins (lines rest) ≡ [] ∷ lines (drop (cond ten 1 (cond begins 2 0)) (b ∷ rest))
     go true begins next h = refl
     go false true next h = next refl
     go false false next h = absurd (omega arith)
@@ -38,7 +38,7 @@ unfolding lines
 lines-other b rest none = go (eqb b 10) (begins-end b rest) none
   where
     go : (ten begins : Bool) → _≡_ {A = ℕ} (cond ten 1 (cond begins 2 0)) 0
-        → from b ten begins (lines rest) ≡ in-line b (lines rest)
+        → lines-from b ten begins (lines rest) ≡ in-line b (lines rest)
     go true begins h = absurd (omega arith)
     go false true h = absurd (omega arith)
     go false false h = refl
@@ -69,7 +69,7 @@ lines-count [] = omega arith
 lines-count (b ∷ rest) = go (eqb b 10) (begins-end b rest) (lines rest) (lines-count rest)
   where
     go : (ten begins : Bool) (later : List (List ℕ)) → length later ≤ length rest
-        → length (from b ten begins later) ≤ suc (length rest)
+        → length (lines-from b ten begins later) ≤ suc (length rest)
     go true begins later h = omega arith
     go false true later h = omega arith
     go false false [] h = omega arith
@@ -84,8 +84,8 @@ texts-count (b ∷ rest) = go (eqb b 10) (begins-end b rest) (lines rest) (texts
   where
     go : (ten begins : Bool) (later : List (List ℕ))
         → length (texts later) ≤ length rest - (length (expression later) + 1) → length later ≤ length rest
-        → length (texts (from b ten begins later))
-        ≤ suc (length rest) - (length (expression (from b ten begins later)) + 1)
+        → length (texts (lines-from b ten begins later))
+        ≤ suc (length rest) - (length (expression (lines-from b ten begins later)) + 1)
     go true begins later h k = omega arith
     go false true later h k = omega arith
     go false false [] h k = omega arith

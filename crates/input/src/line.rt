@@ -2,7 +2,7 @@
 ghost use Prim.Native.Nat.{_≤_};
 ghost use mathlib.Core.Path.{_≡_};
 ghost use lib.ListN.{length, getD, drop};
-ghost use Rattle.input.specs.Ends.{end-size, Ends, after};
+ghost use Rattle.input.specs.Ends.{end-size, Ends, after-end};
 
 // What is read past the input: a byte that is in no end.
 const PAST_INPUT: u8 = 0;
@@ -54,7 +54,7 @@ pub fn line_end(input: &[u8], start: usize) -> usize
 // The place where the line after an end begins.
 pub fn next_line(input: &[u8], end: usize) -> usize
     requires { ⌜ end ≤ length (now input) ⌝ }
-    ensures { λ r. ⌜ r ≡ after (now (input .entry)) end ⌝ }
+    ensures { λ r. ⌜ r ≡ after-end (now (input .entry)) end ⌝ }
 {
     end + end_size(input, end)
 }

@@ -1,5 +1,4 @@
 -- What the program's own functions ask and promise.
 pub mod Space
-pub mod ReadWithin
 pub mod Said
 pub mod SaidLaws

@@ -8,9 +8,9 @@ use Rattle.language.specs.Tree.{Tree}
 use Rattle.tree.specs.Leaf.{Leaf}
 use Rattle.operands.specs.Text.{bytes}
 use Rattle.operands.specs.Scanner.{Outcome, tree, refused}
-use Rattle.printing.specs.Limits.{longest-input}
+use Rattle.printing.specs.OutputLimits.{longest-input}
 use Rattle.input.specs.Lines.{lines, expression}
-use Rattle.printing.specs.Print.{answered}
+use Rattle.reporting.specs.Print.{reading-outcome}
 use Rattle.showing.specs.Refusal.{refusal-lines}
 
 -- of an expression's outcome: the three lines of its refusal, nothing of a tree
@@ -20,7 +20,7 @@ said-of bytes (refused number place) = refusal-lines bytes number place
 
 -- of an expression: its outcome is the one that the output has
 abbrev pub said-of-expression : List ℕ → List ℕ
-said-of-expression bytes = said-of bytes (answered bytes)
+said-of-expression bytes = said-of bytes (reading-outcome bytes)
 
 -- the only line for an input that is too long
 abbrev pub too-long-said : List ℕ

@@ -25,10 +25,10 @@ use Rattle.checker.specs.Checked.{
 }
 use Rattle.checker.specs.declared.answer.CountedAnswer.the-variants.{Counted}
 use Rattle.matching.specs.Found.{part}
-use Rattle.printing.specs.Limits.{longest-input}
+use Rattle.printing.specs.OutputLimits.{longest-input}
 use Rattle.input.specs.Ends.{Ends}
 use Rattle.input.specs.EndLaws.{first-line}
-use Rattle.printing.specs.Print.{refusing-many-pieces}
+use Rattle.reporting.specs.Print.{refusing-many-pieces}
 use Rattle.showing.specs.Refusal.{most-shown, refusal-lines, lent-refusal}
 use Rattle.pick.specs.Said.{said-of, said-of-expression, too-long-said, said}
 

@@ -3,7 +3,8 @@ use Prim.Native.Nat.{ℕ}
 use mathlib.Core.Path.{_≡_}
 use mathlib.Core.List.{List}
 use lib.ListN.{length}
-use Rattle.printing.specs.Print.{picked, too-long-line}
+use Rattle.printing.specs.ReportLines.{too-long-line}
+use Rattle.reporting.specs.Print.{picked}
 
 -- for what fills the buffer, all that is printed is that it is too long
 pub record Space (buffer : List ℕ) : Type 0 where

@@ -3,9 +3,7 @@
 use checker::CountedAnswer;
 use checker::check;
 use input::line::line_end;
-use libc::EINTR;
 use libc::STDERR_FILENO;
-use libc::STDIN_FILENO;
 use libc::STDOUT_FILENO;
 use picker::LONGEST_INPUT;
 use picker::MOST_OUTPUT;
@@ -13,62 +11,14 @@ use picker::Picked;
 use printing::print::put;
 use showing::MOST_SHOWN;
 use showing::refusal;
+use streams::Input;
+use streams::read_input;
 ghost use Prim.Native.Nat.{_≤_};
 ghost use lib.ListN.{length};
 ghost use Rattle.printing.specs.Printing.{Prints};
 ghost use Rattle.showing.specs.Refusal.{most-shown};
 ghost use Rattle.pick.specs.Space.{Space};
-ghost use Rattle.pick.specs.ReadWithin.{Read-within};
 ghost use Rattle.pick.specs.Said.{said-of-expression, said};
-
-// What reading the input comes to.
-enum Input {
-    // So many bytes were read: up to the input's end, or as many as there is space for.
-    Read { count: usize },
-    // A read failed.
-    Failed,
-}
-
-// So many times a read is tried at most, so that the program ends however often it is interrupted.
-const MOST_TRIES: usize = 1000000;
-
-// Whether this is the answer of a read that a signal interrupted.
-fn interrupted(got: isize) -> bool {
-    got < 0 && os::errno() == EINTR
-}
-
-// One read of standard input; a read that a signal interrupted is tried again.
-fn read_part(part: &mut [u8]) -> isize {
-    let mut got = libc::read(STDIN_FILENO, part);
-    let mut tries = 1;
-    while tries < MOST_TRIES {
-        if !interrupted(got) {
-            break;
-        }
-        got = libc::read(STDIN_FILENO, part);
-        tries += 1;
-    }
-    got
-}
-
-// Reads standard input, which may come in many parts, into a buffer.
-fn read_input(input: &mut [u8]) -> Input
-    ensures { λ r. ⌜ Read-within (now (input .exit)) r ⌝ }
-{
-    let mut count = 0;
-    while count < input.len() {
-        let got = read_part(&mut input[count..]);
-        if got < 0 {
-            return Input::Failed;
-        }
-        let more = io::count(got, &input[count..]);
-        if more == 0 {
-            break;
-        }
-        count += more;
-    }
-    Input::Read { count }
-}
 
 // Puts what is said of an expression into a buffer: where and why it is refused, nothing where it is not.
 fn put_refusal(expression: &[u8], out: &mut [u8]) -> usize

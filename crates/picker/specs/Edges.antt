@@ -20,7 +20,7 @@ use Rattle.operands.specs.Bytes.{first}
 use Rattle.operands.specs.Scanner.{Outcome, tree, refused, scan, scanned}
 use Rattle.checker.specs.Expanded.{expanded}
 use Rattle.checker.specs.Drawn.{drawn}
-use Rattle.reader.specs.Answer.{answer-for, answered, records-after}
+use Rattle.reader.specs.Answer.{answer-for, read-answered, records-after}
 use Rattle.reader.specs.Kept.{kept}
 use Rattle.tables.specs.Tables.{Holding, Answered}
 use Rattle.marks.specs.Promise.{Classed, Starts, Steps}
@@ -36,7 +36,7 @@ use Rattle.finder.specs.Promise.{
 use Rattle.finder.specs.Decide.{any-split, any-repeat, leaf-text, matched, matches}
 use Rattle.finder.specs.DecideExactly.{matches-exactly}
 use Rattle.finder.specs.Searched.{latest-end, answer-from, searched, searched-exactly}
-use Rattle.finder.specs.Computed.{walked, moved}
+use Rattle.finder.specs.Computed.{walked-test, moved}
 use Rattle.finder.specs.Leaving.{As-many, all-zero, starts-by, steps-by}
 use Rattle.finder.specs.Held.{
   held-after,
@@ -61,7 +61,7 @@ pub record Left : Type 0 where
   pub accepting : Bool
 
 -- a step: its byte, and what it leaves
-pub record Step : Type 0 where
+pub record Edge-step : Type 0 where
   pub byte : ℕ
   pub left : Left
 
@@ -72,7 +72,7 @@ pub data Row : Type 0 where
   -- it is read, with so many records and pieces
   reads : (expression : List ℕ) (records pieces : ℕ) → Row
   -- what a start leaves, and then each of some steps
-  marks : (expression : List ℕ) (start : Left) (steps : List Step) → Row
+  marks : (expression : List ℕ) (start : Left) (steps : List Edge-step) → Row
   -- the answer for a whole text
   answers : (expression text : List ℕ) (answer : Bool) → Row
   -- what search finds in a text
@@ -80,15 +80,15 @@ pub data Row : Type 0 where
 
 -- the expression, of the first syntax, is read, with so many records and pieces, into every buffer that has room for
 -- them; and of the list of records that the buffer then begins with, this holds
-pub record Read (expression : List ℕ) (records pieces : ℕ) (Says : List ℕ → Type 0) : Type 0 where
+pub record Reads-to (expression : List ℕ) (records pieces : ℕ) (Says : List ℕ → Type 0) : Type 0 where
   pub gives : (buffer : List ℕ) → record-size * records ≤ length buffer
-      → answered expression (length buffer)
+      → read-answered expression (length buffer)
       ≡ record { refusal = 0; place = 0; records = records; pieces = pieces }
   pub says : (buffer : List ℕ) → record-size * records ≤ length buffer
       → Says (take (record-size * records) (records-after expression buffer))
 
 -- each step leaves what is said, from the words that were left before it
-abbrev pub Each-step : (list words : List ℕ) → List Step → Type 0
+abbrev pub Each-step : (list words : List ℕ) → List Edge-step → Type 0
 Each-step list words [] = Unit {0}
 Each-step list words (step ∷ later) =
     Steps list [] (step .byte) words (step .left .words)
@@ -101,7 +101,7 @@ Each-step list words (step ∷ later) =
     × Each-step list (step .left .words) later
 
 -- a start, from any words, as many as it leaves; then the steps
-pub record Marking (list : List ℕ) (start : Left) (steps : List Step) : Type 0 where
+pub record Marking (list : List ℕ) (start : Left) (steps : List Edge-step) : Type 0 where
   pub starts : (words : List ℕ) → length words ≡ length (start .words)
       → Starts list [] words (start .words)
       (record { refusal = 0; place = 0; accepting = start .accepting; nothing = false })
@@ -116,13 +116,13 @@ Finding list text nothing =
 
 -- what is said of the list of an expression that is read
 abbrev pub Of-records : List ℕ → (List ℕ → Type 0) → Type 0
-Of-records expression Says = (records : ℕ) × ((pieces : ℕ) × Read expression records pieces Says)
+Of-records expression Says = (records : ℕ) × ((pieces : ℕ) × Reads-to expression records pieces Says)
 
 -- what a row says
 abbrev pub Row-says : Row → Type 0
 Row-says (refuses expression number place) = (room : ℕ)
-    → answered expression room ≡ record { refusal = number; place = place; records = 0; pieces = 0 }
-Row-says (reads expression records pieces) = Read expression records pieces (λ list. Unit {0})
+    → read-answered expression room ≡ record { refusal = number; place = place; records = 0; pieces = 0 }
+Row-says (reads expression records pieces) = Reads-to expression records pieces (λ list. Unit {0})
 Row-says (marks expression start steps) = Of-records expression (λ list. Marking list start steps)
 Row-says (answers expression text answer) =
     Of-records expression
@@ -188,7 +188,7 @@ left-test t w left =
     (also (holds-after [] t w (left .words)) (Bool·beq (matches [] t w) (left .accepting)))
 
 -- whether that is so after each step
-unfoldable steps-test : Tree Leaf → (w : List ℕ) → List Step → Bool
+unfoldable steps-test : Tree Leaf → (w : List ℕ) → List Edge-step → Bool
 steps-test t w [] = true
 steps-test t w (step ∷ later) =
     also (left-test t (w ++ (step .byte ∷ [])) (step .left)) (steps-test t (w ++ (step .byte ∷ [])) later)
@@ -224,9 +224,9 @@ refusal-holds number place room (refused n p) e =
 module _ (expression : List ℕ) (Says : List ℕ → Type 0) where
   -- an expression with a tree of few pieces is read, and its records are a good list of the tree
   tree-read : (t : Tree Leaf) → drawn (expanded first expression) ≡ tree t → ltb most-pieces (piece-count t) ≡ false
-      → ((list : List ℕ) → Good list t → Says list) → Read expression (nodes t) (piece-count t) Says
+      → ((list : List ℕ) → Good list t → Says list) → Reads-to expression (nodes t) (piece-count t) Says
   tree-read t scans few says =
-      let given : (buffer : List ℕ) → record-size * nodes t ≤ length buffer → answered expression (length buffer)
+      let given : (buffer : List ℕ) → record-size * nodes t ≤ length buffer → read-answered expression (length buffer)
       ≡ record { refusal = 0; place = 0; records = nodes t; pieces = piece-count t } =
       λ buffer room. rw (scans, few, le-ltb (length buffer) (record-size * nodes t) room) in
       record {
@@ -260,7 +260,7 @@ module _ (expression : List ℕ) (Says : List ℕ → Type 0) where
 reads-holds : (expression : List ℕ) (records pieces : ℕ) (outcome : Outcome (Tree Leaf))
     → drawn (expanded first expression) ≡ outcome
     → is-tree (λ t. also (eqb (nodes t) records) (eqb (piece-count t) pieces)) outcome ≡ true
-    → Read expression records pieces (λ list. Unit {0})
+    → Reads-to expression records pieces (λ list. Unit {0})
 unfolding is-tree
 reads-holds expression records pieces (tree t) scans e =
     let counts = also-second _ _ (also-second _ _ e) in
@@ -297,7 +297,7 @@ module _ (t : Tree Leaf) (w : List ℕ) (left : Left) (e : left-test t w left �
 
 module _ {list : List ℕ} {t : Tree Leaf} (good : Good list t) (classed : Classed [] t) where
   -- each step that passes leaves what is said
-  steps-hold : (w words : List ℕ) → As-many t words → Holding [] t w words → (steps : List Step)
+  steps-hold : (w words : List ℕ) → As-many t words → Holding [] t w words → (steps : List Edge-step)
       → steps-test t w steps ≡ true → Each-step list words steps
   unfolding steps-test
   steps-hold w words many holding [] e = tt
@@ -311,7 +311,7 @@ module _ {list : List ℕ} {t : Tree Leaf} (good : Good list t) (classed : Class
       )
 
   -- so does a start, and the steps after it
-  marks-hold : (start : Left) (steps : List Step) → left-test t [] start ≡ true → steps-test t [] steps ≡ true
+  marks-hold : (start : Left) (steps : List Edge-step) → left-test t [] start ≡ true → steps-test t [] steps ≡ true
       → Marking list start steps
   marks-hold start steps e f =
       let many = left-count t [] start e in
@@ -379,5 +379,5 @@ rows-hold (row ∷ rows) e = (row-holds row (also-first _ _ e), rows-hold rows (
 pub edges-hold : Every Row-says edges
 unfolding rows-test row-test is-refusal is-tree same-answer left-test steps-test scan scanned expanded any-split
     any-repeat
-    leaf-text matched latest-end answer-from walked moved also ends agrees tidy holds-after cut-up piece-count
+    leaf-text matched latest-end answer-from walked-test moved also ends agrees tidy holds-after cut-up piece-count
 edges-hold = rows-hold edges refl

@@ -5,8 +5,8 @@ pub mod Promise
 pub mod Unique
 pub mod Sample
 pub mod Edges
-pub mod Chain
+pub mod ReadThenMatch
 -- how the code comes to its answer
-pub mod Written
+pub mod OutputWritten
 pub mod Loop
 pub mod Report

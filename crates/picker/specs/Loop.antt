@@ -12,10 +12,11 @@ use Rattle.matching.specs.Found.{part}
 use Rattle.finder.specs.Decide.{matches}
 use Rattle.finder.specs.DecideExactly.{matches-answer}
 use Rattle.input.specs.Lines.{lines}
-use Rattle.input.specs.Ends.{Ends, after}
+use Rattle.input.specs.Ends.{Ends, after-end}
 use Rattle.input.specs.EndLaws.{after-inside, line-at, lines-none, lent-part}
-use Rattle.printing.specs.Print.{text-line, total-line, yes-after, text-lines}
-use Rattle.printing.specs.Room.{text-line-length, total-line-length, yes-after-most}
+use Rattle.printing.specs.ReportLines.{text-line, total-line}
+use Rattle.reporting.specs.Print.{yes-after, text-lines}
+use Rattle.reporting.specs.OutputBound.{text-line-length, total-line-length, yes-after-most}
 use Rattle.printing.specs.Printing.{Prints}
 use Rattle.printing.specs.PrintingLaws.{prints-none, prints-join}
 
@@ -37,7 +38,7 @@ module _ {input : List ℕ} {place at count yes-lines : ℕ} {out : List ℕ}
     (s : Print-space input place at count yes-lines out)
     (end : ℕ) (ends : Ends input place end) (some : place < length input) where
   -- one text fewer is left after a line
-  fewer : length (lines (drop place input)) ≡ length (lines (drop (after input end) input)) + 1
+  fewer : length (lines (drop place input)) ≡ length (lines (drop (after-end input end) input)) + 1
   fewer = ap length (line-at input place end ends some) ∙ omega arith
 
   -- a text's line has space
@@ -54,7 +55,7 @@ module _ {input : List ℕ} {place at count yes-lines : ℕ} {out : List ℕ}
   -- and leaves space for what is to come after it
   pub space-next : (test : Bool) {out′ : List ℕ} {at′ : ℕ}
       → Prints out at (text-line test (count + 1) (yes-lines + 1)) out′ at′
-      → Print-space input (after input end) at′ (count + 1) (yes-after test yes-lines) out′
+      → Print-space input (after-end input end) at′ (count + 1) (yes-after test yes-lines) out′
   space-next test p = record {
     inside = after-inside input end (ends .inside);
     ranked = yes-after-most test count yes-lines (s .ranked);
@@ -70,7 +71,8 @@ module _ {input : List ℕ} {place at count yes-lines : ℕ} {out : List ℕ}
   }
 
 -- what is printed so far
-pub record So-far (matching : Tree Leaf → List ℕ → Bool) (t : Tree Leaf) (input : List ℕ) (start : ℕ) (before : List ℕ)
+pub record Printed-so-far (matching : Tree Leaf → List ℕ
+    → Bool) (t : Tree Leaf) (input : List ℕ) (start : ℕ) (before : List ℕ)
     (place at count yes-lines : ℕ) (out : List ℕ) : Type 0 where
   pub text : List ℕ
   pub prints : Prints before 0 text out at
@@ -79,7 +81,7 @@ pub record So-far (matching : Tree Leaf → List ℕ → Bool) (t : Tree Leaf) (
 
 module _ (matching : Tree Leaf → List ℕ → Bool) (t : Tree Leaf) (input : List ℕ) (start : ℕ) (before : List ℕ) where
   abbrev So : (place at count yes-lines : ℕ) (out : List ℕ) → Type 0
-  So place at count yes-lines out = So-far matching t input start before place at count yes-lines out
+  So place at count yes-lines out = Printed-so-far matching t input start before place at count yes-lines out
 
   -- nothing is printed at first
   pub so-far-none : So start 0 0 0 before
@@ -89,11 +91,11 @@ module _ (matching : Tree Leaf → List ℕ → Bool) (t : Tree Leaf) (input : L
   pub so-far-next : {place at count yes-lines : ℕ} {out : List ℕ} → So place at count yes-lines out → (end : ℕ)
       → Ends input place end → place < length input → (test : Bool) → test ≡ matching t (part place end input)
       → {out′ : List ℕ} {at′ : ℕ} → Prints out at (text-line test (count + 1) (yes-lines + 1)) out′ at′
-      → So (after input end) at′ (count + 1) (yes-after test yes-lines) out′
+      → So (after-end input end) at′ (count + 1) (yes-after test yes-lines) out′
   unfolding text-lines
   so-far-next {place} {at} {count} {yes-lines} {out} so end ends some test same p =
       let later : List ℕ =
-      text-lines matching t (count + 1) (yes-after test yes-lines) (lines (drop (after input end) input)) in
+      text-lines matching t (count + 1) (yes-after test yes-lines) (lines (drop (after-end input end) input)) in
       let here : text-line test (count + 1) (yes-lines + 1) ++ later
       ≡ text-lines matching t count yes-lines (lines (drop place input)) =
       rw (line-at input place end ends some, same) in

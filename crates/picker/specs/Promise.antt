@@ -3,8 +3,8 @@ use Prim.Native.Nat.{ℕ, _≤_, _<_}
 use mathlib.Core.Path.{_≡_}
 use mathlib.Core.List.{List, _++_}
 use lib.ListN.{length, drop}
-use Rattle.printing.specs.Limits.{most-output}
-use Rattle.printing.specs.Print.{picked}
+use Rattle.printing.specs.OutputLimits.{most-output}
+use Rattle.reporting.specs.Print.{picked}
 use Rattle.picker.specs.declared.Picked.{Picked}
 use Rattle.picker.specs.declared.Picked.the-variants.{Written, NoRoom}
 

@@ -10,7 +10,7 @@ use Rattle.finder.specs.Decide.{any-split, any-repeat, leaf-text, matched}
 use Rattle.picker.specs.Edges.{Every}
 use Rattle.input.specs.Lines.{lines}
 use Rattle.printing.specs.Digits.{digits, digits-within}
-use Rattle.printing.specs.Print.{text-lines, output, picked}
+use Rattle.reporting.specs.Print.{text-lines, output, picked}
 
 -- an input, and what is printed for it
 pub record Sample-run : Type 0 where
@@ -22,8 +22,8 @@ abbrev pub Prints-so : Sample-run → Type 0
 Prints-so run = picked (run .input) ≡ run .printed
 
 -- the sample, and runs at the edges of what a line is
-abbrev pub runs : List Sample-run
-runs =
+abbrev pub sample-runs : List Sample-run
+sample-runs =
     -- the sample
     record {
       input = bytes "02-2(8|9)\n02-28\n02-29\n03-01\n";
@@ -63,7 +63,7 @@ return-runs =
     ∷ []
 
 -- every run prints so
-pub runs-print : Every Prints-so runs
+pub runs-print : Every Prints-so sample-runs
 unfolding scan scanned expanded piece-count any-split any-repeat leaf-text matched lines digits digits-within
     text-lines output
 runs-print = (refl, (refl, (refl, (refl, (refl, (refl, (refl, tt)))))))

@@ -14,9 +14,9 @@ ghost use Prim.Native.Nat.{_≤_};
 ghost use mathlib.Core.List.{[]};
 ghost use lib.ListN.{length};
 ghost use Rattle.finder.specs.Decide.{matches};
-ghost use Rattle.printing.specs.Limits.{longest-input, most-output};
+ghost use Rattle.printing.specs.OutputLimits.{longest-input, most-output};
 ghost use Rattle.input.specs.Lines.{lines, expression, texts};
-ghost use Rattle.printing.specs.Print.{answered, reported, picked};
+ghost use Rattle.reporting.specs.Print.{reading-outcome, reported, picked};
 ghost use Rattle.printing.specs.Printing.{Prints};
 ghost use Rattle.picker.specs.Promise.{Picks};
 
@@ -39,7 +39,7 @@ fn report_lines(input: &[u8], out: &mut [u8]) -> usize
     requires short { ⌜ length (now input) ≤ longest-input ⌝ }
     requires room { ⌜ most-output ≤ length (now out) ⌝ }
     ensures { λ r. ⌜ Prints (now (out .entry)) 0
-        (reported (matches []) (answered (expression (lines (now (input .entry)))))
+        (reported (matches []) (reading-outcome (expression (lines (now (input .entry)))))
         (texts (lines (now (input .entry)))))
         (now (out .exit)) r ⌝ }
 {

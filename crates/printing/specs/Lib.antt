@@ -1,11 +1,9 @@
--- What is printed for the lines of an input.
+-- What is printed, line by line.
 -- First the definitions that the contract rests on.
-pub mod Limits
+pub mod OutputLimits
 pub mod Digits
-pub mod Print
+pub mod ReportLines
 -- how the code comes to its answer
 pub mod DigitLaws
-pub mod OutputCases
-pub mod Room
 pub mod Printing
 pub mod PrintingLaws

@@ -3,7 +3,7 @@ use crate::print::put;
 use crate::print::put_number;
 ghost use Prim.Native.Nat.{_+_, _≤_};
 ghost use lib.ListN.{length};
-ghost use Rattle.printing.specs.Print.{text-line, total-line, refusal-line};
+ghost use Rattle.printing.specs.ReportLines.{text-line, total-line, refusal-line};
 ghost use Rattle.printing.specs.Printing.{Prints};
 
 // Prints the line of a text: its number, `yes` and its rank, or `no`.

@@ -3,8 +3,8 @@ use Prim.Native.Nat.{ℕ}
 use mathlib.Core.Bool.{cond}
 use mathlib.Core.List.{List, [], _++_}
 use lib.Dec.{ltb}
-use Rattle.showing.specs.Cut.{marked-lines}
-use Rattle.showing.specs.Words.{told-line}
+use Rattle.showing.specs.CutShort.{marked-lines}
+use Rattle.wording.specs.RefusalWords.{told-line}
 
 -- how many bytes of a buffer are always enough
 abbrev pub most-shown : ℕ

@@ -18,8 +18,8 @@ unfoldable pub shown-byte : ℕ → List ℕ
 shown-byte b = cond (printable b) (b ∷ []) (92 ∷ 120 ∷ hex-digit (b / 16) ∷ hex-digit (b % 16) ∷ [])
 
 -- how many columns it takes
-abbrev pub width : ℕ → ℕ
-width b = length (shown-byte b)
+abbrev pub shown-width : ℕ → ℕ
+shown-width b = length (shown-byte b)
 
 -- bytes as they are shown
 unfoldable pub shown : List ℕ → List ℕ

@@ -7,7 +7,7 @@ use native.Mathlib.Omega.{arith}
 use lib.ListN.{length, getD, take, drop, replicate, length-append, take-append-drop, length-replicate}
 use lib.ListN.{replicate-append-replicate}
 use lib.Seq.{take-suc, drop-cons}
-use Rattle.showing.specs.Shown.{hex-digit, printable, shown-byte, width, shown, spaces}
+use Rattle.showing.specs.Shown.{hex-digit, printable, shown-byte, shown-width, shown, spaces}
 
 -- a byte that is shown as it is
 pub plain-byte : (b : ℕ) → printable b ≡ true → shown-byte b ≡ b ∷ []
@@ -51,7 +51,7 @@ shown-front bytes i =
 
 -- so there is room for one byte more
 pub next-room : (bytes : List ℕ) (i : ℕ) → i < length bytes
-    → length (shown (take i bytes)) + width (getD bytes i 0) ≤ length (shown bytes)
+    → length (shown (take i bytes)) + shown-width (getD bytes i 0) ≤ length (shown bytes)
 next-room bytes i h =
     omega (
       arith,

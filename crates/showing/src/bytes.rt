@@ -4,7 +4,7 @@ ghost use Prim.Native.Nat.{_+_, _≤_, _<_};
 ghost use mathlib.Core.Path.{_≡_};
 ghost use lib.ListN.{length};
 ghost use Rattle.printing.specs.Printing.{Prints};
-ghost use Rattle.showing.specs.Shown.{hex-digit, printable, shown-byte, width, shown, spaces};
+ghost use Rattle.showing.specs.Shown.{hex-digit, printable, shown-byte, shown-width, shown, spaces};
 
 // A digit below 16.
 fn hex_digit(d: u8) -> u8
@@ -25,8 +25,8 @@ fn printable(byte: u8) -> bool
 }
 
 // How many columns a byte takes.
-pub fn width(byte: u8) -> usize
-    ensures { λ r. ⌜ r ≡ width byte ⌝ }
+pub fn shown_width(byte: u8) -> usize
+    ensures { λ r. ⌜ r ≡ shown-width byte ⌝ }
 {
     if printable(byte) {
         return 1;

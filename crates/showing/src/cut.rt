@@ -1,15 +1,15 @@
 // The line of an expression, cut round a place where it is too long, and the line with the caret under that place.
 use crate::bytes::put_shown;
 use crate::bytes::put_spaces;
-use crate::bytes::width;
+use crate::bytes::shown_width;
 use printing::print::put;
 ghost use Prim.Native.Nat.{_+_, _≤_};
 ghost use mathlib.Core.Path.{_≡_};
 ghost use lib.ListN.{length, drop};
 ghost use Rattle.printing.specs.Printing.{Prints};
-ghost use Rattle.showing.specs.Cut.{
+ghost use Rattle.showing.specs.CutShort.{
   fitting,
-  begins,
+  cut-begins,
   cut-start,
   cut-end,
   dots,
@@ -34,7 +34,7 @@ fn part_end(bytes: &[u8], start: usize, room: usize) -> usize
     let mut end = start;
     let mut left = room;
     while end < bytes.len() {
-        let columns = width(bytes[end]);
+        let columns = shown_width(bytes[end]);
         if left < columns {
             break;
         }
@@ -47,12 +47,12 @@ fn part_end(bytes: &[u8], start: usize, room: usize) -> usize
 // Where the longest part before a place begins that takes at most so many columns.
 fn part_start(bytes: &[u8], place: usize, room: usize) -> usize
     requires { ⌜ place ≤ length (now bytes) ⌝ }
-    ensures { λ r. ⌜ r ≡ begins (now (bytes .entry)) room place ⌝ }
+    ensures { λ r. ⌜ r ≡ cut-begins (now (bytes .entry)) room place ⌝ }
 {
     let mut start = place;
     let mut left = room;
     while start > 0 {
-        let columns = width(bytes[start - 1]);
+        let columns = shown_width(bytes[start - 1]);
         if left < columns {
             break;
         }

@@ -1,10 +1,9 @@
 // How an expression that is refused is shown: the expression, a caret under the place, and the refusal in words.
 pub mod bytes;
 pub mod cut;
-pub mod words;
 
 use cut::put_marked;
-use words::put_told;
+use wording::words::put_told;
 ghost use Prim.Native.Nat.{_≤_};
 ghost use lib.ListN.{length};
 ghost use Rattle.printing.specs.Printing.{Prints};

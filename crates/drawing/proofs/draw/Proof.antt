@@ -5,7 +5,7 @@ use borrow.Author.Needs.{needs}
 use lib.ListN.{length}
 use Rattle.printing.specs.PrintingLaws.{prints-join}
 use Rattle.drawing.specs.Drawing.{drawing}
-use Rattle.drawing.specs.NodeLaws.{shown-length}
+use Rattle.record_line.specs.NodeLaws.{shown-length}
 use Rattle.drawing.specs.MarksLaws.{marks-length}
 use Rattle.drawing.proofs.draw.Statement.{statement}
 use Rattle.drawing.proofs.draw.Tie as tie

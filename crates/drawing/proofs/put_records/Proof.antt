@@ -5,12 +5,12 @@ use mathlib.Core.Path.{_≡_, refl}
 use native.Mathlib.Omega.{arith}
 use lib.ListN.{length}
 use Rattle.tree.specs.Limits.{most-records}
-use Rattle.drawing.specs.Node.{most-line}
+use Rattle.record_line.specs.Node.{most-line}
 use Rattle.drawing.specs.Drawing.{record-lines}
 use Rattle.drawing.specs.DepthLaws.{untold-is}
-use Rattle.drawing.specs.NodeLaws.{Of-bytes, line-length}
+use Rattle.record_line.specs.NodeLaws.{All-bytes, line-length}
 use Rattle.drawing.specs.DrawingLaws.{
-  So-far,
+  Drawn-so-far,
   gap-length,
   so-far-none,
   so-far-next,
@@ -24,7 +24,7 @@ abbrev Inv-loop : tie.InvT-loop
 Inv-loop out₀ at list records table₀ next₀ above₀ i₀ out table next above i =
     (i ≤ records) × (length out ≡ length out₀) × (length table ≡ most-records)
     × (next + most-line * i ≤ length out)
-    × So-far (record-lines list records) out₀ at list table above i out next
+    × Drawn-so-far (record-lines list records) out₀ at list table above i out next
 
 abbrev μ-loop : tie.MeasureT-loop
 μ-loop out₀ at list records table₀ next₀ above₀ i₀ out table next above i = i
@@ -102,7 +102,7 @@ loop-again c =
     let gap = printed .before .before .before .before .before .before .put-gap in
     let i = here .i - 1 in
     let some = sub-i (printed .before .before .before .before .before .before .before .before .before) in
-    let small : Of-bytes list = λ j. omega (arith, head .before .shared-slice-known .given j) in (
+    let small : All-bytes list = λ j. omega (arith, head .before .shared-slice-known .given j) in (
       omega (arith, here .inv .0),
       omega (arith, here .inv .1, gap .ensures .kept-length, printed .put-line .ensures .kept-length),
       omega (arith, here .inv .2, c .before .tell-children .kept .0),

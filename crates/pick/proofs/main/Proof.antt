@@ -1,7 +1,7 @@
 -- `pick::main` meets its contract: its buffer has a byte more than an input may have, and so the space that is asked.
 use native.Mathlib.Omega.{arith}
 use borrow.Author.Needs.{needs}
-use Rattle.printing.specs.OutputCases.{output-long}
+use Rattle.reporting.specs.OutputCases.{output-long}
 use Rattle.pick.proofs.main.Statement.{statement}
 use Rattle.pick.proofs.main.Tie as tie
 

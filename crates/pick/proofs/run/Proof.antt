@@ -3,7 +3,7 @@ use Prim.Native.Nat.{_≤_}
 use mathlib.Core.Path.{sym, subst}
 use lib.ListN.{length}
 use lib.Seq.{length-take-le}
-use Rattle.pick.specs.ReadWithin.{Read-within}
+use Rattle.streams.specs.ReadWithin.{Read-within}
 use borrow.Author.Needs.{needs}
 use Rattle.pick.proofs.run.Statement.{statement}
 use Rattle.pick.proofs.run.Tie as tie

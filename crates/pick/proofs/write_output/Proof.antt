@@ -4,7 +4,7 @@ use lib.ListN.{length}
 use mathlib.Core.Path.{sym}
 use native.Mathlib.Omega.{arith}
 use lib.Seq.{length-take-le}
-use Rattle.picker.specs.Written.{written-within}
+use Rattle.picker.specs.OutputWritten.{written-within}
 use borrow.Author.Needs.{needs}
 use Rattle.pick.proofs.write_output.Statement.{statement}
 use Rattle.pick.proofs.write_output.Tie as tie

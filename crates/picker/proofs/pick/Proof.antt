@@ -2,8 +2,8 @@
 use mathlib.Core.List.{[]}
 use native.Mathlib.Omega.{arith}
 use Rattle.finder.specs.Decide.{matches}
-use Rattle.printing.specs.OutputCases.{output-long, output-short}
-use Rattle.picker.specs.Written.{wrote}
+use Rattle.reporting.specs.OutputCases.{output-long, output-short}
+use Rattle.picker.specs.OutputWritten.{wrote}
 use borrow.Author.Needs.{needs}
 use Rattle.picker.proofs.pick.Statement.{statement}
 use Rattle.picker.proofs.pick.Tie as tie

@@ -7,10 +7,10 @@ use lib.ListN.{take, replicate}
 use lib.Seq.{length-take-le}
 use Rattle.tree.specs.Limits.{most-records}
 use Rattle.tree.specs.Layout.{record-size}
-use Rattle.reader.specs.Answer.{numbers}
+use Rattle.reader.specs.Answer.{read-numbers}
 use Rattle.reader.specs.Kept.{Kept, kept}
 use Rattle.picker.specs.Report.{Refusal-read, told, read-outcome, reports-refusal, reports-texts, texts-space}
-use Rattle.printing.specs.Room.{refusal-line-length}
+use Rattle.reporting.specs.OutputBound.{refusal-line-length}
 use borrow.Author.Needs.{needs}
 use Rattle.picker.proofs.report_lines.Statement.{statement}
 use Rattle.picker.proofs.report_lines.Tie as tie
@@ -31,7 +31,7 @@ read-by c = c .before .before .before
 refusal : (c : tie.After-answer)
     → Refusal-read (take (line (refused-by c) .line-end .result) (start (refused-by c) .args .input .now))
     (c .answer .given .0 .0) (c .answer .given .0 .1 .0)
-refusal c = told _ (record-size * most-records) _ _ (omega arith) (sym (ap numbers (c .answer .given .1))
+refusal c = told _ (record-size * most-records) _ _ (omega arith) (sym (ap read-numbers (c .answer .given .1))
     ∙ refused-by c .read .ensures .0)
 
 -- the records of the first line stand in the list
@@ -39,7 +39,7 @@ records : (c : tie.After-answer2)
     → Kept (take (line (read-by c) .line-end .result) (start (read-by c) .args .input .now))
     (replicate (record-size * most-records) 0)
     (read-by c .read .last .1 .0) (c .answer2 .given .0 .0) (c .answer2 .given .0 .1 .0)
-records c = kept _ (replicate (record-size * most-records) 0) _ _ _ (sym (ap numbers (c .answer2 .given .1))
+records c = kept _ (replicate (record-size * most-records) 0) _ _ _ (sym (ap read-numbers (c .answer2 .given .1))
     ∙ read-by c .read .ensures .0)
     (read-by c .read .ensures .1)
 

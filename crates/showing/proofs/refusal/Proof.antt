@@ -5,7 +5,7 @@ use borrow.Author.Tests.{lt-ltb, le-ltb}
 use lib.ListN.{length}
 use Rattle.printing.specs.PrintingLaws.{prints-join, prints-none}
 use Rattle.showing.specs.Refusal.{most-shown}
-use Rattle.showing.specs.CutLaws.{marked-length}
+use Rattle.showing.specs.CutShortLaws.{marked-length}
 use Rattle.showing.proofs.refusal.Statement.{statement}
 use Rattle.showing.proofs.refusal.Tie as tie
 

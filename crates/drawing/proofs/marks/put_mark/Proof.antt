@@ -3,14 +3,14 @@ use mathlib.Core.Path.{_∙_}
 use native.Mathlib.Omega.{arith}
 use lib.ListN.{length-set}
 use Rattle.printing.specs.PrintingLaws.{prints-join, prints-byte}
-use Rattle.drawing.specs.NodeLaws.{wide}
+use Rattle.record_line.specs.NodeLaws.{wide}
 use Rattle.drawing.specs.MarksLaws.{mark-is}
 use borrow.Author.Needs.{needs}
 use Rattle.drawing.proofs.marks.put_mark.Statement.{statement}
 use Rattle.drawing.proofs.marks.put_mark.Tie as tie
 
-width-requires : tie.Need-width-requires
-width-requires c κs = search needs
+shown-width-requires : tie.Need-shown-width-requires
+shown-width-requires c κs = search needs
 
 slice-write-out : tie.Need-slice-write-out
 slice-write-out c = search needs
@@ -19,7 +19,7 @@ add-put-spaces : tie.Need-add-put-spaces
 add-put-spaces c = search needs
 
 sub-put-spaces : tie.Need-sub-put-spaces
-sub-put-spaces c = omega (arith, c .before .width .ensures, wide (c .before .before .before .args .byte) .some)
+sub-put-spaces c = omega (arith, c .before .shown-width .ensures, wide (c .before .before .before .args .byte) .some)
 
 put-spaces-requires : tie.Need-put-spaces-requires
 put-spaces-requires c κs =
@@ -27,7 +27,7 @@ put-spaces-requires c κs =
     (omega (
       arith,
       c .before .before .before .pre,
-      c .before .width .ensures,
+      c .before .shown-width .ensures,
       wide (c .before .before .before .args .byte) .most,
     ))
 
@@ -39,7 +39,7 @@ same-length c =
 returns : tie.Need-returns
 returns c =
     let start = c .before .before .before .before .before .before in
-    let wide = c .before .before .before .before .width in
+    let wide = c .before .before .before .before .shown-width in
     rw (mark-is (start .args .marked) (start .args .byte) (wide .result) (wide .ensures))
     (prints-join
     (prints-byte (start .args .out .now) (start .args .at) (start .args .marked) (omega (arith, start .pre)))
@@ -49,7 +49,7 @@ pub put-mark-spec : {M : Type 1} → statement M
 put-mark-spec =
     tie.close
     (tie.spec
-    width-requires
+    shown-width-requires
     slice-write-out
     add-put-spaces
     sub-put-spaces

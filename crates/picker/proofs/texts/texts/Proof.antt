@@ -11,16 +11,16 @@ use lib.ListN.{length}
 use Rattle.language.specs.Tree.{Tree}
 use Rattle.tree.specs.Leaf.{Leaf}
 use Rattle.tables.specs.Tables.{Prepared}
-use Rattle.choosing.specs.Choice.{Accepts-language}
+use Rattle.choosing.specs.TableChoice.{Accepts-language}
 use Rattle.finder.specs.Decide.{matches}
 use Rattle.input.specs.EndLaws.{after-start}
-use Rattle.printing.specs.Print.{yes-after}
+use Rattle.reporting.specs.Print.{yes-after}
 use Rattle.picker.specs.Loop.{
   Print-space,
   space-line,
   space-next,
   space-total,
-  So-far,
+  Printed-so-far,
   so-far-none,
   so-far-next,
   so-far-done,
@@ -30,20 +30,20 @@ use Rattle.picker.proofs.texts.texts.Statement.{statement}
 use Rattle.picker.proofs.texts.texts.Tie as tie
 
 abbrev Inv-loop : tie.InvT-loop
-Inv-loop tabled table reach codes runs stands tops pieces input start out₀ place₀ at₀ count₀ yes₀ none out place at
+Inv-loop tabled table rows pieces input start out₀ place₀ at₀ count₀ yes₀ none out place at
     count yes' =
     Print-space input place at count yes' out × (length out ≡ length out₀)
-    × ((t : Tree Leaf) → Prepared t reach codes runs stands tops pieces
+    × ((t : Tree Leaf) → Prepared t rows pieces
     → (tabled ≡ true → Accepts-language [] t table)
-    → So-far (matches []) t input start out₀ place at count yes' out)
+    → Printed-so-far (matches []) t input start out₀ place at count yes' out)
 
 abbrev μ-loop : tie.MeasureT-loop
-μ-loop tabled table reach codes runs stands tops pieces input start out₀ place₀ at₀ count₀ yes₀ none out place at
+μ-loop tabled table rows pieces input start out₀ place₀ at₀ count₀ yes₀ none out place at
     count yes' =
     length input - place
 
 abbrev begun : tie.At-loop Inv-loop μ-loop → tie.Start Inv-loop μ-loop
-begun c = c .before .before .before .before .before .before
+begun c = c .before .before .before .before .before
 
 -- a turn, up to the call that prints the text's line, and the loop's head before it
 abbrev turn : tie.After-next-line Inv-loop μ-loop → tie.After-text-line-arg Inv-loop μ-loop
@@ -64,7 +64,7 @@ counted c =
 
 loop-holds : tie.Need-loop-holds Inv-loop μ-loop
 loop-holds c =
-    (c .before .before .before .before .before .pre .1, refl, λ t prepared accepts. so-far-none (matches []) t _ _ _)
+    (c .before .before .before .before .pre .1, refl, λ t prepared accepts. so-far-none (matches []) t _ _ _)
 
 line-end-requires : tie.Need-line-end-requires Inv-loop μ-loop
 line-end-requires c κs = search needs

@@ -1,5 +1,5 @@
--- `printing::print::put_number` meets its contract: a number below 10 is its digit, another one the digits of its tenth,
--- then its last.
+-- `printing::print::put_number` meets its contract: a number below 10 is its digit, another one the digits of its
+-- tenth, then its last.
 -- The measure is the number.
 use native.Mathlib.Omega.{arith}
 use borrow.Author.Needs.{needs}

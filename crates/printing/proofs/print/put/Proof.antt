@@ -1,5 +1,5 @@
--- `printing::print::put` meets its contract: before byte i the first i bytes stand in the buffer. The measure is what is
--- left of the bytes.
+-- `printing::print::put` meets its contract: before byte i the first i bytes stand in the buffer. The measure is what
+-- is left of the bytes.
 use Prim.Native.Nat.{_≤_, _-_}
 use mathlib.Core.Path.{_≡_, refl}
 use native.Mathlib.Omega.{arith}

@@ -5,7 +5,7 @@ use mathlib.Core.Bool.{Bool, true, false}
 use native.Mathlib.Omega.{arith}
 use lib.ListN.{length, length-append}
 use Rattle.printing.specs.Digits.{digits}
-use Rattle.printing.specs.Print.{text-line}
+use Rattle.printing.specs.ReportLines.{text-line}
 use Rattle.printing.specs.PrintingLaws.{prints-join}
 use borrow.Author.Needs.{needs}
 use Rattle.printing.proofs.report.text_line.Statement.{statement}

@@ -2,7 +2,7 @@
 use mathlib.Core.Path.{sym, _∙_}
 use native.Mathlib.Omega.{arith}
 use borrow.Author.Needs.{needs}
-use Rattle.showing.specs.CutLaws.{end-whole, end-part}
+use Rattle.showing.specs.CutShortLaws.{end-whole, end-part}
 use Rattle.showing.proofs.cut.cut_end.Statement.{statement}
 use Rattle.showing.proofs.cut.cut_end.Tie as tie
 

@@ -2,7 +2,7 @@
 use mathlib.Core.Path.{sym, _∙_}
 use native.Mathlib.Omega.{arith}
 use borrow.Author.Needs.{needs}
-use Rattle.showing.specs.CutLaws.{start-whole, start-part}
+use Rattle.showing.specs.CutShortLaws.{start-whole, start-part}
 use Rattle.showing.proofs.cut.cut_start.Statement.{statement}
 use Rattle.showing.proofs.cut.cut_start.Tie as tie
 

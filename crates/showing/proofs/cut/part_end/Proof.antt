@@ -6,8 +6,8 @@ use native.Mathlib.Omega.{arith}
 use native.Mathlib.Numerals.{add-one}
 use borrow.Author.Needs.{needs}
 use lib.ListN.{length, drop}
-use Rattle.showing.specs.Cut.{fitting}
-use Rattle.showing.specs.CutLaws.{fitting-end, fitting-stop, fitting-on}
+use Rattle.showing.specs.CutShort.{fitting}
+use Rattle.showing.specs.CutShortLaws.{fitting-end, fitting-stop, fitting-on}
 use Rattle.showing.proofs.cut.part_end.Statement.{statement}
 use Rattle.showing.proofs.cut.part_end.Tie as tie
 
@@ -21,11 +21,11 @@ abbrev μ-loop : tie.MeasureT-loop
 loop-holds : tie.Need-loop-holds Inv-loop μ-loop
 loop-holds c = (search needs, refl)
 
-shared-slice-read-width : tie.Need-shared-slice-read-width Inv-loop μ-loop
-shared-slice-read-width c = search needs
+shared-slice-read-shown-width : tie.Need-shared-slice-read-shown-width Inv-loop μ-loop
+shared-slice-read-shown-width c = search needs
 
-width-requires : tie.Need-width-requires Inv-loop μ-loop
-width-requires c κs = search needs
+shown-width-requires : tie.Need-shown-width-requires Inv-loop μ-loop
+shown-width-requires c κs = search needs
 
 add-end : tie.Need-add-end Inv-loop μ-loop
 add-end c = search needs
@@ -37,7 +37,7 @@ loop-again : tie.Need-loop-again Inv-loop μ-loop
 loop-again c =
     let start = c .before .before .before .before .before .before in
     let here = c .before .before .before .before .loop in
-    let wide = c .before .width .ensures in (
+    let wide = c .before .shown-width .ensures in (
       search needs,
       rw (add-one, wide)
           (omega (
@@ -61,7 +61,7 @@ returns-2 c =
       arith,
       here .inv .1,
       fitting-stop (start .args .bytes .now) (here .left) (here .end) (omega arith)
-          (omega (arith, c .before .width .ensures)),
+          (omega (arith, c .before .shown-width .ensures)),
     )
 
 pub part-end-spec : {M : Type 1} → statement M
@@ -71,8 +71,8 @@ part-end-spec =
     Inv-loop
     μ-loop
     loop-holds
-    shared-slice-read-width
-    width-requires
+    shared-slice-read-shown-width
+    shown-width-requires
     add-end
     loop-less
     loop-again

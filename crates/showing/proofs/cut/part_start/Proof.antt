@@ -4,14 +4,14 @@ use Prim.Native.Nat.{_≤_, _-_}
 use mathlib.Core.Path.{_≡_, refl, sym, ap, _∙_}
 use native.Mathlib.Omega.{arith}
 use borrow.Author.Needs.{needs}
-use Rattle.showing.specs.Cut.{begins}
-use Rattle.showing.specs.CutLaws.{begins-none, begins-stop, begins-on}
+use Rattle.showing.specs.CutShort.{cut-begins}
+use Rattle.showing.specs.CutShortLaws.{begins-none, begins-stop, begins-on}
 use Rattle.showing.proofs.cut.part_start.Statement.{statement}
 use Rattle.showing.proofs.cut.part_start.Tie as tie
 
 abbrev Inv-loop : tie.InvT-loop
 Inv-loop bytes place room start₀ left₀ start left =
-    (start ≤ place) × (begins bytes left start ≡ begins bytes room place)
+    (start ≤ place) × (cut-begins bytes left start ≡ cut-begins bytes room place)
 
 abbrev μ-loop : tie.MeasureT-loop
 μ-loop bytes place room start₀ left₀ start left = start
@@ -19,14 +19,14 @@ abbrev μ-loop : tie.MeasureT-loop
 loop-holds : tie.Need-loop-holds Inv-loop μ-loop
 loop-holds c = (search needs, refl)
 
-sub-width : tie.Need-sub-width Inv-loop μ-loop
-sub-width c = search needs
+sub-shown-width : tie.Need-sub-shown-width Inv-loop μ-loop
+sub-shown-width c = search needs
 
-shared-slice-read-width : tie.Need-shared-slice-read-width Inv-loop μ-loop
-shared-slice-read-width c = search needs
+shared-slice-read-shown-width : tie.Need-shared-slice-read-shown-width Inv-loop μ-loop
+shared-slice-read-shown-width c = search needs
 
-width-requires : tie.Need-width-requires Inv-loop μ-loop
-width-requires c κs = search needs
+shown-width-requires : tie.Need-shown-width-requires Inv-loop μ-loop
+shown-width-requires c κs = search needs
 
 sub-start : tie.Need-sub-start Inv-loop μ-loop
 sub-start c = search needs
@@ -38,7 +38,7 @@ loop-again : tie.Need-loop-again Inv-loop μ-loop
 loop-again c =
     let start = c .before .before .before .before .before .before in
     let here = c .before .before .before .before .loop in
-    let wide = c .before .width .ensures in (
+    let wide = c .before .shown-width .ensures in (
       search needs,
       rw wide
           (sym (begins-on (start .args .bytes .now) (here .left) (here .start) (here .start - 1) (omega arith)
@@ -51,14 +51,14 @@ returns c =
     let here = c .before .loop in
     let none : here .start ≡ 0 = omega arith in
     none ∙ sym (begins-none (start .args .bytes .now) (here .left))
-    ∙ ap (begins (start .args .bytes .now) (here .left)) (sym none) ∙ here .inv .1
+    ∙ ap (cut-begins (start .args .bytes .now) (here .left)) (sym none) ∙ here .inv .1
 
 returns-2 : tie.Need-returns-2 Inv-loop μ-loop
 returns-2 c =
     let start = c .before .before .before .before .before .before in
     let here = c .before .before .before .before .loop in
     sym (begins-stop (start .args .bytes .now) (here .left) (here .start) (here .start - 1) (omega arith)
-    (omega (arith, c .before .width .ensures))) ∙ here .inv .1
+    (omega (arith, c .before .shown-width .ensures))) ∙ here .inv .1
 
 pub part-start-spec : {M : Type 1} → statement M
 part-start-spec =
@@ -67,9 +67,9 @@ part-start-spec =
     Inv-loop
     μ-loop
     loop-holds
-    sub-width
-    shared-slice-read-width
-    width-requires
+    sub-shown-width
+    shared-slice-read-shown-width
+    shown-width-requires
     sub-start
     loop-less
     loop-again

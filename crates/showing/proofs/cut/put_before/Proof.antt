@@ -1,7 +1,7 @@
 -- `showing::cut::put_before` meets its contract: dots, then the part before the place. Both fit in a line.
 use native.Mathlib.Omega.{arith}
 use Rattle.printing.specs.PrintingLaws.{prints-join}
-use Rattle.showing.specs.CutLaws.{cut-fits, before-lent, before-room}
+use Rattle.showing.specs.CutShortLaws.{cut-fits, before-lent, before-room}
 use borrow.Author.Needs.{needs}
 use Rattle.showing.proofs.cut.put_before.Statement.{statement}
 use Rattle.showing.proofs.cut.put_before.Tie as tie

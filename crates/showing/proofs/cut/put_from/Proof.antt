@@ -1,7 +1,7 @@
 -- `showing::cut::put_from` meets its contract: the part from the place on, then dots. Both fit in a line.
 use native.Mathlib.Omega.{arith}
 use Rattle.printing.specs.PrintingLaws.{prints-join}
-use Rattle.showing.specs.CutLaws.{cut-fits, from-lent, from-room}
+use Rattle.showing.specs.CutShortLaws.{cut-fits, from-lent, from-room}
 use borrow.Author.Needs.{needs}
 use Rattle.showing.proofs.cut.put_from.Statement.{statement}
 use Rattle.showing.proofs.cut.put_from.Tie as tie

@@ -6,9 +6,9 @@ use native.Mathlib.Omega.{arith}
 use borrow.Author.Needs.{needs}
 use lib.ListN.{length}
 use Rattle.printing.specs.PrintingLaws.{prints-join}
-use Rattle.showing.specs.Cut.{before-place, from-place, most-columns}
+use Rattle.showing.specs.CutShort.{before-place, from-place, most-columns}
 use Rattle.showing.specs.ShownLaws.{spaces-length}
-use Rattle.showing.specs.CutLaws.{caret-inside, cut-fits, marked-is}
+use Rattle.showing.specs.CutShortLaws.{caret-inside, cut-fits, marked-is}
 use Rattle.showing.proofs.cut.put_marked.Statement.{statement}
 use Rattle.showing.proofs.cut.put_marked.Tie as tie
 

@@ -1,0 +1,1 @@
+// What `pick` prints for an input: theory alone, in specs/.

@@ -1,0 +1,2 @@
+-- What reading a whole input promises.
+pub mod ReadWithin

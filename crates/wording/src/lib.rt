@@ -1,0 +1,2 @@
+// A refusal in words, and its line.
+pub mod words;
