@@ -6,7 +6,7 @@ use native.Mathlib.Omega.{arith}
 use lib.ListN.{getD}
 use denote.Enum.Declared.{tagOf}
 use Rattle.tree.specs.RefusalNumbers.{list-not-good, buffer-too-short, text-too-long, class-buffer-too-short}
-use Rattle.reader.specs.Answer.{refusing}
+use Rattle.reader.specs.Answer.{refusing-read}
 use Rattle.checker.specs.Checked.{refusing-counts}
 use Rattle.picker.specs.declared.Picked.{Picked}
 use Rattle.picker.specs.declared.Picked.the-variants.{Written, NoRoom}
@@ -14,7 +14,7 @@ use Rattle.picker.proofs.Picked.{the-type as picked-type}
 use Rattle.widen.specs.declared.Widened.{Widened}
 use Rattle.widen.specs.declared.Widened.the-variants.{Written as Wide-written, NotGood, NoRoom as Wide-too-long}
 use Rattle.widen.proofs.Widened.{the-type as widened-type}
-use Rattle.lines.specs.Answer.{numbers, counting}
+use Rattle.lines.specs.Answer.{lines-numbers, counting-lines}
 use Rattle.lines.specs.declared.LinesAnswer.{LinesAnswer}
 use Rattle.lines.specs.declared.LinesAnswer.the-variants.{
   Answered,
@@ -34,7 +34,7 @@ use Rattle.table_lines.specs.declared.TableLines.the-variants.{
   NoRoom as Table-no-room,
 }
 use Rattle.table_lines.proofs.TableLines.{the-type as table-lines-type}
-use Rattle.foamlattice.specs.Packed.{packed}
+use Rattle.one_number.specs.Packed.{packed}
 use Rattle.foamlattice.specs.Promise.{read-packed, second-packed, pick-packed, widen-packed, lines-packed}
 
 -- the numbers of a picking: that of an output written is its own
@@ -63,13 +63,13 @@ pub told-widen : (answer : Widened) (tag : ℕ) → tagOf widened-type answer �
 told-widen answer tag e = widen-number-at answer ∙ ap (λ (k : ℕ). getD (widen-numbers answer) k 0) e
 
 -- the numbers of matching the lines of a text: that of lines answered is its own
-abbrev pub lines-numbers : LinesAnswer → List ℕ
-lines-numbers answer =
-    lines-packed (numbers answer) ∷ packed list-not-good 0 0 0 ∷ packed class-buffer-too-short 0 0 0
+abbrev pub lines-list : LinesAnswer → List ℕ
+lines-list answer =
+    lines-packed (lines-numbers answer) ∷ packed list-not-good 0 0 0 ∷ packed class-buffer-too-short 0 0 0
     ∷ packed text-too-long 0 0 0 ∷ packed buffer-too-short 0 0 0 ∷ []
 
-lines-number-at : (answer : LinesAnswer) → lines-packed (numbers answer)
-    ≡ getD (lines-numbers answer) (tagOf lines-type answer) 0
+lines-number-at : (answer : LinesAnswer) → lines-packed (lines-numbers answer)
+    ≡ getD (lines-list answer) (tagOf lines-type answer) 0
 lines-number-at (Answered line-count yes-lines) = refl
 lines-number-at Lines-not-good = refl
 lines-number-at Lines-too-few-classes = refl
@@ -77,8 +77,8 @@ lines-number-at Lines-too-long = refl
 lines-number-at Lines-no-room = refl
 
 pub told-lines : (answer : LinesAnswer) (tag : ℕ) → tagOf lines-type answer ≡ tag
-    → lines-packed (numbers answer) ≡ getD (lines-numbers answer) tag 0
-told-lines answer tag e = lines-number-at answer ∙ ap (λ (k : ℕ). getD (lines-numbers answer) k 0) e
+    → lines-packed (lines-numbers answer) ≡ getD (lines-list answer) tag 0
+told-lines answer tag e = lines-number-at answer ∙ ap (λ (k : ℕ). getD (lines-list answer) k 0) e
 
 -- the same by a table of steps
 abbrev pub table-lines-list : TableLines → List ℕ
@@ -99,15 +99,15 @@ told-table-lines answer tag e = table-lines-at answer ∙ ap (λ (k : ℕ). getD
 
 -- where lines are answered, the place is 0
 pub lines-number : (line-count yes-lines : ℕ) → packed 0 0 line-count yes-lines
-    ≡ lines-packed (counting line-count yes-lines)
+    ≡ lines-packed (counting-lines line-count yes-lines)
 lines-number line-count yes-lines = omega arith
 
 -- of a reading's place and count of records one is 0, so that x is the other
-pub read-number : (records pieces : ℕ) → packed 0 0 records pieces
+pub read-number : (records pieces : ℕ) → packed 0 0 records (pieces + 256 * 0)
     ≡ read-packed (record { refusal = 0; place = 0; records = records; pieces = pieces })
 read-number records pieces = omega arith
 
-pub refused-number : (number place : ℕ) → packed number 0 place 0 ≡ read-packed (refusing number place)
+pub refused-number : (number place : ℕ) → packed number 0 place 0 ≡ read-packed (refusing-read number place)
 refused-number number place = omega arith
 
 -- the same in the second syntax

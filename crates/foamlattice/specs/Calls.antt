@@ -11,14 +11,14 @@ use lib.ListN.{length}
 use Rattle.language.specs.Tree.{Tree}
 use Rattle.tree.specs.Leaf.{Leaf, Matches}
 use Rattle.tree.specs.Records.{Good, piece-count}
-use Rattle.marks.specs.declared.numbers.Numbers.{Numbers}
+use Rattle.marks.specs.declared.numbers.MarksNumbers.{MarksNumbers}
 use Rattle.marks.specs.Promise.{Classed}
 use Rattle.marks.specs.Chain.{Chain, begun, further, Follows}
 use Rattle.marks.specs.ChainFollows.{chain-follows}
 use Rattle.marks.specs.NothingLeft.{nothing-follows}
-use Rattle.foamlattice.specs.Packed.{x-in, number-in, flag-in, Unpacks}
+use Rattle.one_number.specs.Packed.{x-in, number-in, flag-in, Unpacks}
 use Rattle.foamlattice.specs.Promise.{Starting, Stepping}
-use Rattle.foamlattice.specs.Bounds.{starting-unpacks, stepping-unpacks}
+use Rattle.foamlattice.specs.PackedBounds.{starting-unpacks, stepping-unpacks}
 
 -- from the words `before`, over the bytes of w: the last call answered r and left the words `after`
 pub data Calls (list classes before : List ℕ) : (w after : List ℕ) → ℕ → Type 0 where
@@ -28,7 +28,7 @@ pub data Calls (list classes before : List ℕ) : (w after : List ℕ) → ℕ �
 
 -- the numbers that the last call packed
 record Last (list classes before w after : List ℕ) (r : ℕ) : Type 0 where
-  pub numbers : Numbers
+  pub numbers : MarksNumbers
   pub chain : Chain list classes before w after numbers
   pub unpacked : Unpacks r (numbers .refusal) (cond (numbers .accepting) 1 0)
       (numbers .place + cond (numbers .nothing) 1 0) 0
@@ -62,10 +62,10 @@ calls-follow {r = r} t good classed enough calls =
     let last = last-call calls in
     let follows = chain-follows good classed enough (last .chain) in
     record {
-      not-refused = last .unpacked .number-back ∙ ap (λ (n : Numbers). n .refusal) (follows .marks);
+      not-refused = last .unpacked .number-back ∙ ap (λ (n : MarksNumbers). n .refusal) (follows .marks);
       flag =
           Iff·trans (rw (last .unpacked .flag-back) (flag-set (last .numbers .accepting))) (follows .answer);
       stops = λ e. nothing-follows follows
           (flag-set (last .numbers .nothing) .0
-          (omega (arith, last .unpacked .x-back, ap (λ (n : Numbers). n .place) (follows .marks))));
+          (omega (arith, last .unpacked .x-back, ap (λ (n : MarksNumbers). n .place) (follows .marks))));
     }

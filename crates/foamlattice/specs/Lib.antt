@@ -1,7 +1,6 @@
 -- What the outside interface answers.
-pub mod Packed
 pub mod Promise
-pub mod Bounds
+pub mod PackedBounds
 pub mod Unique
 pub mod WideningLaws
 pub mod LinesLaws

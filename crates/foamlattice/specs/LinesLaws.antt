@@ -8,17 +8,17 @@ use Rattle.tree.specs.Limits.{longest-text}
 use Rattle.finder.specs.Promise.{Refuses, not-good, too-few-classes, too-long}
 use Rattle.input.specs.LineLaws.{lines-count}
 use Rattle.tree.specs.RefusalNumbers.{table-too-short}
-use Rattle.lines.specs.Answer.{Numbers}
+use Rattle.lines.specs.Answer.{Lines-numbers}
 use Rattle.lines.specs.Promise.{Lines-answers, lines-refused, lines-no-room, lines-answered}
 use Rattle.lines.specs.Unique.{each-yes, lines-unique}
 use Rattle.table_lines.specs.Promise.{Table-lines-answers, table-short, text-long, no-room, answered}
 use Rattle.table_lines.specs.Unique.{table-lines-unique}
-use Rattle.foamlattice.specs.Packed.{packed, Unpacks}
-use Rattle.foamlattice.specs.Bounds.{unpacks}
+use Rattle.one_number.specs.Packed.{packed, Unpacks}
+use Rattle.foamlattice.specs.PackedBounds.{unpacks}
 use Rattle.foamlattice.specs.Promise.{lines-packed, Answering-lines, Answering-by-table}
 
 -- a text of at most 65,536 bytes has no more lines
-pub record Lines-ranges (n : Numbers) : Type 0 where
+pub record Lines-ranges (n : Lines-numbers) : Type 0 where
   pub refusal-small : n .refusal ≤ table-too-short
   pub x-small : n .place + n .line-count ≤ longest-text
   pub y-small : n .yes-lines ≤ longest-text
@@ -29,7 +29,7 @@ refused-small (not-good why) = omega arith
 refused-small (too-few-classes why) = omega arith
 refused-small (too-long a) = omega arith
 
-pub lines-ranges : {list classes text before after : List ℕ} {n : Numbers}
+pub lines-ranges : {list classes text before after : List ℕ} {n : Lines-numbers}
     → Lines-answers list classes text before after n → Lines-ranges n
 lines-ranges (lines-refused r e) =
     record { refusal-small = refused-small r; x-small = omega arith; y-small = omega arith }
@@ -42,7 +42,7 @@ lines-ranges {text = text} (lines-answered a) =
       y-small = omega (arith, a .short, each-yes (a .holds .each), lines-count text);
     }
 
-pub table-lines-ranges : {table text before after : List ℕ} {n : Numbers}
+pub table-lines-ranges : {table text before after : List ℕ} {n : Lines-numbers}
     → Table-lines-answers table text before after n → Lines-ranges n
 table-lines-ranges (table-short a e) =
     record { refusal-small = omega arith; x-small = omega arith; y-small = omega arith }
@@ -58,7 +58,7 @@ table-lines-ranges {text = text} (answered a w) =
     }
 
 -- so the number gives its parts back
-numbers-unpack : (r : ℕ) (n : Numbers) → Lines-ranges n → r ≡ lines-packed n
+numbers-unpack : (r : ℕ) (n : Lines-numbers) → Lines-ranges n → r ≡ lines-packed n
     → Unpacks r (n .refusal) 0 (n .place + n .line-count) (n .yes-lines)
 numbers-unpack r n known e =
     unpacks r (n .refusal) 0 (n .place + n .line-count) (n .yes-lines)

@@ -4,14 +4,14 @@ use Prim.Native.Nat.{ℕ, _+_, _*_}
 use mathlib.Core.Path.{_≡_}
 use mathlib.Core.Bool.{cond}
 use mathlib.Core.List.{List}
-use Rattle.reader.specs.Answer.{Numbers}
+use Rattle.reader.specs.Answer.{Read-numbers}
 use Rattle.checker.specs.Checked.{Counted-numbers}
-use Rattle.marks.specs.declared.numbers.Numbers.{Numbers as Marks-numbers}
+use Rattle.marks.specs.declared.numbers.MarksNumbers.{MarksNumbers}
 use Rattle.marks.specs.Promise.{Starts, Steps}
 use Rattle.marks.specs.StepsEach.{Steps-each}
-use Rattle.finder.specs.declared.numbers.Numbers.{Numbers as Found-numbers}
+use Rattle.finder.specs.declared.numbers.FoundNumbers.{FoundNumbers}
 use Rattle.finder.specs.Promise.{Match-answers, Search-answers}
-use Rattle.lines.specs.Answer.{Numbers as Lines-numbers}
+use Rattle.lines.specs.Answer.{Lines-numbers}
 use Rattle.lines.specs.Promise.{Lines-answers}
 use Rattle.table_lines.specs.Promise.{Table-lines-answers}
 use Rattle.picker.specs.declared.Picked.{Picked}
@@ -20,13 +20,13 @@ use Rattle.picker.specs.Promise.{Picks}
 use Rattle.widen.specs.declared.Widened.{Widened}
 use Rattle.widen.specs.declared.Widened.the-variants.{Written as Wide-written, NotGood, NoRoom as Wide-too-long}
 use Rattle.widen.specs.Promise.{Widens, widen-refusal}
-use Rattle.running.specs.declared.numbers.Numbers.{Numbers as Table-numbers}
-use Rattle.making.specs.declared.numbers.Numbers.{Numbers as Made-numbers}
+use Rattle.running.specs.declared.numbers.TableNumbers.{TableNumbers}
+use Rattle.making.specs.declared.numbers.MadeNumbers.{MadeNumbers}
 use Rattle.making.specs.Promise.{Makes}
-use Rattle.foamlattice.specs.Packed.{packed}
+use Rattle.one_number.specs.Packed.{packed}
 
 -- read: x is the count of records, or the place of a refusal, the other of which is 0; y is the count of pieces
-abbrev pub read-packed : Numbers → ℕ
+abbrev pub read-packed : Read-numbers → ℕ
 read-packed n = packed (n .refusal) 0 (n .place + n .records) (n .pieces)
 
 -- read2 and the checks: x as for read; y is the count of pieces, which is below 256, and 256 times that of classes
@@ -35,12 +35,12 @@ second-packed n = packed (n .refusal) 0 (n .place + n .records) (n .pieces + 256
 
 -- match and search: the flag is 1 for yes, or where a part was found; x is that part's start, or the place of a
 -- refusal, and y is its end
-abbrev pub found-packed : Found-numbers → ℕ
+abbrev pub found-packed : FoundNumbers → ℕ
 found-packed n = packed (n .refusal) (cond (n .matched) 1 0) (n .place + n .start) (n .end)
 
 -- start and step: the flag is 1 where the root's accepting state is marked; x is 1 where nothing is left, or the place
 -- of a refusal
-abbrev pub marks-packed : Marks-numbers → ℕ
+abbrev pub marks-packed : MarksNumbers → ℕ
 marks-packed n = packed (n .refusal) (cond (n .accepting) 1 0) (n .place + cond (n .nothing) 1 0) 0
 
 -- lines: x is the count of lines, or the place of a refusal; y is the count of yes lines
@@ -69,40 +69,40 @@ abbrev pub widen-packed : Widened → ℕ
 widen-packed answer = packed (widen-refusal answer) 0 (widen-count answer) 0
 
 -- table: the flag is 1 where the table was made; x is the count of its states, y that of its entries
-abbrev pub made-packed : Made-numbers → ℕ
+abbrev pub made-packed : MadeNumbers → ℕ
 made-packed n = packed (n .refusal) (cond (n .made) 1 0) (n .states) (n .entries)
 
 -- match by table: the flag is 1 for yes
-abbrev pub table-packed : Table-numbers → ℕ
+abbrev pub table-packed : TableNumbers → ℕ
 table-packed n = packed (n .refusal) (cond (n .matched) 1 0) 0 0
 
 -- the number r packs right numbers of a match
 pub record Matching (list classes text : List ℕ) (r : ℕ) : Type 0 where
-  pub numbers : Found-numbers
+  pub numbers : FoundNumbers
   pub right : Match-answers list classes text numbers
   pub as-number : r ≡ found-packed numbers
 
 -- the number r packs right numbers of a search
 pub record Searching (list classes text : List ℕ) (r : ℕ) : Type 0 where
-  pub numbers : Found-numbers
+  pub numbers : FoundNumbers
   pub right : Search-answers list classes text numbers
   pub as-number : r ≡ found-packed numbers
 
 -- the words afterwards and the number r are those of a right start
 pub record Starting (list classes before after : List ℕ) (r : ℕ) : Type 0 where
-  pub numbers : Marks-numbers
+  pub numbers : MarksNumbers
   pub right : Starts list classes before after numbers
   pub as-number : r ≡ marks-packed numbers
 
 -- the words afterwards and the number r are those of a right step
 pub record Stepping (list classes : List ℕ) (byte : ℕ) (before after : List ℕ) (r : ℕ) : Type 0 where
-  pub numbers : Marks-numbers
+  pub numbers : MarksNumbers
   pub right : Steps list classes byte before after numbers
   pub as-number : r ≡ marks-packed numbers
 
 -- the words afterwards and the number r are those of right steps, one for each byte
 pub record Stepping-each (list classes before bytes after : List ℕ) (r : ℕ) : Type 0 where
-  pub numbers : Marks-numbers
+  pub numbers : MarksNumbers
   pub right : Steps-each list classes before bytes after numbers
   pub as-number : r ≡ marks-packed numbers
 
@@ -132,6 +132,6 @@ pub record Widening (old before after : List ℕ) (r : ℕ) : Type 0 where
 
 -- the table and the room afterwards and the number r are those of a right making of a table
 pub record Tabling (list classes table after room cleared : List ℕ) (r : ℕ) : Type 0 where
-  pub numbers : Made-numbers
+  pub numbers : MadeNumbers
   pub right : Makes list classes table after room cleared numbers
   pub as-number : r ≡ made-packed numbers

@@ -11,20 +11,20 @@ use Rattle.tree.specs.RefusalNumbers.{class-buffer-too-short, table-too-short}
 use Rattle.running.specs.Runs.{runs}
 use Rattle.running.specs.Answer.{
   shortest-table,
-  answered,
-  refusing,
-  answering as table-answering,
+  table-answered,
+  refusing-table,
+  answering-table as table-answering,
 }
 use Rattle.machines.specs.TableOf.{most-entries}
-use Rattle.finder.specs.Answer.{answering}
+use Rattle.finder.specs.Answer.{answering-match}
 use Rattle.finder.specs.Promise.{Match-answers}
-use Rattle.making.specs.declared.numbers.Numbers.{Numbers}
+use Rattle.making.specs.declared.numbers.MadeNumbers.{MadeNumbers}
 use Rattle.tabulating.specs.Tabulates.{Table-made}
 use Rattle.making.specs.Promise.{
-  Refuses,
+  Refuses-making,
   not-good,
   too-few-classes,
-  Of-good,
+  Of-good-classed,
   Makes,
   refused,
   table-made,
@@ -32,22 +32,23 @@ use Rattle.making.specs.Promise.{
 }
 use Rattle.making.specs.Unique.{makes-once}
 use Rattle.making.specs.Agrees.{Bytes, answered-as-match}
-use Rattle.foamlattice.specs.Packed.{Unpacks}
-use Rattle.foamlattice.specs.Bounds.{unpacks, flag-small}
+use Rattle.one_number.specs.Packed.{Unpacks}
+use Rattle.foamlattice.specs.PackedBounds.{unpacks, flag-small}
 use Rattle.foamlattice.specs.Promise.{found-packed, made-packed, table-packed, Tabling}
 
 -- the numbers that the making of a table can give back
-pub record Made-ranges (n : Numbers) : Type 0 where
+pub record Made-ranges (n : MadeNumbers) : Type 0 where
   pub refusal-small : n .refusal ≤ class-buffer-too-short
   pub states-small : n .states ≤ most-entries
   pub entries-small : n .entries ≤ most-entries
 
 -- a refusal's number is small
-refusal-small : {list classes : List ℕ} {number : ℕ} → Refuses list classes number → number ≤ class-buffer-too-short
+refusal-small : {list classes : List ℕ} {number : ℕ} → Refuses-making list classes number
+    → number ≤ class-buffer-too-short
 refusal-small (not-good why) = omega arith
 refusal-small (too-few-classes why) = omega arith
 
-pub made-ranges : {list classes table after room cleared : List ℕ} {n : Numbers}
+pub made-ranges : {list classes table after room cleared : List ℕ} {n : MadeNumbers}
     → Makes list classes table after room cleared n → Made-ranges n
 made-ranges (refused why same kept) =
     record { refusal-small = refusal-small why; states-small = omega arith; entries-small = omega arith }
@@ -86,15 +87,15 @@ tabling-unique list classes table after after' room cleared cleared' r s m n =
 
 -- the refusal of a match by table is small
 answered-small : (short matched : Bool)
-    → cond short (refusing table-too-short) (table-answering matched) .refusal ≤ table-too-short
+    → cond short (refusing-table table-too-short) (table-answering matched) .refusal ≤ table-too-short
 answered-small true matched = omega arith
 answered-small false matched = omega arith
 
 -- its number gives its parts back
-pub table-unpacks : (table text : List ℕ) (r : ℕ) → r ≡ table-packed (answered table text)
-    → let n = answered table text in Unpacks r (n .refusal) (cond (n .matched) 1 0) 0 0
+pub table-unpacks : (table text : List ℕ) (r : ℕ) → r ≡ table-packed (table-answered table text)
+    → let n = table-answered table text in Unpacks r (n .refusal) (cond (n .matched) 1 0) 0 0
 table-unpacks table text r e =
-    let n = answered table text in
+    let n = table-answered table text in
     unpacks r (n .refusal) (cond (n .matched) 1 0) 0 0
     (record {
       number-small = omega (arith, answered-small (ltb (length table) shortest-table) (runs table text));
@@ -104,9 +105,9 @@ table-unpacks table text r e =
     }) e
 
 -- where the flag says that a table was made, it was
-of-made : {list classes table after room cleared : List ℕ} {n : Numbers}
+of-made : {list classes table after room cleared : List ℕ} {n : MadeNumbers}
     → Makes list classes table after room cleared n → n .made ≡ true
-    → Of-good list classes (λ t. Table-made classes t table after room cleared (n .states) (n .entries))
+    → Of-good-classed list classes (λ t. Table-made classes t table after room cleared (n .states) (n .entries))
 of-made (refused why same kept) made = absurd (false≢true made)
 of-made (table-made of) made = of
 of-made (does-not-fit of) made = absurd (false≢true made)
@@ -114,7 +115,7 @@ of-made (does-not-fit of) made = absurd (false≢true made)
 -- the result: by a table that was made of a list a match answers the same number as by the list
 pub tabling-agrees : {list classes table after room cleared : List ℕ} {r : ℕ}
     (m : Tabling list classes table after room cleared r) → m .numbers .made ≡ true → (text : List ℕ) → Bytes text
-    → {matched : Bool} → Match-answers list classes text (answering matched)
-    → table-packed (answered after text) ≡ found-packed (answering matched)
+    → {matched : Bool} → Match-answers list classes text (answering-match matched)
+    → table-packed (table-answered after text) ≡ found-packed (answering-match matched)
 tabling-agrees m made text bytes told =
     ap table-packed (answered-as-match (of-made (m .right) made) text bytes told)

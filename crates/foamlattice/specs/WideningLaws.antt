@@ -11,8 +11,8 @@ use Rattle.widen.specs.declared.Widened.the-variants.{Written, NotGood, NoRoom}
 use Rattle.widen.specs.Promise.{Widens, widen-refusal}
 use Rattle.widen.specs.OldLayout.{widened}
 use Rattle.widen.specs.PromiseLaws.{widened-unique}
-use Rattle.foamlattice.specs.Packed.{packed, Unpacks}
-use Rattle.foamlattice.specs.Bounds.{unpacks}
+use Rattle.one_number.specs.Packed.{packed, Unpacks}
+use Rattle.foamlattice.specs.PackedBounds.{unpacks}
 use Rattle.foamlattice.specs.Promise.{widen-count, widen-packed, Widening}
 
 -- there are at most 1,920 records

@@ -1,12 +1,10 @@
 // The outside interface: reading, matching, searching, starting, stepping, picking and tables of steps for callers in C
 // and Rust, each of which answers one number.
-mod pack;
-
 use checker::CountedAnswer;
 use checker::check;
 use checker::check_second;
 use finder::is_match;
-use finder::numbers::Numbers;
+use finder::numbers::FoundNumbers;
 use finder::numbers::match_numbers;
 use finder::numbers::search_numbers;
 use finder::search;
@@ -17,7 +15,8 @@ use marks::numbers::numbers_of;
 use marks::start;
 use marks::step;
 use marks::steps;
-use pack::pack;
+use one_number::pack;
+use one_number::pack_counts;
 use picker::Picked;
 use picker::pick;
 use reader::ReadAnswer;
@@ -35,13 +34,13 @@ use widen::Widened;
 use widen::widen;
 ghost use mathlib.Core.Path.{_≡_};
 ghost use lib.ListN.{length};
-ghost use Rattle.reader.specs.Answer.{answered, records-after};
+ghost use Rattle.reader.specs.Answer.{read-answered, records-after};
 ghost use Rattle.checker.specs.Checked.{counted-numbers, checked};
 ghost use Rattle.reader.specs.SecondAnswer.{second-answered, second-records-after, second-classes-after};
 ghost use Rattle.operands.specs.Bytes.{first, second};
-ghost use Rattle.lines.specs.Answer.{numbers};
-ghost use Rattle.running.specs.Answer.{answered as table-answered};
-ghost use Rattle.foamlattice.specs.Bounds.{Second-ranges, Found-ranges, Marks-ranges};
+ghost use Rattle.lines.specs.Answer.{lines-numbers};
+ghost use Rattle.running.specs.Answer.{table-answered};
+ghost use Rattle.foamlattice.specs.PackedBounds.{Second-ranges, Found-ranges, Marks-ranges};
 ghost use Rattle.foamlattice.specs.LinesLaws.{Lines-ranges};
 ghost use Rattle.foamlattice.specs.Promise.{
   read-packed,
@@ -65,18 +64,16 @@ ghost use Rattle.foamlattice.specs.Promise.{
 // Reads an expression of the first syntax into tree records.
 #[no_mangle]
 pub extern "C" fn foam_read(expression: &[u8], records: &mut [u8]) -> u64
-    ensures answer { λ r. ⌜ r ≡ read-packed (answered (now (expression .entry)) (length (now (records .entry)))) ⌝ }
+    ensures answer { λ r. ⌜ r ≡ read-packed
+        (read-answered (now (expression .entry)) (length (now (records .entry)))) ⌝ }
     ensures buffer { λ _. ⌜ now (records .exit) ≡ records-after (now (expression .entry)) (now (records .entry)) ⌝ }
 {
     let answer = read(expression, records);
     match answer {
-        ReadAnswer::Read { records, pieces } => pack(0, false, records, pieces),
+        ReadAnswer::Read { records, pieces } => pack_counts(records, pieces, 0),
         ReadAnswer::Refused { number, place } => pack(number, false, place, 0),
     }
 }
-
-// In y the count of classes stands above that of pieces, by this factor.
-const CLASSES_PART: usize = 256;
 
 // What a check, or a reading in the second syntax, gives back, packed.
 fn pack_counted(answer: CountedAnswer) -> u64
@@ -88,7 +85,7 @@ fn pack_counted(answer: CountedAnswer) -> u64
             records,
             pieces,
             classes,
-        } => pack(0, false, records, pieces + CLASSES_PART * classes),
+        } => pack_counts(records, pieces, classes),
         CountedAnswer::Refused { number, place } => pack(number, false, place, 0),
     }
 }
@@ -126,7 +123,7 @@ pub extern "C" fn foam_read2(expression: &[u8], records: &mut [u8], classes: &mu
 }
 
 // What a match or a search gives back, packed.
-fn pack_found(numbers: Numbers) -> u64
+fn pack_found(numbers: FoundNumbers) -> u64
     requires { ⌜ Found-ranges numbers ⌝ }
     ensures { λ r. ⌜ r ≡ found-packed numbers ⌝ }
 {
@@ -159,7 +156,7 @@ pub extern "C" fn foam_search(records: &[u8], classes: &[u8], text: &[u8]) -> u6
 }
 
 // What a start or a step gives back, packed.
-fn pack_marked(numbers: marks::numbers::Numbers) -> u64
+fn pack_marked(numbers: marks::numbers::MarksNumbers) -> u64
     requires { ⌜ Marks-ranges numbers ⌝ }
     ensures { λ r. ⌜ r ≡ marks-packed numbers ⌝ }
 {
@@ -207,8 +204,8 @@ pub extern "C" fn foam_steps(records: &[u8], classes: &[u8], words: &mut [u64], 
 
 // What matching the lines of a text gives back, packed.
 fn pack_lines(answer: LinesAnswer) -> u64
-    requires { ⌜ Lines-ranges (numbers answer) ⌝ }
-    ensures { λ r. ⌜ r ≡ lines-packed (numbers answer) ⌝ }
+    requires { ⌜ Lines-ranges (lines-numbers answer) ⌝ }
+    ensures { λ r. ⌜ r ≡ lines-packed (lines-numbers answer) ⌝ }
 {
     match answer {
         LinesAnswer::Answered { lines, yes } => pack(0, false, lines, yes),

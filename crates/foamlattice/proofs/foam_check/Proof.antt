@@ -1,8 +1,9 @@
--- `foamlattice::foam_check` meets its contract: the numbers are those of `reader::check`, and each fits its part of the word.
+-- `foamlattice::foam_check` meets its contract: the numbers are those of `reader::check`, and each fits its part of the
+-- word.
 use mathlib.Core.Path.{sym, ap, _∙_}
 use Rattle.operands.specs.Bytes.{first}
 use Rattle.foamlattice.specs.Promise.{second-packed}
-use Rattle.foamlattice.specs.Bounds.{checked-ranges}
+use Rattle.foamlattice.specs.PackedBounds.{checked-ranges}
 use borrow.Author.Needs.{needs}
 use Rattle.foamlattice.proofs.foam_check.Statement.{statement}
 use Rattle.foamlattice.proofs.foam_check.Tie as tie

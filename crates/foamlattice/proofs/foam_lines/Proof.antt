@@ -1,6 +1,6 @@
 -- `foamlattice::foam_lines` meets its contract: the numbers are those of `lines::lines`, and each fits its part of the
 -- word.
-use Rattle.lines.specs.Answer.{numbers}
+use Rattle.lines.specs.Answer.{lines-numbers}
 use Rattle.foamlattice.specs.LinesLaws.{lines-ranges}
 use borrow.Author.Needs.{needs}
 use Rattle.foamlattice.proofs.foam_lines.Statement.{statement}
@@ -18,7 +18,7 @@ same-length c = search needs
 returns : tie.Need-returns
 returns c =
     let answered = c .before .before .before .lines in
-    record { numbers = numbers (answered .result); right = answered .ensures; as-number = c .pack-lines .ensures }
+    record { numbers = lines-numbers (answered .result); right = answered .ensures; as-number = c .pack-lines .ensures }
 
 pub foam-lines-spec : {M : Type 1} → statement M
 foam-lines-spec = tie.close (tie.spec lines-requires pack-lines-requires same-length returns)

@@ -1,6 +1,6 @@
 -- `foamlattice::foam_match` meets its contract: the numbers are those of `finder::is_match`, and each fits its part of
 -- the word.
-use Rattle.foamlattice.specs.Bounds.{match-ranges}
+use Rattle.foamlattice.specs.PackedBounds.{match-ranges}
 use borrow.Author.Needs.{needs}
 use Rattle.foamlattice.proofs.foam_match.Statement.{statement}
 use Rattle.foamlattice.proofs.foam_match.Tie as tie

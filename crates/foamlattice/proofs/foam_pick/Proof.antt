@@ -3,14 +3,13 @@
 use native.Mathlib.Omega.{arith}
 use mathlib.Core.Path.{ap, sym, _∙_}
 use Rattle.foamlattice.specs.Promise.{pick-packed}
-use Rattle.foamlattice.specs.Bounds.{pick-length-small}
+use Rattle.foamlattice.specs.PackedBounds.{pick-length-small}
 use Rattle.foamlattice.proofs.Told.{told-pick}
 use borrow.Author.Needs.{needs}
 use Rattle.foamlattice.proofs.foam_pick.Statement.{statement}
 use Rattle.foamlattice.proofs.foam_pick.Tie as tie
 use Rattle.foamlattice.proofs.foam_pick.Reads as reads
 use Rattle.foamlattice.proofs.foam_pick.Lts as lts
-use Rattle.foamlattice.proofs.pack.pack.Reads as pack-reads
 use Rattle.picker.proofs.pick.Reads as pick-reads
 
 pick-requires : tie.Need-pick-requires

@@ -2,7 +2,7 @@
 -- of the word.
 use mathlib.Core.Path.{ap, _∙_}
 use Rattle.foamlattice.specs.Promise.{second-packed}
-use Rattle.foamlattice.specs.Bounds.{second-ranges}
+use Rattle.foamlattice.specs.PackedBounds.{second-ranges}
 use borrow.Author.Needs.{needs}
 use Rattle.foamlattice.proofs.foam_read2.Statement.{statement}
 use Rattle.foamlattice.proofs.foam_read2.Tie as tie

@@ -1,6 +1,6 @@
 -- `foamlattice::foam_search` meets its contract: the numbers are those of `finder::search`, and each fits its part of
 -- the word.
-use Rattle.foamlattice.specs.Bounds.{search-ranges}
+use Rattle.foamlattice.specs.PackedBounds.{search-ranges}
 use borrow.Author.Needs.{needs}
 use Rattle.foamlattice.proofs.foam_search.Statement.{statement}
 use Rattle.foamlattice.proofs.foam_search.Tie as tie

@@ -1,6 +1,6 @@
 -- `foamlattice::foam_start` meets its contract: the numbers are those of `marks::start`, and each fits its part of the
 -- word.
-use Rattle.foamlattice.specs.Bounds.{start-ranges}
+use Rattle.foamlattice.specs.PackedBounds.{start-ranges}
 use borrow.Author.Needs.{needs}
 use Rattle.foamlattice.proofs.foam_start.Statement.{statement}
 use Rattle.foamlattice.proofs.foam_start.Tie as tie

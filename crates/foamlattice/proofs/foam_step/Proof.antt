@@ -1,6 +1,6 @@
 -- `foamlattice::foam_step` meets its contract: the numbers are those of `marks::step`, and each fits its part of the
 -- word.
-use Rattle.foamlattice.specs.Bounds.{step-ranges}
+use Rattle.foamlattice.specs.PackedBounds.{step-ranges}
 use borrow.Author.Needs.{needs}
 use Rattle.foamlattice.proofs.foam_step.Statement.{statement}
 use Rattle.foamlattice.proofs.foam_step.Tie as tie

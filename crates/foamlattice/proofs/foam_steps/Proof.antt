@@ -1,6 +1,6 @@
 -- `foamlattice::foam_steps` meets its contract: the numbers are those of `marks::steps`, and each fits its part of the
 -- word.
-use Rattle.foamlattice.specs.Bounds.{steps-ranges}
+use Rattle.foamlattice.specs.PackedBounds.{steps-ranges}
 use borrow.Author.Needs.{needs}
 use Rattle.foamlattice.proofs.foam_steps.Statement.{statement}
 use Rattle.foamlattice.proofs.foam_steps.Tie as tie

@@ -10,7 +10,6 @@ use Rattle.foamlattice.proofs.foam_widen.Statement.{statement}
 use Rattle.foamlattice.proofs.foam_widen.Tie as tie
 use Rattle.foamlattice.proofs.foam_widen.Reads as reads
 use Rattle.foamlattice.proofs.foam_widen.Lts as lts
-use Rattle.foamlattice.proofs.pack.pack.Reads as pack-reads
 use Rattle.widen.proofs.widen.Reads as widen-reads
 
 widen-requires : tie.Need-widen-requires

@@ -3,7 +3,7 @@ use native.Mathlib.Omega.{arith}
 use mathlib.Core.Path.{ap, sym, _∙_}
 use Rattle.checker.specs.Checked.{counted-numbers}
 use Rattle.foamlattice.specs.Promise.{second-packed}
-use Rattle.foamlattice.specs.Bounds.{Second-ranges}
+use Rattle.foamlattice.specs.PackedBounds.{Second-ranges}
 use Rattle.foamlattice.proofs.Told.{second-number, second-refused-number}
 use Rattle.checker.specs.declared.answer.CountedAnswer.the-variants.{Counted, Refused}
 use borrow.Author.Needs.{needs}
@@ -23,33 +23,25 @@ refused-small c = rw (c .answer2 .given .1) at (c .before .before .pre)
 enum-known-answer : tie.Need-enum-known-answer
 enum-known-answer c = search needs
 
-mul-pack : tie.Need-mul-pack
-mul-pack c = record { fits = omega (arith, counted-small (c .before) .classes-small) }
-
-add-pack : tie.Need-add-pack
-add-pack c =
+pack-counts-requires : tie.Need-pack-counts-requires
+pack-counts-requires c κs =
     let known = counted-small (c .before) in
-    record { fits = omega (arith, known .classes-small, known .pieces-small) }
-
-pack-requires : tie.Need-pack-requires
-pack-requires c κs =
-    let known = counted-small (c .before) in
-    (omega (arith, known .records-small), omega (arith, known .pieces-small, known .classes-small))
+    (omega (arith, known .records-small), (omega (arith, known .pieces-small), omega (arith, known .classes-small)))
 
 enum-known-answer-2 : tie.Need-enum-known-answer-2
 enum-known-answer-2 c = search needs
 
-pack-requires-2 : tie.Need-pack-requires-2
-pack-requires-2 c κs = (omega (arith, refused-small (c .before) .place-small), omega arith)
+pack-requires : tie.Need-pack-requires
+pack-requires c κs = (omega (arith, refused-small (c .before) .place-small), omega arith)
 
 returns : tie.Need-returns
 returns c =
-    c .pack .ensures ∙ second-number _ _ _
+    c .pack-counts .ensures ∙ second-number _ _ _
     ∙ ap second-packed (sym (ap counted-numbers (c .before .before .answer .given .1)))
 
 returns-2 : tie.Need-returns-2
 returns-2 c =
-    c .pack2 .ensures ∙ second-refused-number _ _
+    c .pack .ensures ∙ second-refused-number _ _
     ∙ ap second-packed (sym (ap counted-numbers (c .before .before .answer2 .given .1)))
 
 pub pack-counted-spec : {M : Type 1} → statement M
@@ -57,10 +49,8 @@ pack-counted-spec =
     tie.close
     (tie.spec
     enum-known-answer
-    mul-pack
-    add-pack
-    pack-requires
+    pack-counts-requires
     enum-known-answer-2
-    pack-requires-2
+    pack-requires
     returns
     returns-2)

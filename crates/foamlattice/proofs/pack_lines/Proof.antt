@@ -1,7 +1,7 @@
 -- `foamlattice::pack_lines` meets its contract: each number fits its part of the word.
 use native.Mathlib.Omega.{arith}
 use mathlib.Core.Path.{ap, sym, _∙_}
-use Rattle.lines.specs.Answer.{numbers}
+use Rattle.lines.specs.Answer.{lines-numbers}
 use Rattle.lines.specs.declared.LinesAnswer.the-variants.{Answered}
 use Rattle.foamlattice.specs.Promise.{lines-packed}
 use Rattle.foamlattice.specs.LinesLaws.{Lines-ranges}
@@ -11,7 +11,7 @@ use Rattle.foamlattice.proofs.pack_lines.Statement.{statement}
 use Rattle.foamlattice.proofs.pack_lines.Tie as tie
 
 -- what was counted is in range
-counted-small : (c : tie.After-answer) → Lines-ranges (numbers (Answered (c .answer .given .0 .0)
+counted-small : (c : tie.After-answer) → Lines-ranges (lines-numbers (Answered (c .answer .given .0 .0)
     (c .answer .given .0 .1 .0)))
 counted-small c = rw (c .answer .given .1) at (c .before .before .pre)
 
@@ -49,7 +49,7 @@ pack-requires-5 c κs = search needs
 
 returns : tie.Need-returns
 returns c =
-    c .pack .ensures ∙ lines-number _ _ ∙ ap lines-packed (sym (ap numbers (c .before .before .answer .given .1)))
+    c .pack .ensures ∙ lines-number _ _ ∙ ap lines-packed (sym (ap lines-numbers (c .before .before .answer .given .1)))
 
 returns-2 : tie.Need-returns-2
 returns-2 c =

@@ -21,7 +21,7 @@ use Rattle.checker.specs.Expanded.{expanded}
 use Rattle.checker.specs.Drawn.{drawn, recorded-from, recorded, classes-in}
 use Rattle.checker.specs.ExpandedLaws.{expanded-refusal}
 use Rattle.checker.specs.DrawnLaws.{first-drawn-refusal}
-use Rattle.reader.specs.Answer.{Numbers, refusing, reading, answer-for, answered}
+use Rattle.reader.specs.Answer.{Read-numbers, refusing-read, reading, answer-for, read-answered}
 use Rattle.checker.specs.Checked.{Counted-numbers, refusing-counts, counting, too-many, checked-for, checked}
 use Rattle.reader.specs.SecondAnswer.{
   too-short,
@@ -30,7 +30,7 @@ use Rattle.reader.specs.SecondAnswer.{
   second-answer-for,
   second-answered,
 }
-use Rattle.marks.specs.declared.numbers.Numbers.{Numbers as Marks-numbers}
+use Rattle.marks.specs.declared.numbers.MarksNumbers.{MarksNumbers}
 use Rattle.marks.specs.StepsEach.{
   stay-not-good,
   stay-too-few-classes,
@@ -42,8 +42,8 @@ use Rattle.marks.specs.StepsEach.{
   one-more,
 }
 use Rattle.marks.specs.Promise.{
-  Refused,
-  Made,
+  Refused-unchanged,
+  Marks-made,
   Starts,
   start-not-good,
   start-too-few-classes,
@@ -56,7 +56,7 @@ use Rattle.marks.specs.Promise.{
   step-not-marks,
   stepped,
 }
-use Rattle.finder.specs.declared.numbers.Numbers.{Numbers as Found-numbers}
+use Rattle.finder.specs.declared.numbers.FoundNumbers.{FoundNumbers}
 use Rattle.finder.specs.Promise.{
   Refuses,
   not-good,
@@ -73,10 +73,10 @@ use Rattle.finder.specs.Promise.{
 use Rattle.finder.specs.Decide.{matches}
 use Rattle.picker.specs.declared.Picked.{Picked}
 use Rattle.picker.specs.declared.Picked.the-variants.{Written, NoRoom}
-use Rattle.printing.specs.Limits.{most-output}
-use Rattle.printing.specs.Room.{output-length}
+use Rattle.printing.specs.OutputLimits.{most-output}
+use Rattle.reporting.specs.OutputBound.{output-length}
 use Rattle.picker.specs.Promise.{Picks}
-use Rattle.foamlattice.specs.Packed.{packed, Ranges, Unpacks}
+use Rattle.one_number.specs.Packed.{packed, Ranges, Unpacks}
 use Rattle.foamlattice.specs.Promise.{
   read-packed,
   second-packed,
@@ -102,7 +102,7 @@ unpacks r number flag x y h e = record {
 }
 
 -- the numbers that reading can answer
-pub record Read-ranges (n : Numbers) : Type 0 where
+pub record Read-ranges (n : Read-numbers) : Type 0 where
   pub refusal-small : n .refusal ≤ buffer-too-short
   pub place-small : n .place ≤ longest-expression
   pub records-small : n .records ≤ most-records
@@ -110,7 +110,8 @@ pub record Read-ranges (n : Numbers) : Type 0 where
 
 -- by the two tests of an expression that is read: the records have at most 15 nodes for each of at most 128 pieces
 picked-ranges : (t : Tree Leaf) (many short : Bool) → ltb most-pieces (piece-count t) ≡ many
-    → Read-ranges (cond many (refusing too-many-pieces 0) (cond short (refusing buffer-too-short 0) (reading t)))
+    → Read-ranges (cond many (refusing-read too-many-pieces 0)
+    (cond short (refusing-read buffer-too-short 0) (reading t)))
 picked-ranges t true short e = record {
   refusal-small = omega arith;
   place-small = omega arith;
@@ -149,11 +150,11 @@ outcome-ranges bytes room (tree t) e =
     picked-ranges t (ltb most-pieces (piece-count t)) (ltb room (record-size * nodes t)) refl
 
 -- what is answered for any bytes and any buffer
-pub answered-ranges : (bytes : List ℕ) (room : ℕ) → Read-ranges (answered bytes room)
+pub answered-ranges : (bytes : List ℕ) (room : ℕ) → Read-ranges (read-answered bytes room)
 answered-ranges bytes room = outcome-ranges bytes room (drawn (expanded first bytes)) refl
 
 -- so for numbers that fit the promise
-pub read-ranges : (bytes : List ℕ) (room : ℕ) (n : Numbers) → n ≡ answered bytes room → Read-ranges n
+pub read-ranges : (bytes : List ℕ) (room : ℕ) (n : Read-numbers) → n ≡ read-answered bytes room → Read-ranges n
 read-ranges bytes room n e = rw e (answered-ranges bytes room)
 
 -- the numbers that reading in the second syntax can answer
@@ -244,7 +245,7 @@ pub second-ranges : (bytes : List ℕ) (room class-room : ℕ) (n : Counted-numb
 second-ranges bytes room class-room n e = rw e (second-answered-ranges bytes room class-room)
 
 -- the numbers that match and search can give back: a part found lies in a text of at most 65,536 bytes
-pub record Found-ranges (n : Found-numbers) : Type 0 where
+pub record Found-ranges (n : FoundNumbers) : Type 0 where
   pub refusal-small : n .refusal ≤ class-buffer-too-short
   pub x-small : n .place + n .start ≤ longest-text
   pub y-small : n .end ≤ longest-text
@@ -255,13 +256,13 @@ refused-ranges (not-good why) = omega arith
 refused-ranges (too-few-classes why) = omega arith
 refused-ranges (too-long a) = omega arith
 
-pub match-ranges : {list classes text : List ℕ} {n : Found-numbers} → Match-answers list classes text n
+pub match-ranges : {list classes text : List ℕ} {n : FoundNumbers} → Match-answers list classes text n
     → Found-ranges n
 match-ranges (match-refused r) =
     record { refusal-small = refused-ranges r; x-small = omega arith; y-small = omega arith }
 match-ranges (match-answered a) = record { refusal-small = omega arith; x-small = omega arith; y-small = omega arith }
 
-pub search-ranges : {list classes text : List ℕ} {n : Found-numbers} → Search-answers list classes text n
+pub search-ranges : {list classes text : List ℕ} {n : FoundNumbers} → Search-answers list classes text n
     → Found-ranges n
 search-ranges (search-refused r) =
     record { refusal-small = refused-ranges r; x-small = omega arith; y-small = omega arith }
@@ -274,35 +275,35 @@ search-ranges (search-found a) =
 search-ranges (search-nothing a) = record { refusal-small = omega arith; x-small = omega arith; y-small = omega arith }
 
 -- the numbers that start and step can give back
-pub record Marks-ranges (n : Marks-numbers) : Type 0 where
+pub record Marks-ranges (n : MarksNumbers) : Type 0 where
   pub refusal-small : n .refusal ≤ class-buffer-too-short
   pub front : n .place ≡ 0
 
-refused-marks : {number : ℕ} {why : Type 0} {before after : List ℕ} {n : Marks-numbers}
+refused-marks : {number : ℕ} {why : Type 0} {before after : List ℕ} {n : MarksNumbers}
     → number ≤ class-buffer-too-short
-    → Refused number why before after n → Marks-ranges n
+    → Refused-unchanged number why before after n → Marks-ranges n
 refused-marks small r =
     record {
-      refusal-small = rw (ap (λ (n : Marks-numbers). n .refusal) (r .refuses)) small;
-      front = ap (λ (n : Marks-numbers). n .place) (r .refuses);
+      refusal-small = rw (ap (λ (n : MarksNumbers). n .refusal) (r .refuses)) small;
+      front = ap (λ (n : MarksNumbers). n .place) (r .refuses);
     }
 
-made-marks : {list classes : List ℕ} {X : Tree Leaf → States} {before after : List ℕ} {n : Marks-numbers}
-    → Made list classes X before after n → Marks-ranges n
+made-marks : {list classes : List ℕ} {X : Tree Leaf → States} {before after : List ℕ} {n : MarksNumbers}
+    → Marks-made list classes X before after n → Marks-ranges n
 made-marks m =
     record {
-      refusal-small = rw (ap (λ (n : Marks-numbers). n .refusal) (m .marks)) (omega arith);
-      front = ap (λ (n : Marks-numbers). n .place) (m .marks);
+      refusal-small = rw (ap (λ (n : MarksNumbers). n .refusal) (m .marks)) (omega arith);
+      front = ap (λ (n : MarksNumbers). n .place) (m .marks);
     }
 
-pub start-ranges : {list classes before after : List ℕ} {n : Marks-numbers} → Starts list classes before after n
+pub start-ranges : {list classes before after : List ℕ} {n : MarksNumbers} → Starts list classes before after n
     → Marks-ranges n
 start-ranges (start-not-good r) = refused-marks (omega arith) r
 start-ranges (start-too-few-classes r) = refused-marks (omega arith) r
 start-ranges (start-too-few r) = refused-marks (omega arith) r
 start-ranges (started m) = made-marks m
 
-pub step-ranges : {list classes : List ℕ} {byte : ℕ} {before after : List ℕ} {n : Marks-numbers}
+pub step-ranges : {list classes : List ℕ} {byte : ℕ} {before after : List ℕ} {n : MarksNumbers}
     → Steps list classes byte before after n → Marks-ranges n
 step-ranges (step-not-good r) = refused-marks (omega arith) r
 step-ranges (step-too-few-classes r) = refused-marks (omega arith) r
@@ -310,7 +311,7 @@ step-ranges (step-too-few r) = refused-marks (omega arith) r
 step-ranges (step-not-marks r) = refused-marks (omega arith) r
 step-ranges (stepped s) = made-marks (s .made)
 
-pub steps-ranges : {list classes before bytes after : List ℕ} {n : Marks-numbers}
+pub steps-ranges : {list classes before bytes after : List ℕ} {n : MarksNumbers}
     → Steps-each list classes before bytes after n → Marks-ranges n
 steps-ranges (no-byte (stay-not-good r)) = refused-marks (omega arith) r
 steps-ranges (no-byte (stay-too-few-classes r)) = refused-marks (omega arith) r
@@ -357,9 +358,10 @@ case-unpacks r number flag x y h k l e =
     }) e
 
 -- the number that reading answers gives its parts back
-pub read-unpacks : (bytes : List ℕ) (room r : ℕ) → r ≡ read-packed (answered bytes room)
-    → Unpacks r (answered bytes room .refusal) 0 (answered bytes room .place + answered bytes room .records)
-    (answered bytes room .pieces)
+pub read-unpacks : (bytes : List ℕ) (room r : ℕ) → r ≡ read-packed (read-answered bytes room)
+    → Unpacks r (read-answered bytes room .refusal) 0
+    (read-answered bytes room .place + read-answered bytes room .records)
+    (read-answered bytes room .pieces)
 read-unpacks bytes room r e =
     let known = answered-ranges bytes room in
     case-unpacks r _ 0 _ _ (small _ 0 (omega (arith, known .refusal-small)) (omega arith))
@@ -393,7 +395,7 @@ pub counts-back : (pieces classes y : ℕ) → pieces ≤ most-pieces → y ≡ 
 counts-back pieces classes y few e = (omega arith, omega arith)
 
 -- so does that of a match, of a search, of a start, of a step and of a picking
-found-unpacks : (r : ℕ) (n : Found-numbers) → Found-ranges n → r ≡ found-packed n
+found-unpacks : (r : ℕ) (n : FoundNumbers) → Found-ranges n → r ≡ found-packed n
     → Unpacks r (n .refusal) (cond (n .matched) 1 0) (n .place + n .start) (n .end)
 found-unpacks r n known e =
     case-unpacks r _ _ _ _ (small _ _ (omega (arith, known .refusal-small)) (flag-small (n .matched)))
@@ -409,7 +411,7 @@ pub searching-unpacks : (list classes text : List ℕ) (r : ℕ) (m : Searching 
     (m .numbers .end)
 searching-unpacks list classes text r m = found-unpacks r (m .numbers) (search-ranges (m .right)) (m .as-number)
 
-marks-unpacks : (r : ℕ) (n : Marks-numbers) → Marks-ranges n → r ≡ marks-packed n
+marks-unpacks : (r : ℕ) (n : MarksNumbers) → Marks-ranges n → r ≡ marks-packed n
     → Unpacks r (n .refusal) (cond (n .accepting) 1 0) (n .place + cond (n .nothing) 1 0) 0
 marks-unpacks r n known e =
     case-unpacks r _ _ _ 0 (small _ _ (omega (arith, known .refusal-small)) (flag-small (n .accepting)))

@@ -1,0 +1,2 @@
+-- Four numbers in one.
+pub mod Packed
