@@ -6,12 +6,19 @@ use crate::date::text_of;
 use finder::Matched;
 use libc::STDOUT_FILENO;
 use reader::ReadAnswer;
+use tree::layout::RECORD_SIZE;
+use tree::limits::MOST_RECORDS;
 ghost use Prim.Native.Nat.{_+_, _≤_, _<_};
 ghost use mathlib.Core.Path.{_≡_};
 ghost use lib.ListN.{length};
 
 // How many dates there are.
 const DATES: usize = 366;
+
+// The bit of a byte that is changed: its lowest, then its highest.
+const LOWEST_BIT: u8 = 1;
+
+const HIGHEST_BIT: u8 = 128;
 
 fn say(text: &[u8]) {
     io::write_all(STDOUT_FILENO, text);
@@ -174,23 +181,23 @@ fn try_list(list: &[u8], pieces: usize, listed: bool) {
     say_end_of_february(list);
     say_dates(list, listed);
     say_no_dates(list);
-    say_changed(list, 1);
+    say_changed(list, LOWEST_BIT);
     say(b"of 366 with the lowest bit of a byte changed\n");
-    say_changed(list, 128);
+    say_changed(list, HIGHEST_BIT);
     say(b"of 366 with the highest bit of a byte changed\n");
 }
 
 // How many bytes so many records have.
 fn bytes_of(records: usize) -> isize {
-    if records > 1920 {
+    if records > MOST_RECORDS {
         return 0;
     }
-    (12 * records) as isize
+    (RECORD_SIZE * records) as isize
 }
 
 // Reads an expression and tries it; lists what dates it picks where that is asked.
 pub fn trial(expr: &[u8], listed: bool) {
-    let mut list = [0u8; 23040];
+    let mut list = [0u8; RECORD_SIZE * MOST_RECORDS];
     let answer = reader::read(expr, &mut list);
     let ReadAnswer::Read { records, pieces } = answer else {
         say(b"refused\n");

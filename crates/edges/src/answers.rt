@@ -1,9 +1,4 @@
 // What a call answers, in words.
-use crate::say::refused;
-use crate::say::say;
-use crate::say::say_hex;
-use crate::say::say_number;
-use crate::say::say_yes;
 use checker::CountedAnswer;
 use finder::Matched;
 use finder::Searched;
@@ -12,6 +7,10 @@ use finder::numbers::search_numbers;
 use marks::MarksAnswer;
 use marks::numbers::numbers_of;
 use reader::ReadAnswer;
+use saying::refused;
+use saying::say;
+use saying::say_number;
+use saying::say_yes;
 
 fn say_counts(records: usize, pieces: usize) {
     say(b"records ");
@@ -79,36 +78,4 @@ pub fn say_marks(answer: MarksAnswer) {
         say_yes(numbers.accepting);
     }
     say(b", marks");
-}
-
-// One word, in decimal and in hex.
-fn say_word(word: u64) {
-    say(b" ");
-    say_number(word);
-    say(b" (0x");
-    say_hex(word, 1);
-    say(b")");
-}
-
-// The first of the words, as many as are to be shown.
-pub fn say_words(words: &[u64], shown: usize) {
-    let mut i = 0;
-    while i < words.len() && i < shown {
-        say_word(words[i]);
-        i += 1;
-    }
-}
-
-fn say_byte(byte: u8) {
-    say(b" ");
-    say_hex(byte as u64, 2);
-}
-
-// Bytes in hex.
-pub fn say_bytes(bytes: &[u8]) {
-    let mut i = 0;
-    while i < bytes.len() {
-        say_byte(bytes[i]);
-        i += 1;
-    }
 }

@@ -1,18 +1,30 @@
 // The calls: by an expression of either syntax, or by a list and its classes.
-use crate::answers::say_bytes;
 use crate::answers::say_counted;
 use crate::answers::say_marks;
 use crate::answers::say_matched;
 use crate::answers::say_read;
 use crate::answers::say_searched;
-use crate::answers::say_words;
-use crate::say::say;
-use crate::table::between;
 use checker::CountedAnswer;
+use fields::between;
 use marks::MarksAnswer;
 use reader::ReadAnswer;
+use saying::say;
+use saying::say_bytes;
+use saying::say_words;
+use tree::layout::CLASS_RECORD_SIZE;
+use tree::layout::RECORD_SIZE;
+use tree::limits::MOST_PIECES;
+use tree::limits::MOST_RECORDS;
 ghost use Prim.Native.Nat.{_≤_};
 ghost use lib.ListN.{length};
+
+// The bytes of the longest list, and of its classes.
+const LONGEST_LIST: usize = RECORD_SIZE * MOST_RECORDS;
+
+const LONGEST_CLASSES: usize = CLASS_RECORD_SIZE * MOST_RECORDS;
+
+// The numbers of a call by words: how many words are lent, how many are shown, and a word for each piece.
+pub const MOST_NUMBERS: usize = MOST_PIECES + 2;
 
 // A number, or the most that it may be.
 fn at_most(n: usize, most: usize) -> usize
@@ -30,8 +42,8 @@ fn read_into(expr: &[u8], list: &mut [u8], room: usize)
 
 // Reads into so many bytes.
 pub fn read_first(expr: &[u8], room: usize) {
-    let mut list = [0u8; 23040];
-    read_into(expr, &mut list, at_most(room, 23040));
+    let mut list = [0u8; LONGEST_LIST];
+    read_into(expr, &mut list, at_most(room, LONGEST_LIST));
 }
 
 // Reads into the first bytes of two buffers, in the second syntax.
@@ -50,14 +62,14 @@ fn read_second_into(
 
 // Reads into so many bytes and so many for the classes.
 pub fn read_second(expr: &[u8], room: usize, class_room: usize) {
-    let mut list = [0u8; 23040];
-    let mut classes = [0u8; 30720];
+    let mut list = [0u8; LONGEST_LIST];
+    let mut classes = [0u8; LONGEST_CLASSES];
     read_second_into(
         expr,
         &mut list,
-        at_most(room, 23040),
+        at_most(room, LONGEST_LIST),
         &mut classes,
-        at_most(class_room, 30720),
+        at_most(class_room, LONGEST_CLASSES),
     );
 }
 
@@ -88,10 +100,10 @@ fn say_step(list: &[u8], classes: &[u8], words: &mut [u64]) {
 
 // Marks: the numbers are how many words are lent, how many are shown, and these words.
 fn by_words(call: u8, list: &[u8], classes: &[u8], text: &[u8], numbers: &mut [u64]) {
-    if numbers.len() < 130 {
+    if numbers.len() < MOST_NUMBERS {
         return;
     }
-    let lent = at_most(numbers[0] as usize, 128);
+    let lent = at_most(numbers[0] as usize, MOST_PIECES);
     let shown = numbers[1] as usize;
     let words = &mut numbers[2..lent + 2];
     if call == b'w' {
@@ -120,19 +132,27 @@ pub fn by_list(call: u8, list: &[u8], classes: &[u8], text: &[u8], numbers: &mut
     }
 }
 
-// The bytes of so many records: no list has more than 1,920.
+// The bytes of so many records, 0 for more than a list can have.
 fn record_bytes(count: usize) -> usize {
-    if count <= 1920 { 12 * count } else { 0 }
+    if count <= MOST_RECORDS {
+        RECORD_SIZE * count
+    } else {
+        0
+    }
 }
 
 // The bytes of so many class records.
 fn class_bytes(count: usize) -> usize {
-    if count <= 1920 { 32 * count } else { 0 }
+    if count <= MOST_RECORDS {
+        CLASS_RECORD_SIZE * count
+    } else {
+        0
+    }
 }
 
 // A call by the list of an expression of the first syntax.
 pub fn by_first(call: u8, expr: &[u8], text: &[u8], numbers: &mut [u64]) {
-    let mut list = [0u8; 23040];
+    let mut list = [0u8; LONGEST_LIST];
     let ReadAnswer::Read { records, pieces: _ } = reader::read(expr, &mut list) else {
         return;
     };
@@ -147,8 +167,8 @@ pub fn by_first(call: u8, expr: &[u8], text: &[u8], numbers: &mut [u64]) {
 
 // The same of the second syntax.
 pub fn by_second(call: u8, expr: &[u8], text: &[u8], numbers: &mut [u64]) {
-    let mut list = [0u8; 23040];
-    let mut classes = [0u8; 30720];
+    let mut list = [0u8; LONGEST_LIST];
+    let mut classes = [0u8; LONGEST_CLASSES];
     let answer = reader::read_second(expr, &mut list, &mut classes);
     let CountedAnswer::Counted {
         records,

@@ -3,8 +3,6 @@
 mod answers;
 mod calls;
 mod rows;
-mod say;
-mod table;
 
 use libc::STDIN_FILENO;
 

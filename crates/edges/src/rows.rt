@@ -1,15 +1,17 @@
 // One case from each row. Its fields: by what it calls, and the letter of the call; what is printed first; the
 // expression or the list; the text; numbers; the classes of a list.
+use crate::calls::MOST_NUMBERS;
 use crate::calls::by_first;
 use crate::calls::by_list;
 use crate::calls::by_second;
 use crate::calls::read_first;
 use crate::calls::read_second;
-use crate::say::say;
-use crate::table::between;
-use crate::table::end_at;
-use crate::table::put_fields;
-use crate::table::put_numbers;
+use fields::between;
+use fields::end_at;
+use fields::put_fields;
+use fields::put_numbers;
+use fields::say_field;
+use saying::say;
 
 // Reads, in the first syntax or in the second, into as many bytes as the numbers say.
 fn read_row(by: u8, expr: &[u8], numbers: &[u64]) {
@@ -32,23 +34,28 @@ fn call_row(by: u8, call: u8, first: &[u8], classes: &[u8], text: &[u8], numbers
     }
 }
 
+// The call of the row of these fields.
+fn call_of(by: u8, call: u8, bytes: &[u8], ends: &[usize; 6]) {
+    let first = between(bytes, ends[1], ends[2]);
+    let mut numbers = [0u64; MOST_NUMBERS];
+    put_numbers(between(bytes, ends[3], ends[4]), &mut numbers);
+    if call == b'r' {
+        read_row(by, first, &numbers);
+    } else {
+        let text = between(bytes, ends[2], ends[3]);
+        let classes = between(bytes, ends[4], ends[5]);
+        call_row(by, call, first, classes, text, &mut numbers);
+    }
+}
+
 // The row of these fields.
 fn row_of(bytes: &[u8], ends: &[usize; 6]) {
     let call = between(bytes, 0, ends[0]);
     if call.len() < 2 {
         return;
     }
-    say(between(bytes, ends[0], ends[1]));
-    let first = between(bytes, ends[1], ends[2]);
-    let mut numbers = [0u64; 130];
-    put_numbers(between(bytes, ends[3], ends[4]), &mut numbers);
-    if call[1] == b'r' {
-        read_row(call[0], first, &numbers);
-    } else {
-        let text = between(bytes, ends[2], ends[3]);
-        let classes = between(bytes, ends[4], ends[5]);
-        call_row(call[0], call[1], first, classes, text, &mut numbers);
-    }
+    say_field(bytes, ends[0], ends[1]);
+    call_of(call[0], call[1], bytes, ends);
     say(b"\n");
 }
 

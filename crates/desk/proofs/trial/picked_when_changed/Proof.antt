@@ -1,4 +1,5 @@
--- `desk::trial::picked_when_changed` is safe and ends: no more dates are picked than were tried, and the measure is how many are left.
+-- `desk::trial::picked_when_changed` is safe and ends: no more dates are picked than were tried, and the measure is how
+-- many are left.
 use Prim.Native.Nat.{_-_, _≤_}
 use borrow.Author.Needs.{needs}
 use Rattle.desk.proofs.trial.picked_when_changed.Statement.{statement}

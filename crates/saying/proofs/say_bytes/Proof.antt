@@ -1,9 +1,9 @@
--- `edges::answers::say_bytes` is safe and ends: the measure is how many bytes are left. Assumes nothing.
+-- `saying::say_bytes` is safe and ends: the measure is how many bytes are left. Assumes nothing.
 use Prim.Native.Nat.{_-_}
 use borrow.Author.Needs.{needs}
 use lib.ListN.{length}
-use Rattle.edges.proofs.answers.say_bytes.Statement.{statement}
-use Rattle.edges.proofs.answers.say_bytes.Tie as tie
+use Rattle.saying.proofs.say_bytes.Statement.{statement}
+use Rattle.saying.proofs.say_bytes.Tie as tie
 
 abbrev Inv-loop : tie.InvT-loop
 Inv-loop bytes i₀ i = Unit {0}

@@ -1,5 +1,6 @@
 // Rows of a table: fields with a tab between them. In a field `%` and two hex digits are a byte, and `~`, a number and
 // `;` are as many more of the byte before them.
+use saying::say;
 ghost use Prim.Native.Nat.{_≤_, _<_};
 ghost use lib.ListN.{length};
 
@@ -157,6 +158,11 @@ pub fn between(bytes: &[u8], start: usize, end: usize) -> &[u8] {
         return &bytes[start..end];
     }
     &bytes[..0]
+}
+
+// Says the bytes of a field.
+pub fn say_field(bytes: &[u8], start: usize, end: usize) {
+    say(between(bytes, start, end));
 }
 
 // Puts a number at its place, where there is one; answers the next place.

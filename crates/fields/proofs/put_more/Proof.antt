@@ -1,10 +1,10 @@
--- `edges::table::put_more` is safe and ends: the bytes stay as many; the measure is how many are left to put. Assumes
+-- `fields::put_more` is safe and ends: the bytes stay as many; the measure is how many are left to put. Assumes
 -- nothing.
 use mathlib.Core.Path.{_≡_}
 use borrow.Author.Needs.{needs}
 use lib.ListN.{length}
-use Rattle.edges.proofs.table.put_more.Statement.{statement}
-use Rattle.edges.proofs.table.put_more.Tie as tie
+use Rattle.fields.proofs.put_more.Statement.{statement}
+use Rattle.fields.proofs.put_more.Tie as tie
 
 abbrev Inv-loop : tie.InvT-loop
 Inv-loop bytes₀ count byte more n₀ left₀ bytes n left = length bytes ≡ length bytes₀

@@ -1,11 +1,11 @@
--- `edges::table::put_numbers` is safe and ends: the numbers stay as many; the measure is how many bytes are left.
+-- `fields::put_numbers` is safe and ends: the numbers stay as many; the measure is how many bytes are left.
 -- Assumes nothing.
 use mathlib.Core.Path.{_≡_}
 use Prim.Native.Nat.{_-_}
 use borrow.Author.Needs.{needs}
 use lib.ListN.{length}
-use Rattle.edges.proofs.table.put_numbers.Statement.{statement}
-use Rattle.edges.proofs.table.put_numbers.Tie as tie
+use Rattle.fields.proofs.put_numbers.Statement.{statement}
+use Rattle.fields.proofs.put_numbers.Tie as tie
 
 abbrev Inv-loop : tie.InvT-loop
 Inv-loop field numbers₀ i₀ at₀ numbers i at = length numbers ≡ length numbers₀

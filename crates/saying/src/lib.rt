@@ -1,4 +1,4 @@
-// Words and numbers on standard output.
+// Words, numbers and bytes on standard output.
 use libc::STDOUT_FILENO;
 
 pub fn say(text: &[u8]) {
@@ -31,5 +31,37 @@ pub fn say_yes(yes: bool) {
         say(b"yes");
     } else {
         say(b"no");
+    }
+}
+
+// One word, in decimal and in hex.
+fn say_word(word: u64) {
+    say(b" ");
+    say_number(word);
+    say(b" (0x");
+    say_hex(word, 1);
+    say(b")");
+}
+
+// The first of the words, as many as are to be shown.
+pub fn say_words(words: &[u64], shown: usize) {
+    let mut i = 0;
+    while i < words.len() && i < shown {
+        say_word(words[i]);
+        i += 1;
+    }
+}
+
+fn say_byte(byte: u8) {
+    say(b" ");
+    say_hex(byte as u64, 2);
+}
+
+// Bytes in hex.
+pub fn say_bytes(bytes: &[u8]) {
+    let mut i = 0;
+    while i < bytes.len() {
+        say_byte(bytes[i]);
+        i += 1;
     }
 }

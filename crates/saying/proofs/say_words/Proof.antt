@@ -1,9 +1,9 @@
--- `edges::answers::say_words` is safe and ends: the measure is how many words are left. Assumes nothing.
+-- `saying::say_words` is safe and ends: the measure is how many words are left. Assumes nothing.
 use Prim.Native.Nat.{_-_}
 use borrow.Author.Needs.{needs}
 use lib.ListN.{length}
-use Rattle.edges.proofs.answers.say_words.Statement.{statement}
-use Rattle.edges.proofs.answers.say_words.Tie as tie
+use Rattle.saying.proofs.say_words.Statement.{statement}
+use Rattle.saying.proofs.say_words.Tie as tie
 
 abbrev Inv-loop : tie.InvT-loop
 Inv-loop words shown i₀ i = Unit {0}

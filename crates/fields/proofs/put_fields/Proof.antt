@@ -1,11 +1,11 @@
--- `edges::table::put_fields` is safe and ends: no call changes how many bytes and ends are lent; the measure is how
+-- `fields::put_fields` is safe and ends: no call changes how many bytes and ends are lent; the measure is how
 -- many bytes of the line are left. Assumes nothing.
 use mathlib.Core.Path.{_≡_}
 use Prim.Native.Nat.{_-_}
 use borrow.Author.Needs.{needs}
 use lib.ListN.{length}
-use Rattle.edges.proofs.table.put_fields.Statement.{statement}
-use Rattle.edges.proofs.table.put_fields.Tie as tie
+use Rattle.fields.proofs.put_fields.Statement.{statement}
+use Rattle.fields.proofs.put_fields.Tie as tie
 
 abbrev Inv-loop : tie.InvT-loop
 Inv-loop line bytes₀ ends₀ n₀ k₀ at₀ bytes ends n k at =

@@ -1,9 +1,9 @@
--- `edges::table::number` is safe and ends: the measure is how many digits are left. Assumes nothing.
+-- `fields::number` is safe and ends: the measure is how many digits are left. Assumes nothing.
 use Prim.Native.Nat.{_-_}
 use borrow.Author.Needs.{needs}
 use lib.ListN.{length}
-use Rattle.edges.proofs.table.number.Statement.{statement}
-use Rattle.edges.proofs.table.number.Tie as tie
+use Rattle.fields.proofs.number.Statement.{statement}
+use Rattle.fields.proofs.number.Tie as tie
 
 abbrev Inv-loop : tie.InvT-loop
 Inv-loop digits value₀ i₀ value i = Unit {0}

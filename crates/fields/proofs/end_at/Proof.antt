@@ -1,10 +1,10 @@
--- `edges::table::end_at` is safe and ends: the end lies between the start and the end of the bytes; the measure is
+-- `fields::end_at` is safe and ends: the end lies between the start and the end of the bytes; the measure is
 -- how many bytes are left. Assumes nothing.
 use Prim.Native.Nat.{_-_, _≤_}
 use borrow.Author.Needs.{needs}
 use lib.ListN.{length}
-use Rattle.edges.proofs.table.end_at.Statement.{statement}
-use Rattle.edges.proofs.table.end_at.Tie as tie
+use Rattle.fields.proofs.end_at.Statement.{statement}
+use Rattle.fields.proofs.end_at.Tie as tie
 
 abbrev Inv-loop : tie.InvT-loop
 Inv-loop bytes start stop end₀ end = (start ≤ end) × (end ≤ length bytes)
