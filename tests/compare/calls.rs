@@ -365,6 +365,10 @@ impl List {
     pub fn pieces(&self) -> usize {
         self.good.as_ref().map_or(0, |(_, automaton)| automaton.widths.len())
     }
+    /// The words in which all states are marked.
+    pub fn all_marked(&self) -> Vec<u64> {
+        self.automaton().words(&vec![true; 2 * self.bytes.len() / RECORD_SIZE])
+    }
     /// The number of class leaves; of a list that is not good, 0.
     pub fn class_count(&self) -> usize {
         self.good.as_ref().map_or(0, |(tree, _)| expected::class_count(tree))
@@ -401,16 +405,31 @@ impl List {
         }
         let furthest = |from: usize| automaton.ends(&text[from..]).last().map(|end| from..from + end);
         let yes = furthest(0) == Some(0..text.len());
-        (Answer::yes_or_no(yes), Answer::found((0..=text.len()).find_map(furthest)))
+        (Answer::yes_or_no(yes), Answer::found(automaton.earliest_start(text).and_then(furthest)))
+    }
+
+    fn matched(&self, text: &[u8]) -> Answer {
+        let (list, length, classes, classes_length) = self.slices();
+        // SAFETY: as above.
+        Answer::of(unsafe { foam_match(list, length, classes, classes_length, text.as_ptr(), text.len()) })
+    }
+
+    /// Matches the beginnings of these lengths of a text, held against the ends that one run along all of it meets.
+    pub fn compare_beginnings(&self, text: &[u8], lengths: &[usize]) {
+        let ends = self.automaton().ends(text);
+        for &length in lengths {
+            let beginning = &text[..length];
+            let input = || format!("the list {} and the text \"{}\"", self.show(), beginning.escape_ascii());
+            hold("matching", input, self.matched(beginning), Answer::yes_or_no(ends.contains(&length)));
+        }
     }
 
     /// Matches and searches one text.
     pub fn compare_text(&self, text: &[u8]) {
         let input = || format!("the list {} and the text \"{}\"", self.show(), text.escape_ascii());
         let (matched, found) = self.expected_answers(text);
+        hold("matching", input, self.matched(text), matched);
         let (list, length, classes, classes_length) = self.slices();
-        let answer = unsafe { foam_match(list, length, classes, classes_length, text.as_ptr(), text.len()) };
-        hold("matching", input, Answer::of(answer), matched);
         let answer = unsafe { foam_search(list, length, classes, classes_length, text.as_ptr(), text.len()) };
         hold("searching", input, Answer::of(answer), found);
         if let (true, Some(table)) = (text.len() <= 65_536, self.table.get_or_init(|| self.compare_table(SMALL_TABLE, SMALL_ROOM))) {

@@ -169,7 +169,7 @@ pub fn trees(r: &mut Random) -> usize {
         let mut tree = vec![];
         let lean = r.below(3);
         generate::tree(r, nodes, lean, b"abc", &mut tree);
-        let count = generate::put_classes(r, &mut tree);
+        let count = generate::put_classes(r, &mut tree, 2);
         generate::put_places(r, &mut tree);
         let classes = generate::class_records(r, count);
         let list = List::new(expected::records(&tree), classes);

@@ -319,7 +319,12 @@ pub type Parts = Vec<u128>;
 
 /// The places where a part of the language can end that starts at one of `places`.
 fn ends(places: u128, parts: &Parts) -> u128 {
-    parts.iter().enumerate().filter(|&(s, _)| places >> s & 1 == 1).fold(0, |all, (_, &ends)| all | ends)
+    let (mut all, mut left) = (0, places);
+    while left != 0 {
+        all |= parts[left.trailing_zeros() as usize];
+        left &= left - 1;
+    }
+    all
 }
 
 /// All parts of a text of at most 127 bytes that lie in the language: from the leaves up, after the definition.
@@ -354,6 +359,19 @@ pub fn is_match(parts: &Parts) -> bool {
 pub fn find(parts: &Parts) -> Option<std::ops::Range<usize>> {
     let start = parts.iter().position(|&ends| ends != 0)?;
     Some(start..127 - parts[start].leading_zeros() as usize)
+}
+
+/// Marks all that edges lead to from what is marked.
+fn close(edges: &[Vec<usize>], marks: &mut [bool]) {
+    let mut todo: Vec<usize> = (0..marks.len()).filter(|&s| marks[s]).collect();
+    while let Some(s) = todo.pop() {
+        for &next in &edges[s] {
+            if !marks[next] {
+                marks[next] = true;
+                todo.push(next);
+            }
+        }
+    }
 }
 
 /// The uncut automaton: state 2 i is node i's start, 2 i + 1 its accepting state.
@@ -442,26 +460,16 @@ impl Automaton {
         let leaf = |kind: &Kind| matches!(kind, Kind::Character(_) | Kind::Class(_));
         self.kinds.iter().enumerate().filter(move |(_, kind)| leaf(kind)).map(|(i, _)| 2 * i)
     }
-    /// Which nodes take a byte.
-    pub fn taken_by(&self, byte: u8) -> Vec<bool> {
-        self.kinds.iter().map(|kind| takes(kind, &self.sets, byte)).collect()
-    }
-    fn close(&self, marks: &mut [bool]) {
-        let mut todo: Vec<usize> = (0..marks.len()).filter(|&s| marks[s]).collect();
-        while let Some(s) = todo.pop() {
-            for &next in &self.empty[s] {
-                if !marks[next] {
-                    marks[next] = true;
-                    todo.push(next);
-                }
-            }
-        }
+    /// Which nodes take a byte: bit i % 128 of word i / 128 for node i.
+    pub fn taken_by(&self, byte: u8) -> Vec<u128> {
+        let word = |kinds: &[Kind]| kinds.iter().rev().fold(0, |word, kind| word << 1 | takes(kind, &self.sets, byte) as u128);
+        self.kinds.chunks(128).map(word).collect()
     }
     pub fn start(&self) -> Vec<bool> {
         let mut marks = vec![false; self.empty.len()];
         let root = self.kinds.len() - 1;
         marks[2 * root] = true;
-        self.close(&mut marks);
+        close(&self.empty, &mut marks);
         marks
     }
     pub fn step(&self, marks: &[bool], byte: u8) -> Vec<bool> {
@@ -469,8 +477,38 @@ impl Automaton {
         for (i, kind) in self.kinds.iter().enumerate() {
             next[2 * i + 1] = marks[2 * i] && takes(kind, &self.sets, byte);
         }
-        self.close(&mut next);
+        close(&self.empty, &mut next);
         next
+    }
+    /// The edges of the empty text, each led back.
+    fn led_back(&self) -> Vec<Vec<usize>> {
+        let mut edges = vec![vec![]; self.empty.len()];
+        for (from, to) in self.empty.iter().enumerate().flat_map(|(from, all)| all.iter().map(move |&to| (from, to))) {
+            edges[to].push(from);
+        }
+        edges
+    }
+    /// The earliest place of a text where a part in the language starts, by one walk back from its end: at each place the states
+    /// from which the accepting one can be reached, there or further on.
+    pub fn earliest_start(&self, text: &[u8]) -> Option<usize> {
+        let edges = self.led_back();
+        let last = edges.len() - 1;
+        let mut further_on = vec![false; edges.len()];
+        let mut earliest = None;
+        for place in (0..=text.len()).rev() {
+            let mut here = vec![false; edges.len()];
+            here[last] = true;
+            // Past the end of the text nothing is further on, and no byte is asked for.
+            for (i, kind) in self.kinds.iter().enumerate() {
+                here[2 * i] = further_on[2 * i + 1] && takes(kind, &self.sets, text[place]);
+            }
+            close(&edges, &mut here);
+            if here[last - 1] {
+                earliest = Some(place);
+            }
+            further_on = here;
+        }
+        earliest
     }
     pub fn words(&self, marks: &[bool]) -> Vec<u64> {
         let mut words = vec![0; self.widths.len()];

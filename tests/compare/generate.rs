@@ -26,9 +26,13 @@ impl Random {
     pub fn pick(&mut self, from: &[u8]) -> u8 {
         from[self.below(from.len())]
     }
+    /// So many of these bytes.
+    pub fn row(&mut self, length: usize, from: &[u8]) -> Vec<u8> {
+        (0..length).map(|_| self.pick(from)).collect()
+    }
     pub fn bytes(&mut self, most: usize, from: &[u8]) -> Vec<u8> {
-        let n = self.below(most + 1);
-        (0..n).map(|_| self.pick(from)).collect()
+        let length = self.below(most + 1);
+        self.row(length, from)
     }
 }
 
@@ -167,6 +171,11 @@ pub fn expression_with_signs(r: &mut Random, size: usize, depth: usize, letters:
     expression_of(Style { leaf: write_leaf, sign: write_sign }, r, size, depth, letters, out);
 }
 
+/// An expression of the second syntax that is a row of so many classes.
+pub fn row_of_classes(r: &mut Random, size: usize, _: usize, letters: &[u8], out: &mut Vec<u8>) {
+    (0..size).for_each(|_| write_class(r, letters, out));
+}
+
 /// One random change: a byte changed, taken out, put in, or the end cut off.
 pub fn damage(r: &mut Random, bytes: &mut Vec<u8>, from: &[u8]) {
     if bytes.is_empty() {
@@ -255,11 +264,11 @@ fn leaf(kind: Kind) -> Node {
     Node { kind, left: NONE, right: NONE, place: 0 }
 }
 
-/// Turns some leaves of a tree into class leaves; answers how many.
-pub fn put_classes(r: &mut Random, tree: &mut Tree) -> usize {
+/// Turns one in so many leaves of a tree into class leaves; answers how many.
+pub fn put_classes(r: &mut Random, tree: &mut Tree, one_in: usize) -> usize {
     let mut count = 0;
     for node in tree {
-        if matches!(node.kind, Kind::Character(_)) && r.one_in(2) {
+        if matches!(node.kind, Kind::Character(_)) && r.one_in(one_in) {
             node.kind = Kind::Class(count);
             count += 1;
         }
@@ -303,6 +312,19 @@ pub fn class_records(r: &mut Random, count: usize) -> Vec<u8> {
     (0..length).map(|_| (r.word() & r.word()) as u8).collect()
 }
 
+/// A star over the last node.
+fn push_star(out: &mut Tree) {
+    let left = out.len() - 1;
+    out.push(Node { kind: Kind::Star, left, right: NONE, place: 0 });
+}
+
+/// A catenation or a union of a node and the last one.
+fn push_joined(r: &mut Random, left: usize, out: &mut Tree) {
+    let right = out.len() - 1;
+    let kind = if r.one_in(3) { Kind::Union } else { Kind::Catenation };
+    out.push(Node { kind, left, right, place: 0 });
+}
+
 /// A tree of exactly `nodes` nodes, added to `out`: with its operands as it comes (lean 0), most of it to the left (1) or
 /// most of it to the right (2).
 pub fn tree(r: &mut Random, nodes: usize, lean: usize, letters: &[u8], out: &mut Tree) {
@@ -311,17 +333,73 @@ pub fn tree(r: &mut Random, nodes: usize, lean: usize, letters: &[u8], out: &mut
     }
     if nodes == 2 || r.one_in(6) {
         tree(r, nodes - 1, lean, letters, out);
-        let left = out.len() - 1;
-        return out.push(Node { kind: Kind::Star, left, right: NONE, place: 0 });
+        return push_star(out);
     }
     let small = 1 + r.below((nodes - 2).min(9));
     let left_nodes = [1 + r.below(nodes - 2), nodes - 1 - small, small][lean];
     tree(r, left_nodes, lean, letters, out);
     let left = out.len() - 1;
     tree(r, nodes - 1 - left_nodes, lean, letters, out);
-    let right = out.len() - 1;
-    let kind = if r.one_in(3) { Kind::Union } else { Kind::Catenation };
-    out.push(Node { kind, left, right, place: 0 });
+    push_joined(r, left, out);
+}
+
+/// The most nodes of a piece, and the fewest of one that lies below another.
+pub const FULL_PIECE: usize = 15;
+pub const SMALL_PIECE: usize = 8;
+
+/// A tree of exactly `nodes` nodes in the fewest pieces, added to `out`: each but the root's is full. It has stars as they come,
+/// or else one, at the top, where there would be one node too few without.
+pub fn full_tree(r: &mut Random, nodes: usize, stars: bool, letters: &[u8], out: &mut Tree) {
+    let below = (nodes - 1) / FULL_PIECE;
+    full_pieces(r, nodes - FULL_PIECE * below, below, stars, letters, out);
+}
+
+/// A tree with `own` nodes in its root's piece, and `below` full pieces below that; of no node of its own, it is one of those
+/// pieces with the others below it. A tree without stars has an odd number of nodes, and so have both sides of its root.
+fn full_pieces(r: &mut Random, own: usize, below: usize, stars: bool, letters: &[u8], out: &mut Tree) {
+    match (own, below) {
+        (0, _) => return full_pieces(r, FULL_PIECE, below - 1, stars, letters, out),
+        (1, 0) => return out.push(leaf(Kind::Character(r.pick(letters)))),
+        _ => {}
+    }
+    let is_odd = |(own, below): (usize, usize)| (own + FULL_PIECE * below) % 2 == 1;
+    let (left, right) = loop {
+        let left = (r.below(own), r.below(below + 1));
+        let right = (own - 1 - left.0, below - left.1);
+        if stars || !is_odd((own, below)) || is_odd(left) && is_odd(right) {
+            break (left, right);
+        }
+    };
+    let by_star = if stars { left == (0, 0) || right == (0, 0) } else { !is_odd((own, below)) };
+    if by_star {
+        full_pieces(r, own - 1, below, stars, letters, out);
+        return push_star(out);
+    }
+    full_pieces(r, left.0, left.1, stars, letters, out);
+    let root_of_left = out.len() - 1;
+    full_pieces(r, right.0, right.1, stars, letters, out);
+    push_joined(r, root_of_left, out);
+}
+
+/// A tree of exactly `nodes` nodes, at least those of a small piece, in the most pieces, added to `out`: small pieces, each with
+/// the one below it to the left or to the right, and stars above them for the nodes that are left.
+pub fn sparse_tree(r: &mut Random, nodes: usize, letters: &[u8], out: &mut Tree) {
+    if nodes % SMALL_PIECE > 0 {
+        sparse_tree(r, nodes - 1, letters, out);
+        return push_star(out);
+    }
+    if nodes == SMALL_PIECE {
+        return tree(r, nodes, 0, letters, out);
+    }
+    let side = |r: &mut Random, has_pieces: bool, out: &mut Tree| match has_pieces {
+        true => sparse_tree(r, nodes - SMALL_PIECE, letters, out),
+        false => tree(r, SMALL_PIECE - 1, 0, letters, out),
+    };
+    let to_the_left = r.one_in(2);
+    side(r, to_the_left, out);
+    let left = out.len() - 1;
+    side(r, !to_the_left, out);
+    push_joined(r, left, out);
 }
 
 /// A character below so many stars.

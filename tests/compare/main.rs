@@ -1,6 +1,6 @@
 //! Compares the proved library, through its C interface, with an independent implementation: on all short expressions, all
 //! bytes, all lists with one byte changed, and on inputs from a fixed seed, the small ones first. Prints how many inputs of
-//! each kind agreed; the first difference ends the run with status 1, and so do fewer inputs than 2,400,000.
+//! each kind agreed; the first difference ends the run with status 1, and so do fewer inputs than 2,890,000.
 
 mod calls;
 mod classes;
@@ -12,6 +12,7 @@ mod pick;
 mod places;
 mod program;
 mod signs;
+mod sizes;
 mod tables;
 mod written;
 
@@ -24,7 +25,7 @@ use std::sync::atomic::{AtomicUsize, Ordering::Relaxed};
 const SIGNS: &[u8] = b"ab()|*\\";
 
 /// A run that compares fewer inputs fails: something was left out.
-const FEWEST_INPUTS: usize = 2_400_000;
+const FEWEST_INPUTS: usize = 2_890_000;
 
 /// The bytes that an expression's records need; some number for one that is refused.
 fn need(e: &[u8]) -> usize {
@@ -125,7 +126,7 @@ fn all_bytes(_: &mut Random) -> usize {
         let middle = e.repeat(9);
         let list = calls::read(&[&e[..], b"((", &middle, b")*|", &middle, b")"].concat(), MOST_RECORD_BYTES).expect("good");
         assert!(list.pieces() > 2);
-        let all = list.automaton().words(&vec![true; 2 * list.bytes.len() / RECORD_SIZE]);
+        let all = list.all_marked();
         for &c in &every {
             list.compare_step(&all, c);
         }
@@ -306,7 +307,7 @@ fn compare_all(kinds: &[(&str, Compare)]) -> usize {
 }
 
 fn main() {
-    let kinds: [(&str, Compare); 57] = [
+    let kinds: [(&str, Compare); 62] = [
         ("short expressions", short_expressions),
         ("pairs of bytes", all_bytes),
         ("random expressions", random_expressions),
@@ -364,6 +365,11 @@ fn main() {
         ("runs of pick", pick::compare_runs),
         ("runs of pick in parts", pick::compare_runs_in_parts),
         ("calls of pick", pick::compare_calls),
+        ("lists of many classes", sizes::many_classes),
+        ("classes that take a byte among many", sizes::one_of_many_classes),
+        ("numbers of records", sizes::numbers_of_records),
+        ("long texts on lists of one piece", sizes::long_texts),
+        ("searches from many starts", sizes::many_starts),
     ];
     let total = compare_all(&kinds);
     if total < FEWEST_INPUTS {

@@ -72,7 +72,7 @@ pub fn old_lists(r: &mut Random) -> usize {
                 let lean = r.below(3);
                 generate::tree(r, nodes, lean, b"abc", &mut tree);
                 generate::put_empty_texts(r, &mut tree);
-                generate::put_classes(r, &mut tree);
+                generate::put_classes(r, &mut tree, 2);
                 expected::records(&tree)
             }
         };

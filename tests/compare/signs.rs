@@ -249,7 +249,7 @@ pub fn trees(r: &mut Random) -> usize {
         let lean = r.below(3);
         generate::tree(r, nodes, lean, b"abc", &mut tree);
         generate::put_empty_texts(r, &mut tree);
-        let count = generate::put_classes(r, &mut tree);
+        let count = generate::put_classes(r, &mut tree, 2);
         generate::put_places(r, &mut tree);
         let list = List::new(expected::records(&tree), generate::class_records(r, count));
         list.compare_text(&r.bytes(30, b"abc"));
