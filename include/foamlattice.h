@@ -1,10 +1,10 @@
 /* Foamlattice: a proved matcher for regular expressions.
  *
  * Every function takes slices as a pointer and a length, ends and answers on all bytes and words that it can be
- * handed, and keeps nothing between calls. It allocates nothing; what it needs it takes from the stack: 24 KB in
- * foam_check and foam_check2, 26 KB in foam_read and foam_read2, 62 KB in foam_match, foam_search, foam_start,
- * foam_step, foam_steps and foam_lines, 59 KB in foam_table, 163 KB in foam_pick (97 KB where its texts have fewer than
- * 4,000 bytes), 49 KB in foam_widen, as measured by bench/run.
+ * handed, and keeps nothing between calls. It allocates nothing; what it needs it takes from the stack: 17 KB in
+ * foam_check and foam_check2, 26 KB in foam_read and foam_read2, 39 KB in foam_match, foam_search, foam_start,
+ * foam_step, foam_steps, foam_lines and foam_table (7 KB in the first five for lists of up to 120 records), 142 KB in
+ * foam_pick (79 KB where its texts have fewer than 4,000 bytes), 47 KB in foam_widen, as measured by bench/run.
  *
  * What a caller must see to, since it cannot be checked: no pointer is null, also where its length is 0; each points to
  * as many bytes, entries or words as its length says, words aligned as uint64_t and entries as uint16_t; what is written
