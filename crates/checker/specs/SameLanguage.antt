@@ -2,7 +2,7 @@
 -- of its written tree. A text is of bytes: no value is above 255.
 use Rattle.std.specs.Prelude.{ℕ, ◌+◌, ◌*◌, ◌/◌, ◌%◌, ◌^◌, ◌<◌, ◌≡◌, refl, Bool, true, false, ◌⊎◌, ◌↔◌, List, [], ◌∷◌, ◌++◌, length, get_or}
 use Rattle.std.proofs.Common.{ap, sym, ◌∙◌, subst, inl, inr, append_assoc, arith, length-append, get_or-append-add}
-use Rattle.std.proofs.Math.Logic.{Iff·symm, Iff·trans}
+use Rattle.std.proofs.Math.Logic.Iff
 use Rattle.std.proofs.Math.ListN.{get_or-append}
 use Rattle.language.specs.Tree.{Tree, leaf, catenation, union, star}
 use Rattle.language.specs.Language.{Language, Repeated, none, more}
@@ -163,4 +163,4 @@ signs_language s well w = same_texts written_meaning no_text tt (λ b takes. tak
 pub same_as_signs : (s : SignedTree Atom) → WellCounted s → (rest w : List ℕ) → OfBytes w
     → Matches (encode_classes (classes_of (expansion s)) ++ rest) (recorded (expansion s)) w ↔ MatchesSigns s w
 same_as_signs s well rest w bytes =
-    Iff·trans (same_language (expansion s) rest w bytes) (Iff·symm (signs_language s well w))
+    Iff.trans (same_language (expansion s) rest w bytes) (Iff.symm (signs_language s well w))

@@ -1,7 +1,7 @@
 -- Where an entry leads: the marks of a state, copied out and moved, are sought among those of the states.
 use Rattle.std.specs.Prelude.{ℕ, ◌+◌, ◌-◌, ◌*◌, ◌≤◌, ◌<◌, ◌≡◌, ◌↔◌, List, ◌∷◌, [], ◌++◌, get_or, drop, length, take}
 use Rattle.std.proofs.Common.{sym, subst, arith}
-use Rattle.std.proofs.Math.Logic.{Iff·symm}
+use Rattle.std.proofs.Math.Logic.Iff
 use Rattle.language.specs.Nested.{whole, origin}
 use Rattle.language.specs.Tree.{Tree}
 use Rattle.language.specs.Same.{models_same}
@@ -73,7 +73,7 @@ pub holding_front : {t : Tree Leaf} {rows : List ℕ} {count : ℕ}
 holding_front {t} {count = count} prepared {classes} {w} words = (
   λ front. record {
     modelled = models_same (cut_up t) (MarksAfter classes t w)
-        (λ q has. Iff·symm (front_holds (cut_up t) count words (prepared_count prepared) q has)) front.modelled;
+        (λ q has. Iff.symm (front_holds (cut_up t) count words (prepared_count prepared) q has)) front.modelled;
     clean = (front_clean (cut_up t) count words (prepared_count prepared)).0 front.clean;
   },
   λ whole. record {

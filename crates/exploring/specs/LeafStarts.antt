@@ -3,7 +3,7 @@
 use Rattle.std.specs.Prelude.{ℕ, ◌+◌, ◌*◌, ◌<◌, ◌≡◌, refl, true, ◌↔◌, List, get_or, drop}
 use Rattle.std.proofs.Common.{sym, ap, ◌∙◌, subst, arith, get_or-drop}
 use Rattle.std.proofs.lemmas.Bool.{false≢true}
-use Rattle.std.proofs.Math.Logic.{Iff·trans}
+use Rattle.std.proofs.Math.Logic.Iff
 use Rattle.language.specs.Automaton.{State, start, accepting, left, right}
 use Rattle.language.specs.Nested.{Nested, leaf, catenation, union, star, below, whole, Has, origin}
 use Rattle.language.specs.TakenAsOne.{LeafStart}
@@ -141,37 +141,37 @@ module _ (rows : List ℕ) where
   marked_leaf : (x : Nested Leaf) (w i : ℕ) (ws : List ℕ) (new : ℕ)
       → ((q : State) → Own x q → Bit w (i + number x q) ↔ LeafAt x q) → LaysBelow rows x new
       → MasksBelow x ws new → (q : State) → Has x q → Marked x w i ws q ↔ LeafAt x q
-  marked_leaf (leaf a) w i ws new top lays masks start has = Iff·trans (bit_at w (omega arith)) (top start tt)
-  marked_leaf (leaf a) w i ws new top lays masks accepting has = Iff·trans (bit_at w (omega arith)) (top accepting tt)
-  marked_leaf (catenation x y) w i ws new top lays masks start has = Iff·trans (bit_at w (omega arith)) (top start tt)
+  marked_leaf (leaf a) w i ws new top lays masks start has = Iff.trans (bit_at w (omega arith)) (top start tt)
+  marked_leaf (leaf a) w i ws new top lays masks accepting has = Iff.trans (bit_at w (omega arith)) (top accepting tt)
+  marked_leaf (catenation x y) w i ws new top lays masks start has = Iff.trans (bit_at w (omega arith)) (top start tt)
   marked_leaf (catenation x y) w i ws new top lays masks accepting has = top accepting tt
   marked_leaf (catenation x y) w i ws new top lays masks (left q) has =
-      marked_leaf x w (i + 1) ws new (λ p o. Iff·trans (bit_at w (omega arith)) (top (left p) o)) lays.0
+      marked_leaf x w (i + 1) ws new (λ p o. Iff.trans (bit_at w (omega arith)) (top (left p) o)) lays.0
       (λ o l. masks o (omega arith)) q has
   marked_leaf (catenation x y) w i ws new top lays masks (right q) has =
       marked_leaf y w (i + (1 + width x)) (drop (run x) ws) (new + run x)
-      (λ p o. Iff·trans (bit_at w (omega arith)) (top (right p) o)) lays.1
+      (λ p o. Iff.trans (bit_at w (omega arith)) (top (right p) o)) lays.1
       (λ o l. get_or-drop (run x) ws o 0 ∙ masks (run x + o) (omega arith) ∙ ap (leaves_mask rows) (omega arith)) q has
-  marked_leaf (union x y) w i ws new top lays masks start has = Iff·trans (bit_at w (omega arith)) (top start tt)
+  marked_leaf (union x y) w i ws new top lays masks start has = Iff.trans (bit_at w (omega arith)) (top start tt)
   marked_leaf (union x y) w i ws new top lays masks accepting has = top accepting tt
   marked_leaf (union x y) w i ws new top lays masks (left q) has =
-      marked_leaf x w (i + 1) ws new (λ p o. Iff·trans (bit_at w (omega arith)) (top (left p) o)) lays.0
+      marked_leaf x w (i + 1) ws new (λ p o. Iff.trans (bit_at w (omega arith)) (top (left p) o)) lays.0
       (λ o l. masks o (omega arith)) q has
   marked_leaf (union x y) w i ws new top lays masks (right q) has =
       marked_leaf y w (i + (1 + width x)) (drop (run x) ws) (new + run x)
-      (λ p o. Iff·trans (bit_at w (omega arith)) (top (right p) o)) lays.1
+      (λ p o. Iff.trans (bit_at w (omega arith)) (top (right p) o)) lays.1
       (λ o l. get_or-drop (run x) ws o 0 ∙ masks (run x + o) (omega arith) ∙ ap (leaves_mask rows) (omega arith)) q has
-  marked_leaf (star x) w i ws new top lays masks start has = Iff·trans (bit_at w (omega arith)) (top start tt)
+  marked_leaf (star x) w i ws new top lays masks start has = Iff.trans (bit_at w (omega arith)) (top start tt)
   marked_leaf (star x) w i ws new top lays masks accepting has = top accepting tt
   marked_leaf (star x) w i ws new top lays masks (left q) has =
-      marked_leaf x w (i + 1) ws new (λ p o. Iff·trans (bit_at w (omega arith)) (top (left p) o)) lays masks q has
-  marked_leaf (below x) w i ws new top lays masks start has = Iff·trans (bit_at w (omega arith)) (top start tt)
+      marked_leaf x w (i + 1) ws new (λ p o. Iff.trans (bit_at w (omega arith)) (top (left p) o)) lays masks q has
+  marked_leaf (below x) w i ws new top lays masks start has = Iff.trans (bit_at w (omega arith)) (top start tt)
   marked_leaf (below x) w i ws new top lays masks accepting has = top accepting tt
   marked_leaf (below x) w i ws new top lays masks (left q) has =
       let first : get_or ws 0 0 ≡ leaves_mask rows new = masks 0 (omega arith) ∙ ap (leaves_mask rows) (omega arith) in
       marked_leaf x (get_or ws 0 0) 0 (drop 1 ws) (new + 1)
-      (λ p o. Iff·trans (bit_at (get_or ws 0 0) (omega arith))
-      (Iff·trans (bit_of (number x p) first) (own_mask x new lays.0 p o)))
+      (λ p o. Iff.trans (bit_at (get_or ws 0 0) (omega arith))
+      (Iff.trans (bit_of (number x p) first) (own_mask x new lays.0 p o)))
       lays.1
       (λ o l. get_or-drop 1 ws o 0 ∙ masks (1 + o) (omega arith) ∙ ap (leaves_mask rows) (omega arith)) q has
 
@@ -182,6 +182,6 @@ module _ (rows : List ℕ) where
   masks_hold x masks lays are =
       let first : get_or masks 0 0 ≡ leaves_mask rows 0 = are 0 (omega arith) in
       marked_leaf x (get_or masks 0 0) 0 (drop 1 masks) 1
-      (λ p o. Iff·trans (bit_at (get_or masks 0 0) (omega arith))
-      (Iff·trans (bit_of (number x p) first) (own_mask x 0 lays.0 p o)))
+      (λ p o. Iff.trans (bit_at (get_or masks 0 0) (omega arith))
+      (Iff.trans (bit_of (number x p) first) (own_mask x 0 lays.0 p o)))
       lays.1 (λ o l. get_or-drop 1 masks o 0 ∙ are (1 + o) (omega arith))

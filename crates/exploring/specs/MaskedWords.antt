@@ -1,7 +1,7 @@
 -- Two texts lead to one state exactly when the words after them agree under the masks.
 use Rattle.std.specs.Prelude.{ℕ, zero, suc, ◌+◌, ◌<◌, ◌≡◌, refl, ◌↔◌, ◌⊎◌, List, ◌∷◌, get_or, drop}
 use Rattle.std.proofs.Common.{sym, ap, ◌∙◌, subst, inl, inr, ⊎_elim, arith, get_or-drop}
-use Rattle.std.proofs.Math.Logic.{Iff·trans, Iff·symm}
+use Rattle.std.proofs.Math.Logic.Iff
 use Rattle.std.specs.Int.Bits.{bit_and}
 use Rattle.language.specs.Automaton.{State, accepting}
 use Rattle.language.specs.Nested.{Nested, Has, origin}
@@ -113,14 +113,14 @@ module _ {t : Tree Leaf} {rows : List ℕ} {count : ℕ}
     same_starts : {u v : List ℕ} → SameUnder masks count u v → (q : State) → LeafAt x q → Holds x u q ↔ Holds x v q
     same_starts {u} {v} same q leaf =
         let has = leaf_has x q leaf in
-        Iff·trans (holds_held x u q has)
-        (Iff·trans (spot_same same (spot x q) (spot_within x q has)
+        Iff.trans (holds_held x u q has)
+        (Iff.trans (spot_same same (spot x q) (spot_within x q has)
         ((holds_held x leaves q has).0 ((leaves_hold q has).1 leaf)))
-        (Iff·symm (holds_held x v q has)))
+        (Iff.symm (holds_held x v q has)))
 
     -- the accepting state's bit is the one that the rows tell
     accepting_bit : (words : List ℕ) → Holds x words accepting ↔ Bit (get_or words 0 0) (top_of rows 0)
-    accepting_bit words = Iff·trans (accepting_holds x words)
+    accepting_bit words = Iff.trans (accepting_holds x words)
         (bit_at (get_or words 0 0) (sym prepared.planned.0.topped))
 
     -- a bit of the masks is one of the masks of the leaves, or that of the accepting state
@@ -165,17 +165,17 @@ module _ {t : Tree Leaf} {rows : List ℕ} {count : ℕ}
             (subst (λ (s : Tree Leaf). LeafStart (meaning classes) s p) (sym (stated t).same_tree) leaf) in
             let has = leaf_has x q here in
             subst (λ (s : State). MarksAfter classes t v s ↔ MarksAfter classes t w s) e
-            (Iff·trans (Iff·symm (first.modelled q has))
-            (Iff·trans (same_starts same q here) (second.modelled q has)));
+            (Iff.trans (Iff.symm (first.modelled q has))
+            (Iff.trans (same_starts same q here) (second.modelled q has)));
         accepts =
-            Iff·trans (Iff·symm (first.modelled accepting tt))
-            (Iff·trans (accepting_bit before)
-            (Iff·trans (under_bit same 0 (top_of rows 0) (omega (arith, prepared_count prepared)) top_bit)
-            (Iff·trans (Iff·symm (accepting_bit after)) (second.modelled accepting tt))));
+            Iff.trans (Iff.symm (first.modelled accepting tt))
+            (Iff.trans (accepting_bit before)
+            (Iff.trans (under_bit same 0 (top_of rows 0) (omega (arith, prepared_count prepared)) top_bit)
+            (Iff.trans (Iff.symm (accepting_bit after)) (second.modelled accepting tt))));
       }
 
       -- and the other way round
       pub same_under : OneState classes t v w → SameUnder masks count before after
       same_under one = under_of_bits masks count before after (follows first second one)
           (follows second first
-          (record { starts = λ p leaf. Iff·symm (one.starts p leaf); accepts = Iff·symm one.accepts }))
+          (record { starts = λ p leaf. Iff.symm (one.starts p leaf); accepts = Iff.symm one.accepts }))

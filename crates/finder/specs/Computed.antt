@@ -2,7 +2,7 @@
 use Rattle.std.specs.Prelude.{ℕ, ◌≡◌, refl, Bool, true, false, ◌&&◌, ◌||◌, ◌↔◌, ◌⊎◌, List, [], ◌∷◌}
 use Rattle.std.proofs.Common.{ap, inl, inr, ⊎_elim}
 use Rattle.std.proofs.lemmas.Bool.{false≢true}
-use Rattle.std.proofs.Math.Logic.{Iff·trans}
+use Rattle.std.proofs.Math.Logic.Iff
 use Rattle.finder.specs.DecideExactly.{both, Exact}
 use Rattle.language.specs.Meaning.{Meaning}
 use Rattle.language.specs.Automaton.{State, start, accepting, left, right, States, Started, Stepped, After}
@@ -241,7 +241,7 @@ module _ {A : Type 0} (M : Meaning A) (exact : Exact M) (x : Nested A) where
       → Decides (walked_test M exact x (walked_test M exact x f)) (Sweep M x (Sweep M x X))
   swept_exactly f X d q =
       let once = walked_exactly M exact x f X d in
-      Iff·trans (walked_exactly M exact x (walked_test M exact x f) (Walked M x X) once q) (walks_sweep X q)
+      Iff.trans (walked_exactly M exact x (walked_test M exact x f) (Walked M x X) once q) (walks_sweep X q)
 
 -- only the start
 abbrev pub only_start : Test
@@ -260,7 +260,7 @@ only_start_exactly (right q) = (λ e. absurd (false≢true e), ap only_start)
 -- a test that decides what models a set models it too
 decided_models : {A : Type 0} (x : Nested A) (X : States) {f : Test} {marks : States} → Decides f marks
     → Models x marks X → Models x (Passing f) X
-decided_models x X d models q has = Iff·trans (d q) (models q has)
+decided_models x X d models q has = Iff.trans (d q) (models q has)
 
 module _ {A : Type 0} (M : Meaning A) (exact : Exact M) (x : Nested A) where
   -- the marks to start with, as a test

@@ -2,7 +2,7 @@
 use Rattle.std.specs.Prelude.{ℕ, ◌+◌, ◌/◌, ◌%◌, ◌^◌, ◌≡◌, refl, Bool, true, false, ◌↔◌, List, get_or, drop, eqb, ltb}
 use Rattle.std.specs.Bool.{beq}
 use Rattle.std.proofs.lemmas.Bool.{false≢true}
-use Rattle.std.proofs.Math.Logic.{Iff·trans, Iff·rfl}
+use Rattle.std.proofs.Math.Logic.Iff
 use Rattle.std.proofs.Common.{eqb-true, eq-eqb, ltb-true}
 use Rattle.language.specs.Tree.{Tree}
 use Rattle.language.specs.Automaton.{State, start, accepting, left, right}
@@ -20,10 +20,10 @@ bit w i = eqb (w / 2 ^ i % 2) 1
 
 -- two tests with the same answer
 pub same_answer : (a b : Bool) → beq a b ≡ true → (a ≡ true) ↔ (b ≡ true)
-same_answer true true e = Iff·rfl
+same_answer true true e = Iff.rfl
 same_answer true false e = absurd (false≢true e)
 same_answer false true e = absurd (false≢true e)
-same_answer false false e = Iff·rfl
+same_answer false false e = Iff.rfl
 
 -- both tests pass
 unfoldable pub also : Bool → Bool → Bool
@@ -48,7 +48,7 @@ ends w low high f = also (beq (bit w low) (f start)) (beq (bit w high) (f accept
 module _ (w low high : ℕ) (f : Test) (e : ends w low high f ≡ true) where
   -- a bit with the same answer as a test says what the test says
   bit_answer : (i : ℕ) (b : Bool) → beq (bit w i) b ≡ true → Bit w i ↔ (b ≡ true)
-  bit_answer i b same = Iff·trans (eq-eqb (w / 2 ^ i % 2) 1, eqb-true (w / 2 ^ i % 2) 1) (same_answer (bit w i) b same)
+  bit_answer i b same = Iff.trans (eq-eqb (w / 2 ^ i % 2) 1, eqb-true (w / 2 ^ i % 2) 1) (same_answer (bit w i) b same)
 
   -- so it is at the start and at the accepting state
   at_start : Bit w low ↔ Passing f start
@@ -142,6 +142,6 @@ held_after classes t text words e =
     let same : whole x ≡ t = (stated t).same_tree in
     record {
       clean = tidy_clean (below x) words (also_first _ _ e);
-      modelled = λ q has. Iff·trans (agrees_exactly x (get_or words 0 0) 0 (drop 1 words) _ (also_second _ _ e) q has)
+      modelled = λ q has. Iff.trans (agrees_exactly x (get_or words 0 0) 0 (drop 1 words) _ (also_second _ _ e) q has)
           (rw same at (computed q has));
     }

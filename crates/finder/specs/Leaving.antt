@@ -3,7 +3,7 @@
 use Rattle.std.specs.Prelude.{ℕ, zero, suc, ◌<◌, ◌≡◌, refl, Bool, true, false, ◌&&◌, ◌↔◌, List, [], ◌∷◌, ◌++◌, length, get_or, drop, eqb}
 use Rattle.std.proofs.Common.{arith, sym, ◌∙◌, subst, drop_of_length-le, eqb-true, eq-eqb}
 use Rattle.std.proofs.lemmas.Bool.{false≢true}
-use Rattle.std.proofs.Math.Logic.{Iff·trans, Iff·symm}
+use Rattle.std.proofs.Math.Logic.Iff
 use Rattle.language.specs.Tree.{Tree}
 use Rattle.language.specs.Automaton.{State, States, accepting, Started, Stepped, After}
 use Rattle.language.specs.Nested.{Nested, whole, origin}
@@ -92,7 +92,7 @@ module _ {list classes : List ℕ} {t : Tree Leaf} (good : Good list t) (classed
           same_length = left ∙ sym lent;
         };
         marks = refl;
-        answer = Iff·trans a.answer (Iff·symm (accepts_exactly (meaning classes) t []));
+        answer = Iff.trans a.answer (Iff.symm (accepts_exactly (meaning classes) t []));
         left = (
           λ e. absurd (false≢true e),
           λ zeros. absurd (some_started classes t after a.holding.modelled zeros),
@@ -111,14 +111,14 @@ module _ {list classes : List ℕ} {t : Tree Leaf} (good : Good list t) (classed
           classed = classed;
           enough = omega arith;
           hold = record {
-            marks = λ q has. Iff·trans (a.holding.modelled q has) (same (origin (cut_up t) q));
+            marks = λ q has. Iff.trans (a.holding.modelled q has) (same (origin (cut_up t) q));
             clean = a.holding.clean;
             others = no_others t before after lent left;
             same_length = left ∙ sym lent;
           };
           marks = refl;
           answer =
-              Iff·trans a.answer (Iff·trans (Iff·symm (accepts_exactly (meaning classes) t (w ++ (b ∷ []))))
+              Iff.trans a.answer (Iff.trans (Iff.symm (accepts_exactly (meaning classes) t (w ++ (b ∷ []))))
               (same accepting));
           left = rw left at (all_zero_exactly after);
         };

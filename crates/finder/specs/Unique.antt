@@ -1,7 +1,7 @@
 -- What match and search promise leaves no choice: the numbers given back are determined, and with them the answer.
 use Rattle.std.specs.Prelude.{ℕ, ◌≡◌, refl, Bool, true, false, cond, ◌↔◌, List, eqb}
 use Rattle.std.proofs.Common.{arith, sym, ap, ◌∙◌, subst}
-use Rattle.std.proofs.Math.Logic.{Iff·trans, Iff·symm}
+use Rattle.std.proofs.Math.Logic.Iff
 use Rattle.language.specs.Tree.{Tree}
 use Rattle.tree.specs.RefusalNumbers.{list_not_good, text_too_long, class_buffer_too_short}
 use Rattle.tree.specs.Leaf.{Leaf, Matches}
@@ -111,7 +111,7 @@ module _ (list classes text : List ℕ) where
   match_unique (match_answered a) (match_refused b) = absurd (not_both b a)
   match_unique (match_answered {matched = m} a) (match_answered {matched = n} b) =
       let (t, p, q) = of_one a b in
-      ap answering_match (same_test m n (Iff·trans p (Iff·symm q)))
+      ap answering_match (same_test m n (Iff.trans p (Iff.symm q)))
 
   -- and are the same answer
   pub match_answer_unique : (r s : Matched) → MatchAnswers list classes text (match_numbers r)

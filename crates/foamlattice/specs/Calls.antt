@@ -4,7 +4,7 @@
 use Rattle.std.specs.Prelude.{ℕ, ◌+◌, ◌≤◌, ◌≡◌, refl, Bool, true, false, cond, ◌↔◌, List, [], ◌∷◌, ◌++◌, length}
 use Rattle.std.proofs.Common.{arith, ap, ◌∙◌}
 use Rattle.std.proofs.lemmas.Bool.{false≢true}
-use Rattle.std.proofs.Math.Logic.{Iff·trans}
+use Rattle.std.proofs.Math.Logic.Iff
 use Rattle.language.specs.Tree.{Tree}
 use Rattle.tree.specs.Leaf.{Leaf, Matches}
 use Rattle.tree.specs.Records.{Good, piece_count}
@@ -61,7 +61,7 @@ calls_follow {r = r} t good classed enough calls =
     record {
       not_refused = last.unpacked.number_back ∙ ap (λ (n : MarksNumbers). n.refusal) follows.marks;
       flag =
-          Iff·trans (rw last.unpacked.flag_back (flag_set last.numbers.accepting)) follows.answer;
+          Iff.trans (rw last.unpacked.flag_back (flag_set last.numbers.accepting)) follows.answer;
       stops = λ e. nothing_follows follows
           ((flag_set last.numbers.nothing).0
           (omega (arith, last.unpacked.x_back, ap (λ (n : MarksNumbers). n.place) follows.marks)));

@@ -31,6 +31,10 @@ module _ {A : Type 0} where
   copy_of_origin (union x y) (right q) has = Copy.union_right (copy_of_origin y q has)
   copy_of_origin (star x) (left q) has = Copy.star_inside (copy_of_origin x q has)
   copy_of_origin (below x) (left q) has = in_child (copy_of_origin x q has)
+  copy_of_origin (leaf _) (left q) has = elim has [ ]
+  copy_of_origin (leaf _) (right q) has = elim has [ ]
+  copy_of_origin (star x) (right q) has = elim has [ ]
+  copy_of_origin (below x) (right q) has = elim has [ ]
 
   -- and of no other state
   pub copy_has : {x : Nested A} {q p : State} → Copy x q p → Has x q × (origin x q ≡ p)
@@ -69,6 +73,12 @@ module _ {A : Type 0} (M : Meaning A) where
   start_full x N settled m start of_start = m
   start_full (below x) N settled m (left q) (in_child c) =
       start_full x _ settled.1 (settled.0 _ _ Wire.pass_down m) q c
+  start_full x N settled m accepting x5 = elim x5 [ ]
+  start_full (leaf _) N settled m (left q) x8 = elim x8 [ ]
+  start_full (catenation _ _) N settled m (left q) x10 = elim x10 [ ]
+  start_full (union _ _) N settled m (left q) x11 = elim x11 [ ]
+  start_full (star _) N settled m (left q) x11 = elim x11 [ ]
+  start_full x N settled m (right _) x8 = elim x8 [ ]
 
   -- what is full in a child piece is full with its stand-in, but for the start: the accepting state is passed up
   child_full : (x : Nested A) (N : States) → Settled M (below x) N → {p : State} → (p ≡ start → ⊥)
@@ -76,6 +86,7 @@ module _ {A : Type 0} (M : Meaning A) where
   child_full x N settled other full start of_start = absurd (other refl)
   child_full x N settled other full accepting of_accepting = settled.0 _ _ Wire.pass_up (full accepting of_accepting)
   child_full x N settled other full (left q) (in_child c) = full q c
+  child_full x N settled {p = p} other full (right _) x3 = elim x3 [ ]
 
   -- no empty transition ends in the start
   never_empty : {t : Tree A} {p : State} → Empty M t p start → ⊥
@@ -121,6 +132,57 @@ module _ {A : Type 0} (M : Meaning A) where
   empty_full (below x) N s e full q c =
       child_full x N s (λ begins. never_empty (rw begins at e))
       (empty_full x _ s.1 e (λ p d. full (left p) (in_child d))) q c
+  empty_full (leaf a) N s (Empty.leaf_past has) full start c = elim c [ ]
+  empty_full (leaf a) N s (Empty.leaf_past has) full (left q) c = elim c [ ]
+  empty_full (leaf a) N s (Empty.leaf_past has) full (right q) c = elim c [ ]
+  empty_full (catenation x y) N s Empty.catenation_in full start c = elim c [ ]
+  empty_full (catenation x y) N s Empty.catenation_in full accepting c = elim c [ ]
+  empty_full (catenation x y) N s Empty.catenation_in full (right q) c = elim c [ ]
+  empty_full (catenation x y) N s Empty.catenation_over full start c = elim c [ ]
+  empty_full (catenation x y) N s Empty.catenation_over full accepting c = elim c [ ]
+  empty_full (catenation x y) N s Empty.catenation_over full (left q) c = elim c [ ]
+  empty_full (catenation x y) N s Empty.catenation_out full start c = elim c [ ]
+  empty_full (catenation x y) N s Empty.catenation_out full (left q) c = elim c [ ]
+  empty_full (catenation x y) N s Empty.catenation_out full (right q) c = elim c [ ]
+  empty_full (catenation x y) N s (Empty.catenation_left {p = p} {q = q} e) full start c = elim c [ ]
+  empty_full (catenation x y) N s (Empty.catenation_left {p = p} {q = q} e) full accepting c = elim c [ ]
+  empty_full (catenation x y) N s (Empty.catenation_left {p = p} e) full (right q) c = elim c [ ]
+  empty_full (catenation x y) N s (Empty.catenation_right {p = p} {q = q} e) full start c = elim c [ ]
+  empty_full (catenation x y) N s (Empty.catenation_right {p = p} {q = q} e) full accepting c = elim c [ ]
+  empty_full (catenation x y) N s (Empty.catenation_right {p = p} e) full (left q) c = elim c [ ]
+  empty_full (union x y) N s Empty.union_in_left full start c = elim c [ ]
+  empty_full (union x y) N s Empty.union_in_left full accepting c = elim c [ ]
+  empty_full (union x y) N s Empty.union_in_left full (right q) c = elim c [ ]
+  empty_full (union x y) N s Empty.union_in_right full start c = elim c [ ]
+  empty_full (union x y) N s Empty.union_in_right full accepting c = elim c [ ]
+  empty_full (union x y) N s Empty.union_in_right full (left q) c = elim c [ ]
+  empty_full (union x y) N s Empty.union_out_left full start c = elim c [ ]
+  empty_full (union x y) N s Empty.union_out_left full (left q) c = elim c [ ]
+  empty_full (union x y) N s Empty.union_out_left full (right q) c = elim c [ ]
+  empty_full (union x y) N s Empty.union_out_right full start c = elim c [ ]
+  empty_full (union x y) N s Empty.union_out_right full (left q) c = elim c [ ]
+  empty_full (union x y) N s Empty.union_out_right full (right q) c = elim c [ ]
+  empty_full (union x y) N s (Empty.union_left {p = p} {q = q} e) full start c = elim c [ ]
+  empty_full (union x y) N s (Empty.union_left {p = p} {q = q} e) full accepting c = elim c [ ]
+  empty_full (union x y) N s (Empty.union_left {p = p} e) full (right q) c = elim c [ ]
+  empty_full (union x y) N s (Empty.union_right {p = p} {q = q} e) full start c = elim c [ ]
+  empty_full (union x y) N s (Empty.union_right {p = p} {q = q} e) full accepting c = elim c [ ]
+  empty_full (union x y) N s (Empty.union_right {p = p} e) full (left q) c = elim c [ ]
+  empty_full (star x) N s Rattle.language.specs.Automaton.star_in full start c = elim c [ ]
+  empty_full (star x) N s Rattle.language.specs.Automaton.star_in full accepting c = elim c [ ]
+  empty_full (star x) N s Rattle.language.specs.Automaton.star_in full (right q) c = elim c [ ]
+  empty_full (star x) N s Rattle.language.specs.Automaton.star_past full start c = elim c [ ]
+  empty_full (star x) N s Rattle.language.specs.Automaton.star_past full (left q) c = elim c [ ]
+  empty_full (star x) N s Rattle.language.specs.Automaton.star_past full (right q) c = elim c [ ]
+  empty_full (star x) N s Rattle.language.specs.Automaton.star_out full start c = elim c [ ]
+  empty_full (star x) N s Rattle.language.specs.Automaton.star_out full (left q) c = elim c [ ]
+  empty_full (star x) N s Rattle.language.specs.Automaton.star_out full (right q) c = elim c [ ]
+  empty_full (star x) N s Rattle.language.specs.Automaton.star_back full start c = elim c [ ]
+  empty_full (star x) N s Rattle.language.specs.Automaton.star_back full accepting c = elim c [ ]
+  empty_full (star x) N s Rattle.language.specs.Automaton.star_back full (right q) c = elim c [ ]
+  empty_full (star x) N s (Rattle.language.specs.Automaton.star_inside {p = p} {q = q} e) full start c = elim c [ ]
+  empty_full (star x) N s (Rattle.language.specs.Automaton.star_inside {p = p} {q = q} e) full accepting c = elim c [ ]
+  empty_full (star x) N s (Rattle.language.specs.Automaton.star_inside {p = p} e) full (right q) c = elim c [ ]
 
   module _ (N : Meaning A) (b : ℕ) where
     -- a transition that reads b, by whatever meaning, leads from full in some marks to full in a settled set that has
@@ -150,6 +212,24 @@ module _ {A : Type 0} (M : Meaning A) where
         child_full x reached s (λ begins. never_reads N b (rw begins at e))
         (reads_full x _ _ s.1 (λ p q r. moved (left p) (left q) (Reading.in_child r)) e
         (λ p d. full (left p) (in_child d))) q c
+    reads_full (leaf a) marks reached s moved (Reads.at_leaf takes) full start c = elim c [ ]
+    reads_full (leaf a) marks reached s moved (Reads.at_leaf takes) full (left q) c = elim c [ ]
+    reads_full (leaf a) marks reached s moved (Reads.at_leaf takes) full (right q) c = elim c [ ]
+    reads_full (catenation x y) marks reached s moved (Reads.catenation_left {p = p} {q = q} e) full start c = elim c [ ]
+    reads_full (catenation x y) marks reached s moved (Reads.catenation_left {p = p} {q = q} e) full accepting c = elim c [ ]
+    reads_full (catenation x y) marks reached s moved (Reads.catenation_left {p = p} e) full (right q) c = elim c [ ]
+    reads_full (catenation x y) marks reached s moved (Reads.catenation_right {p = p} {q = q} e) full start c = elim c [ ]
+    reads_full (catenation x y) marks reached s moved (Reads.catenation_right {p = p} {q = q} e) full accepting c = elim c [ ]
+    reads_full (catenation x y) marks reached s moved (Reads.catenation_right {p = p} e) full (left q) c = elim c [ ]
+    reads_full (union x y) marks reached s moved (Reads.union_left {p = p} {q = q} e) full start c = elim c [ ]
+    reads_full (union x y) marks reached s moved (Reads.union_left {p = p} {q = q} e) full accepting c = elim c [ ]
+    reads_full (union x y) marks reached s moved (Reads.union_left {p = p} e) full (right q) c = elim c [ ]
+    reads_full (union x y) marks reached s moved (Reads.union_right {p = p} {q = q} e) full start c = elim c [ ]
+    reads_full (union x y) marks reached s moved (Reads.union_right {p = p} {q = q} e) full accepting c = elim c [ ]
+    reads_full (union x y) marks reached s moved (Reads.union_right {p = p} e) full (left q) c = elim c [ ]
+    reads_full (star x) marks reached s moved (Reads.star_inside {p = p} {q = q} e) full start c = elim c [ ]
+    reads_full (star x) marks reached s moved (Reads.star_inside {p = p} {q = q} e) full accepting c = elim c [ ]
+    reads_full (star x) marks reached s moved (Reads.star_inside {p = p} e) full (right q) c = elim c [ ]
 
   -- the other way round, each empty transition of the cut automaton is an empty one of the uncut automaton, or leads to
   -- a copy of the same state

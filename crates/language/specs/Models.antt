@@ -33,6 +33,9 @@ module _ {A : Type 0} where
   copy_onto (Nested.star x) (left p) is = let (q, c) = copy_onto x p is in (left q, Copy.star_inside c)
   copy_onto (below x) (left p) is = let (q, c) = copy_onto x (left p) is in (left q, in_child c)
   copy_onto (below x) (right p) is = let (q, c) = copy_onto x (right p) is in (left q, in_child c)
+  copy_onto (Rattle.language.specs.Nested.leaf _) (left p) is = elim is [ ]
+  copy_onto (Rattle.language.specs.Nested.leaf _) (right p) is = elim is [ ]
+  copy_onto (Rattle.language.specs.Nested.star x) (right p) is = elim is [ ]
 
   -- so each is the origin of a state of the cut automaton
   pub origin_onto : (x : Nested A) (p : State) → StateOf (whole x) p → (q : State) × Has x q × (origin x q ≡ p)

@@ -45,6 +45,9 @@ module _ {A : Type 0} where
   plain_itself empty (SignedTree.union place s t) plain =
       rw (plain_itself empty s plain.0, plain_itself empty t plain.1) refl
   plain_itself empty (SignedTree.star place s) plain = ap (SignedTree.star place) (plain_itself empty s plain)
+  plain_itself empty (one_or_more place _) plain = elim plain [ ]
+  plain_itself empty (optional place _) plain = elim plain [ ]
+  plain_itself empty (counted place fewest most _) plain = elim plain [ ]
 
   -- it has no count, so all are well counted
   pub plain_well_counted : (s : SignedTree A) → Plain s → WellCounted s
@@ -54,3 +57,6 @@ module _ {A : Type 0} where
   plain_well_counted (SignedTree.union place s t) plain =
       (plain_well_counted s plain.0, plain_well_counted t plain.1)
   plain_well_counted (SignedTree.star place s) plain = plain_well_counted s plain
+  plain_well_counted (one_or_more place _) plain = elim plain [ ]
+  plain_well_counted (optional place _) plain = elim plain [ ]
+  plain_well_counted (counted place fewest most _) plain = elim plain [ ]

@@ -65,14 +65,14 @@ module _ {A : Type 0} (M : Meaning A) where
   rest_empty (Empty.star_inside e) w r = (r.0, r.1, r.2, rest_empty e r.0 r.3, r.4)
 
   -- what a transition reading b ends in, its beginning has too, after b
-  rest_reads : {t : Tree A} {b : ℕ} {p q : State} → Reads M b t p q → (w : List ℕ) → Rest t q w → Rest t p (b ∷ w)
-  rest_reads {b} (Reads.at_leaf takes) w r = inl (b, ap (λ (v : List ℕ). b ∷ v) r, takes)
-  rest_reads {b} (Reads.catenation_left e) w r =
+  rest_reads : {b : ℕ} {t : Tree A} {p q : State} → Reads M b t p q → (w : List ℕ) → Rest t q w → Rest t p (b ∷ w)
+  rest_reads {b = b} (Reads.at_leaf takes) w r = inl (b, ap (λ (v : List ℕ). b ∷ v) r, takes)
+  rest_reads {b = b} (Reads.catenation_left e) w r =
       (b ∷ r.0, r.1, ap (λ (v : List ℕ). b ∷ v) r.2, rest_reads e r.0 r.3, r.4)
   rest_reads (Reads.catenation_right e) w r = rest_reads e w r
   rest_reads (Reads.union_left e) w r = rest_reads e w r
   rest_reads (Reads.union_right e) w r = rest_reads e w r
-  rest_reads {b} (Reads.star_inside e) w r =
+  rest_reads {b = b} (Reads.star_inside e) w r =
       (b ∷ r.0, r.1, ap (λ (v : List ℕ). b ∷ v) r.2, rest_reads e r.0 r.3, r.4)
 
   -- a path of empty transitions likewise

@@ -1,7 +1,7 @@
 -- Marks matter only at the states that there are: moves and sweeps make marks that agree there of marks that agree
 -- there.
 use Rattle.std.specs.Prelude.{◌≡◌, ◌↔◌}
-use Rattle.std.proofs.Math.Logic.{Iff·rfl, Iff·trans}
+use Rattle.std.proofs.Math.Logic.Iff
 use Rattle.std.proofs.Common.{inl, inr}
 use Rattle.language.specs.Tree.{Tree}
 use Rattle.language.specs.Meaning.{Meaning}
@@ -35,7 +35,7 @@ Agree x Y Z = (q : State) → Has x q → Y q ↔ Z q
 
 -- marks that agree model the same sets
 pub models_same : {A : Type 0} (x : Nested A) (X : States) {Y Z : States} → Agree x Y Z → Models x Z X → Models x Y X
-models_same x X same models q has = Iff·trans (same q has) (models q has)
+models_same x X same models q has = Iff.trans (same q has) (models q has)
 
 -- passing down makes more of more
 down_more_in : (e : State → State) (D Y Z : States) → MoreIn D (λ p. Y (e (left p))) (λ p. Z (e (left p)))
@@ -98,7 +98,7 @@ module _ {A : Type 0} (M : Meaning A) where
       let down : MoreIn (Has x) (Down e Y) (Down e Z) =
       down_more_in e (Has x) Y Z (λ p h. more _ ((states (left p)).1 h)) (more _ ((states start).1 tt)) in
       let child : MoreIn (Has x) (Sweep M x (Down e Y)) (Sweep M x (Down e Z)) =
-      visit_more_in (own x) x (λ p. p) (Has x) _ _ (own_has x) (λ p. Iff·rfl)
+      visit_more_in (own x) x (λ p. p) (Has x) _ _ (own_has x) (λ p. Iff.rfl)
       (closed_more_in (own x) (Has x) _ _ (own_has x) down) in
       closed_more_in r D _ _ begins
       (λ q d. up_more_in e _ _ Y Z q (more q d) (λ p stands. child p ((states (left p)).0 (rw stands at d)))
@@ -106,7 +106,7 @@ module _ {A : Type 0} (M : Meaning A) where
 
   -- a sweep makes more marks at the states that there are of more marks at these
   pub sweep_more : (x : Nested A) {Y Z : States} → MoreIn (Has x) Y Z → MoreIn (Has x) (Sweep M x Y) (Sweep M x Z)
-  sweep_more x more = visit_more_in (own x) x (λ p. p) (Has x) _ _ (own_has x) (λ p. Iff·rfl)
+  sweep_more x more = visit_more_in (own x) x (λ p. p) (Has x) _ _ (own_has x) (λ p. Iff.rfl)
       (closed_more_in (own x) (Has x) _ _ (own_has x) more)
 
   -- so marks that agree are swept to marks that agree

@@ -3,7 +3,7 @@
 use Rattle.std.specs.Prelude.{◌↔◌}
 use Rattle.language.specs.Automaton.{State, start, accepting, left, right, States, Empty}
 use Rattle.language.specs.Meaning.{Meaning}
-use Rattle.language.specs.Nested.{Nested, leaf, catenation, union, star, below, own, OwnEmpty}
+use Rattle.language.specs.Nested.{Nested, leaf, catenation, union, star, below, OwnEmpty}
 use Rattle.language.specs.Simulation.{SettledBy}
 
 -- a set with the same marks as a settled one is settled by the same steps

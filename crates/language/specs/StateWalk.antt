@@ -1,7 +1,8 @@
 -- One walk over the states of the cut automaton in their order, each star's backward transition taken once, after its
 -- operand.
 use Rattle.std.specs.Prelude.{◌↔◌, ◌⊎◌}
-use Rattle.std.proofs.Math.Logic.{Iff·rfl, ⊎_map}
+use Rattle.std.proofs.Math.Logic.Iff
+use Rattle.std.proofs.Math.Logic.{⊎_map}
 use Rattle.std.proofs.Common.{inl, inr, ⊎_elim}
 use Rattle.language.specs.Automaton.{State, start, accepting, left, right, States}
 use Rattle.language.specs.Meaning.{Meaning}
@@ -47,9 +48,9 @@ entered_both X P R Q start = (
   ⊎_elim (⊎_map (λ x. x) (λ p. inr (inl p))) (λ c. inr (⊎_map (λ r. r) inr c)),
   ⊎_elim (λ x. inl (inl x)) (⊎_elim (λ r. inr (inl r)) (⊎_elim (λ p. inl (inr p)) (λ q. inr (inr q)))),
 )
-entered_both X P R Q accepting = Iff·rfl
-entered_both X P R Q (left q) = Iff·rfl
-entered_both X P R Q (right q) = Iff·rfl
+entered_both X P R Q accepting = Iff.rfl
+entered_both X P R Q (left q) = Iff.rfl
+entered_both X P R Q (right q) = Iff.rfl
 
 -- a function of marks that makes more of more
 abbrev Growing : (States → States) → Type 1
@@ -94,19 +95,21 @@ module _ {A : Type 0} (M : Meaning A) where
   walked_keeps (leaf a) X (right q) m = m
   walked_keeps (catenation x y) X start m = m
   walked_keeps (catenation x y) X accepting m = inl m
-  walked_keeps (catenation x y) X (left q) m = walked_keeps x _ q (entered_keeps _ _ q m)
-  walked_keeps (catenation x y) X (right q) m = walked_keeps y _ q (entered_keeps _ _ q m)
+  walked_keeps (catenation x y) X (left q) m = walked_keeps x _ q (entered_keeps (λ p. X (left p)) (X start) q m)
+  walked_keeps (catenation x y) X (right q) m = walked_keeps y _ q (entered_keeps (λ p. X (right p)) _ q m)
   walked_keeps (union x y) X start m = m
   walked_keeps (union x y) X accepting m = inl m
-  walked_keeps (union x y) X (left q) m = walked_keeps x _ q (entered_keeps _ _ q m)
-  walked_keeps (union x y) X (right q) m = walked_keeps y _ q (entered_keeps _ _ q m)
+  walked_keeps (union x y) X (left q) m = walked_keeps x _ q (entered_keeps (λ p. X (left p)) (X start) q m)
+  walked_keeps (union x y) X (right q) m = walked_keeps y _ q (entered_keeps (λ p. X (right p)) (X start) q m)
   walked_keeps (star x) X start m = m
   walked_keeps (star x) X accepting m = inl m
-  walked_keeps (star x) X (left q) m = entered_keeps _ _ q (walked_keeps x _ q (entered_keeps _ _ q m))
+  walked_keeps (star x) X (left q) m =
+      entered_keeps (First (Walked x) X) (First (Walked x) X accepting) q
+      (walked_keeps x (Entered (λ p. X (left p)) (X start)) q (entered_keeps (λ p. X (left p)) (X start) q m))
   walked_keeps (star x) X (right q) m = m
   walked_keeps (below x) X start m = m
   walked_keeps (below x) X accepting m = inl m
-  walked_keeps (below x) X (left q) m = walked_keeps x _ q (entered_keeps _ _ q m)
+  walked_keeps (below x) X (left q) m = walked_keeps x _ q (entered_keeps (λ p. X (left p)) (X start) q m)
   walked_keeps (below x) X (right q) m = m
 
   -- a walk makes more of more marks

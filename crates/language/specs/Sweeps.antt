@@ -1,7 +1,8 @@
 -- Two sweeps of a cut automaton, from any marks, are the closing: after them the marks model the plain simulation's.
 use Rattle.std.specs.Prelude.{ℕ, ◌≡◌, refl, ◌⊎◌}
 use Rattle.std.proofs.Common.{inl}
-use Rattle.std.proofs.Math.Logic.{inr, ⊎_elim, Iff·rfl, Iff·trans}
+use Rattle.std.proofs.Math.Logic.Iff
+use Rattle.std.proofs.Math.Logic.{inr, ⊎_elim}
 use Rattle.language.specs.Automaton.{start, States, Closed, Started, Moved, Stepped}
 use Rattle.language.specs.Meaning.{Meaning}
 use Rattle.language.specs.Nested.{Nested, whole, Has, origin, Models, Move, Sweep}
@@ -97,10 +98,10 @@ module _ {A : Type 0} (M N : Meaning A) (same : SameEmpty M N) (b : ℕ) (x : Ne
       (λ o c. (models o (copy_has c).0).1 (rw (copy_has c).1 m))))
 
   pub sweeps_step_closed : Models x (Sweep M x (Sweep M x Y)) (Stepped N (whole x) b X)
-  sweeps_step_closed q has = Iff·trans (arrived q has) (closed_same M N same (whole x) _ (origin x q))
+  sweeps_step_closed q has = Iff.trans (arrived q has) (closed_same M N same (whole x) _ (origin x q))
 
 -- and after the move alone
 pub sweeps_step : {A : Type 0} (M : Meaning A) (b : ℕ) (x : Nested A) (marks X : States) → Models x marks X
     → Models x (Sweep M x (Sweep M x (Move M b x marks))) (Stepped M (whole x) b X)
-sweeps_step M b x marks X models = sweeps_step_closed M M (λ a. Iff·rfl) b x marks X (Move M b x marks) models
+sweeps_step M b x marks X models = sweeps_step_closed M M (λ a. Iff.rfl) b x marks X (Move M b x marks) models
     (λ q has m. m) (λ Z settled within. within)

@@ -1,6 +1,6 @@
 -- Sets of states that are taken as one step to the same marks, and so do bytes that no leaf tells apart.
 use Rattle.std.specs.Prelude.{ℕ, ◌↔◌}
-use Rattle.std.proofs.Math.Logic.{Iff·rfl, Iff·symm, Iff·trans}
+use Rattle.std.proofs.Math.Logic.Iff
 use Rattle.language.specs.Tree.{Tree}
 use Rattle.language.specs.Meaning.{Meaning}
 use Rattle.language.specs.Automaton.{State, accepting, States, Reads, at_leaf, Stepped}
@@ -10,17 +10,17 @@ use Rattle.language.specs.TakenAsOne.{LeafStart, TakenAsOne, NotToldApart}
 module _ {A : Type 0} (M : Meaning A) where
   -- a set is taken as one with itself
   pub taken_same : (t : Tree A) (X : States) → TakenAsOne M t X X
-  taken_same t X = record { starts = λ p leaf. Iff·rfl; accepts = Iff·rfl }
+  taken_same t X = record { starts = λ p leaf. Iff.rfl; accepts = Iff.rfl }
 
   -- in either order
   pub taken_back : {t : Tree A} {X Y : States} → TakenAsOne M t X Y → TakenAsOne M t Y X
-  taken_back one = record { starts = λ p leaf. Iff·symm (one.starts p leaf); accepts = Iff·symm one.accepts }
+  taken_back one = record { starts = λ p leaf. Iff.symm (one.starts p leaf); accepts = Iff.symm one.accepts }
 
   -- and along a third
   pub taken_along : {t : Tree A} {X Y Z : States} → TakenAsOne M t X Y → TakenAsOne M t Y Z → TakenAsOne M t X Z
   taken_along one other = record {
-    starts = λ p leaf. Iff·trans (one.starts p leaf) (other.starts p leaf);
-    accepts = Iff·trans one.accepts other.accepts;
+    starts = λ p leaf. Iff.trans (one.starts p leaf) (other.starts p leaf);
+    accepts = Iff.trans one.accepts other.accepts;
   }
 
   -- sets with the same marks are taken as one
@@ -29,13 +29,13 @@ module _ {A : Type 0} (M : Meaning A) where
 
   -- not told apart: each byte from itself, in either order, and along a third
   pub told_same : (t : Tree A) (b : ℕ) → NotToldApart M t b b
-  told_same t b p q = Iff·rfl
+  told_same t b p q = Iff.rfl
 
   pub told_back : (t : Tree A) (b c : ℕ) → NotToldApart M t b c → NotToldApart M t c b
-  told_back t b c alike p q = Iff·symm (alike p q)
+  told_back t b c alike p q = Iff.symm (alike p q)
 
   pub told_along : (t : Tree A) (b c d : ℕ) → NotToldApart M t b c → NotToldApart M t c d → NotToldApart M t b d
-  told_along t b c d alike other p q = Iff·trans (alike p q) (other p q)
+  told_along t b c d alike other p q = Iff.trans (alike p q) (other p q)
 
   -- a byte steps to no more than one that no leaf tells apart from it
   stepped_within : (t : Tree A) (b c : ℕ) → NotToldApart M t b c → (X : States)

@@ -4,7 +4,7 @@
 use Rattle.std.specs.Prelude.{◌↔◌, ◌⊎◌}
 use Rattle.std.proofs.Common.{inl, inr, ⊎_elim}
 use Rattle.std.proofs.Math.Logic.{⊎_map}
-use Rattle.language.specs.Automaton.{State, start, accepting, States}
+use Rattle.language.specs.Automaton.{left, right, State, start, accepting, States}
 use Rattle.language.specs.Meaning.{Meaning}
 use Rattle.language.specs.Nested.{Nested, leaf, catenation, union, star, below}
 use Rattle.language.specs.Simulation.{SettledBy}
@@ -63,7 +63,9 @@ module _ {A : Type 0} (M : Meaning A) where
       → Operand x X P Q accepting → Walked M x (Entered X P) accepting ⊎ Q
   operand_accepts x accepts X P Q m =
       ⊎_elim inl (λ (c, n). c)
-      (child_accepts x accepts X P _ (walked_more M x _ _ (λ q. (entered_both _ _ P Q q).0) accepting m))
+      (child_accepts x accepts X P _
+      (walked_more M x _ _ (λ q. (entered_both (Walked M x (Entered X P)) (Walked M x (Entered X P) accepting) P Q q).0)
+      accepting m))
 
   -- and so for every node, from its children
   second_accepts : (x : Nested A) → SecondAccepts x
@@ -72,20 +74,20 @@ module _ {A : Type 0} (M : Meaning A) where
   second_accepts (catenation x y) X Q (inl m) = inl m
   second_accepts (catenation x y) X Q (inr m) =
       ⊎_map inr (λ (c, n). (c.0, (c.1, n)))
-      (child_accepts y (second_accepts y) _ _ (Q × Nullable x)
-      (walked_more M y _ _ (entered_more (λ q m. m) (child_accepts x (second_accepts x) _ (X start) Q)) accepting m))
+      (child_accepts y (second_accepts y) (λ p. X (right p)) (Walked M x (Entered (λ p. X (left p)) (X start)) accepting) (Q × Nullable x)
+      (walked_more M y _ _ (entered_more {X = (λ x'. Entered (Walked {A = A} M (catenation x y) X) Q (right x'))} (λ q m. m) (child_accepts x (second_accepts x) (λ p. X (left p)) (X start) Q)) accepting m))
   second_accepts (union x y) X Q (inl m) = inl m
   second_accepts (union x y) X Q (inr (inl m)) =
-      ⊎_map (λ a. inr (inl a)) (λ (q, n). (q, inl n)) (child_accepts x (second_accepts x) _ (X start) Q m)
+      ⊎_map (λ a. inr (inl a)) (λ (q, n). (q, inl n)) (child_accepts x (second_accepts x) (λ p. X (left p)) (X start) Q m)
   second_accepts (union x y) X Q (inr (inr m)) =
-      ⊎_map (λ a. inr (inr a)) (λ (q, n). (q, inr n)) (child_accepts y (second_accepts y) _ (X start) Q m)
+      ⊎_map (λ a. inr (inr a)) (λ (q, n). (q, inr n)) (child_accepts y (second_accepts y) (λ p. X (right p)) (X start) Q m)
   second_accepts (star x) X Q (inl m) = inl m
   second_accepts (star x) X Q (inr (inl (inl m))) = inl (inr (inl m))
   second_accepts (star x) X Q (inr (inl (inr q))) = inr (q, tt)
   second_accepts (star x) X Q (inr (inr m)) =
-      ⊎_map (λ a. inr (inr a)) (λ q. (q, tt)) (operand_accepts x (second_accepts x) _ (X start) Q m)
+      ⊎_map (λ a. inr (inr a)) (λ q. (q, tt)) (operand_accepts x (second_accepts x) (λ p. X (left p)) (X start) Q m)
   second_accepts (below x) X Q (inl m) = inl m
-  second_accepts (below x) X Q (inr m) = ⊎_map inr (λ c. c) (child_accepts x (second_accepts x) _ (X start) Q m)
+  second_accepts (below x) X Q (inr m) = ⊎_map inr (λ c. c) (child_accepts x (second_accepts x) (λ p. X (left p)) (X start) Q m)
 
   -- after a second walk the topmost node's transitions lead to nothing new: each goes the walk's way, or is the
   -- backward one, taken last
@@ -111,8 +113,8 @@ module _ {A : Type 0} (M : Meaning A) where
       Walked M x (Entered (Walked M x (Entered X P)) (P ⊎ Walked M x (Entered X P) accepting ⊎ Q)) q
       ↔ Entered (Operand x X P Q) (Operand x X P Q accepting) q
   operand_same x X P Q q = (
-    λ m. entered_keeps _ _ q (walked_more M x _ _ (λ q. (entered_both _ _ P Q q).1) q m),
-    entered_within (walked_more M x _ _ (λ q. (entered_both _ _ P Q q).0))
+    λ m. entered_keeps (Operand x X P Q) (Operand x X P Q accepting) q (walked_more M x _ _ (λ q. (entered_both (Walked {A = A} M x (Entered X P)) (Walked {A = A} M x (Entered X P) accepting) P Q q).1) q m),
+    entered_within (walked_more M x _ _ (λ q. (entered_both (Walked {A = A} M x (Entered X P)) (Walked {A = A} M x (Entered X P) accepting) P Q q).0))
         (λ a. walked_keeps M x _ start (inr (inr (operand_accepts x (second_accepts x) X P Q a)))) q,
   )
 
@@ -122,7 +124,7 @@ module _ {A : Type 0} (M : Meaning A) where
   second_settled (catenation x y) X Q = (wires_settled (catenation x y) X Q, second_settled x _ _, second_settled y _ _)
   second_settled (union x y) X Q = (wires_settled (union x y) X Q, second_settled x _ _, second_settled y _ _)
   second_settled (star x) X Q =
-      (wires_settled (star x) X Q, settled_same M x (operand_same x _ (X start) Q) (second_settled x _ _))
+      (wires_settled (star x) X Q, settled_same M x (operand_same x (λ x'. X (left x')) (X start) Q) (second_settled x _ _))
   second_settled (below x) X Q = (wires_settled (below x) X Q, second_settled x _ _)
 
   -- the result: two walks settle any marks

@@ -1,7 +1,7 @@
 -- Texts that lead to one state have the same continuations, and where nothing is left, nothing comes back.
 use Rattle.std.specs.Prelude.{ℕ, ◌≡◌, true, ◌↔◌, List, [], ◌∷◌, ◌++◌}
 use Rattle.std.proofs.Common.{arith, subst, sym, append-nil}
-use Rattle.std.proofs.Math.Logic.{Iff·symm, Iff·trans}
+use Rattle.std.proofs.Math.Logic.Iff
 use Rattle.std.proofs.Math.Seq.{append_snoc}
 use Rattle.language.specs.Tree.{Tree}
 use Rattle.language.specs.Automaton.{State, accepting, States, Started, Stepped}
@@ -51,9 +51,9 @@ module _ (classes : List ℕ) (t : Tree Leaf) where
       → (q : State) → MarksAfter classes t (v ++ (b ∷ [])) q ↔ MarksAfter classes t (w ++ (c ∷ [])) q
   same_marks v w b c one alike q =
       let M = meaning classes in
-      Iff·trans (marks_step v b q)
-      (Iff·trans (stepped_from_either M (takes_or_empty classes) one b q)
-      (Iff·trans (stepped_by_either M t b c alike (MarksAfter classes t w) q) (Iff·symm (marks_step w c q))))
+      Iff.trans (marks_step v b q)
+      (Iff.trans (stepped_from_either M (takes_or_empty classes) one b q)
+      (Iff.trans (stepped_by_either M t b c alike (MarksAfter classes t w) q) (Iff.symm (marks_step w c q))))
 
   -- so they lead to one state
   pub one_state_step : (v w : List ℕ) (b c : ℕ) → OneState classes t v w → NotToldApart (meaning classes) t b c
@@ -84,7 +84,7 @@ module _ (classes : List ℕ) (t : Tree Leaf) where
   pub one_state_matched : (v w : List ℕ) → OneState classes t v w → Matches classes t v ↔ Matches classes t w
   one_state_matched v w one =
       let M = meaning classes in
-      Iff·trans (Iff·symm (accepts_exactly M t v)) (Iff·trans one.accepts (accepts_exactly M t w))
+      Iff.trans (Iff.symm (accepts_exactly M t v)) (Iff.trans one.accepts (accepts_exactly M t w))
 
   -- texts that lead to one state do so after the same text more
   pub one_state_after : (v w u : List ℕ) → OneState classes t v w → OneState classes t (v ++ u) (w ++ u)

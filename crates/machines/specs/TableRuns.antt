@@ -2,7 +2,7 @@
 use Rattle.std.specs.Prelude.{ℕ, suc, ◌+◌, ◌*◌, ◌/◌, ◌%◌, ◌≤◌, ◌<◌, ◌≡◌, refl, true, false, ◌↔◌, List, [], ◌∷◌, ◌++◌, eqb, length, get_or}
 use Rattle.std.proofs.Common.{arith, mul-le-mul_right, mod-eq_of_lt, ap, ap₂, subst, sym, ◌∙◌, inl, inr, append-nil}
 use Rattle.std.proofs.Math.Nat.{mul-add-div_right, mul-add-mod_self_right, div-eq_of_lt}
-use Rattle.std.proofs.Math.Logic.{Iff·trans}
+use Rattle.std.proofs.Math.Logic.Iff
 use Rattle.std.proofs.Math.Seq.{append_snoc}
 use Rattle.language.specs.Tree.{Tree}
 use Rattle.language.specs.TakenAsOne.{NotToldApart}
@@ -131,7 +131,7 @@ module _ {classes : List ℕ} {t : Tree Leaf} {firsts columns : List ℕ} {texts
     λ matched. absurd (nothing_not_matched classes t w nothing matched),
   )
   led_accepts w s (to_state i there is one) =
-      rw is (Iff·trans (state_accepts i there) (one_state_matched classes t (get_or texts i []) w one))
+      rw is (Iff.trans (state_accepts i there) (one_state_matched classes t (get_or texts i []) w one))
 
   -- the result: the table accepts a text of bytes exactly where the text is of the language
   pub table_runs : (w : List ℕ) → ((i : ℕ) → i < length w → get_or w i 0 < byte_count)

@@ -1,7 +1,7 @@
 -- A match by a table that was made of a list is a match by marks.
 use Rattle.std.specs.Prelude.{ℕ, ◌<◌, ◌≡◌, Bool, true, ◌↔◌, List, length, get_or}
 use Rattle.std.proofs.Common.{arith, sym}
-use Rattle.std.proofs.Math.Logic.{Iff·trans, Iff·symm}
+use Rattle.std.proofs.Math.Logic.Iff
 use Rattle.tree.specs.Leaf.{Matches}
 use Rattle.lists.specs.Readback.{good_unique}
 use Rattle.running.specs.Runs.{runs}
@@ -33,7 +33,7 @@ module _ {list classes table after room cleared : List ℕ} {states entries : �
   same_as_match {matched} (match_answered told) =
       let one = good_unique list told.t of.t told.good of.good in
       same_test (runs after text) matched
-      (Iff·trans runs_as_language (Iff·symm (rw one at told.holds)))
+      (Iff.trans runs_as_language (Iff.symm (rw one at told.holds)))
 
   -- the numbers of the match by table say so
   pub answered_as_match : {matched : Bool} → MatchAnswers list classes text (answering_match matched)

@@ -2,7 +2,7 @@
 -- refused, and where nothing is left or something is refused, one more byte changes nothing.
 use Rattle.std.specs.Prelude.{ℕ, ◌+◌, ◌≤◌, ◌<◌, ◌≡◌, refl, Bool, true, false, ◌↔◌, List, [], ◌∷◌, ◌++◌, length, get_or, take, drop}
 use Rattle.std.proofs.Common.{add-one, arith, sym, ap, subst, ◌∙◌, append_assoc, append-nil, length-append, take-append-drop, take_all, take-suc, take_at, drop_at}
-use Rattle.std.proofs.Math.Logic.{Iff·trans, Iff·symm}
+use Rattle.std.proofs.Math.Logic.Iff
 use Rattle.language.specs.Tree.{Tree}
 use Rattle.language.specs.Automaton.{accepting, States}
 use Rattle.language.specs.Models.{alike_models, models_alike}
@@ -132,8 +132,8 @@ module _ {list classes : List ℕ} {t : Tree Leaf} where
     -- and tells of them
     pub step_told : ToldOf t later yes' nothing
     step_told = record {
-      answer = Iff·trans went.answer
-          (Iff·trans (Iff·symm (went.hold.marks accepting tt))
+      answer = Iff.trans went.answer
+          (Iff.trans (Iff.symm (went.hold.marks accepting tt))
           ((still t later (hold_marks went.hold)).marks accepting tt));
       left = went.left;
     }

@@ -1,7 +1,7 @@
 -- What a caller may rely on: how many states a piece has, and what the flag of a start or a step says.
 use Rattle.std.specs.Prelude.{ℕ, suc, ◌-◌, ◌≤◌, ◌≡◌, Bool, true, false, ◌↔◌, List, get_or}
 use Rattle.std.proofs.Common.{arith, ap, subst}
-use Rattle.std.proofs.Math.Logic.{Iff·trans, Iff·symm}
+use Rattle.std.proofs.Math.Logic.Iff
 use Rattle.language.specs.Tree.{Tree}
 use Rattle.language.specs.Automaton.{States, accepting}
 use Rattle.tree.specs.Limits.{most_states}
@@ -52,8 +52,8 @@ module _ {list classes : List ℕ} {t : Tree Leaf} (good : Good list t) where
       → MarksMade list classes X before after n
       → (n.accepting ≡ true) ↔ AcceptingMarked t after n
   made_flag {X} {before} {after} {n} made =
-      let marked = Iff·trans (Iff·symm (made.hold.marks accepting tt)) (accepting_holds (cut_up made.t) after) in
-      let says = Iff·trans made.answer marked in
+      let marked = Iff.trans (Iff.symm (made.hold.marks accepting tt)) (accepting_holds (cut_up made.t) after) in
+      let says = Iff.trans made.answer marked in
       let none : n.refusal ≡ 0 = ap (λ (m : MarksNumbers). m.refusal) made.marks in
       subst (λ (s : Tree Leaf). (n.accepting ≡ true) ↔ AcceptingMarked s after n)
       (good_unique list made.t t made.good good) (λ e. (none, says.0 e), λ accepts. says.1 accepts.1)

@@ -2,7 +2,7 @@
 -- each refusal is given exactly when the table says so, in the order 10, 15, 12, 13.
 use Rattle.std.specs.Prelude.{ℕ, ◌+◌, ◌*◌, ◌≤◌, ◌<◌, ◌≡◌, refl, Bool, true, false, cond, ◌↔◌, List, ◌++◌, length, take, eqb}
 use Rattle.std.proofs.Common.{arith, sym, ap, ◌∙◌, subst, take-append-drop}
-use Rattle.std.proofs.Math.Logic.{Iff·symm, Iff·trans}
+use Rattle.std.proofs.Math.Logic.Iff
 use Rattle.language.specs.Tree.{Tree}
 use Rattle.language.specs.Automaton.{accepting, States, Started, Stepped}
 use Rattle.tree.specs.RefusalNumbers.{list_not_good, too_few_words, words_not_marks, class_buffer_too_short}
@@ -68,7 +68,7 @@ hold_unique t X before after after' enough one other =
     fronts : take (1 + run (cut_up t)) after ≡ take (1 + run (cut_up t)) after'
     fronts =
         same_words (cut_up t) after after' one.clean other.clean
-        (λ q has. Iff·trans (one.marks q has) (Iff·symm (other.marks q has)))
+        (λ q has. Iff.trans (one.marks q has) (Iff.symm (other.marks q has)))
         (omega (arith, all_words t, one.same_length)) (omega (arith, all_words t, other.same_length))
 
 -- two answers that say the same are the same
@@ -248,8 +248,8 @@ module _ (list classes before : List ℕ) where
         subst (λ (l : List ℕ). (n'.nothing ≡ true) ↔ AllZero (piece_count one.t) l) (sym words)
         (subst (λ (t : Tree Leaf). (n'.nothing ≡ true) ↔ AllZero (piece_count t) after') same other.left) in (
           one.marks
-              ∙ both_flags (same_answer n.accepting n'.accepting (Iff·trans one.answer (Iff·symm says)))
-              (same_answer n.nothing n'.nothing (Iff·trans one.left (Iff·symm left)))
+              ∙ both_flags (same_answer n.accepting n'.accepting (Iff.trans one.answer (Iff.symm says)))
+              (same_answer n.nothing n'.nothing (Iff.trans one.left (Iff.symm left)))
               ∙ sym other.marks,
           words,
         )
@@ -336,14 +336,14 @@ module _ {list classes before : List ℕ} where
     -- 12 exactly when it is good, there are class records enough, and fewer words are lent than there are pieces
     pub starts_too_few : (n.refusal ≡ too_few_words) ↔ TooFew list classes before
     starts_too_few =
-        Iff·trans (too_few_exactly list classes before _ _ (starts_answers s))
+        Iff.trans (too_few_exactly list classes before _ _ (starts_answers s))
         (λ (t, good, few). (t, good, few.0, few.1), λ (t, good, classed, few). (t, good, (classed, few)))
 
     -- and no refusal exactly when it is good and there are class records and words enough
     pub starts_taken : (n.refusal ≡ 0)
         ↔ ((t : Tree Leaf) × Good list t × Classed classes t × (piece_count t ≤ length before))
     starts_taken =
-        Iff·trans (taken_exactly list classes before _ _ (starts_answers s)) (
+        Iff.trans (taken_exactly list classes before _ _ (starts_answers s)) (
           λ (t, good, taken). (t, good, taken.0, taken.1),
           λ (t, good, classed, enough). (t, good, (classed, enough, tt)),
         )
@@ -366,13 +366,13 @@ module _ {list classes : List ℕ} {byte : ℕ} {before : List ℕ} where
     -- 12 exactly when it is good, there are class records enough, and fewer words are lent than there are pieces
     pub steps_too_few : (n.refusal ≡ too_few_words) ↔ TooFew list classes before
     steps_too_few =
-        Iff·trans (too_few_exactly list classes before _ _ (steps_answers s))
+        Iff.trans (too_few_exactly list classes before _ _ (steps_answers s))
         (λ (t, good, few). (t, good, few.0, few.1), λ (t, good, classed, few). (t, good, (classed, few)))
 
     -- 13 exactly when it is good, there are class records and words enough, and the words are no marks of it
     pub steps_not_marks : (n.refusal ≡ words_not_marks) ↔ AreNotMarks list classes before
     steps_not_marks =
-        Iff·trans (not_marks_exactly list classes before _ _ (steps_answers s)) (
+        Iff.trans (not_marks_exactly list classes before _ _ (steps_answers s)) (
           λ (t, good, bad). (t, good, bad.0, bad.1, bad.2),
           λ (t, good, classed, enough, bad). (t, good, (classed, enough, bad)),
         )
@@ -381,7 +381,7 @@ module _ {list classes : List ℕ} {byte : ℕ} {before : List ℕ} where
     pub steps_taken : (n.refusal ≡ 0)
         ↔ ((t : Tree Leaf) × Good list t × Classed classes t × (piece_count t ≤ length before) × MarksOf t before)
     steps_taken =
-        Iff·trans (taken_exactly list classes before _ _ (steps_answers s)) (
+        Iff.trans (taken_exactly list classes before _ _ (steps_answers s)) (
           λ (t, good, taken). (t, good, taken.0, taken.1, taken.2),
           λ (t, good, classed, enough, marks). (t, good, (classed, enough, marks)),
         )

@@ -25,7 +25,7 @@ use Rattle.tables.specs.Words.{Bit, width, run, Own, number, Marked, Holds, Clea
 use Rattle.tables.specs.Plan.{Moves}
 use Rattle.closing.specs.Passes.Laid.{Lays, LaysBelow, LaysEach, NarrowBelow}
 use Rattle.closing.specs.BitsOfWords.MadeAnew.{MadeAnew, anew_set_at}
-use Rattle.std.proofs.Math.Logic.{Iff·trans as iff-trans}
+use Rattle.std.proofs.Math.Logic.Iff
 
 -- from a part of a node to the node: what stands at p in the part stands at e p in the node, and nothing else comes
 -- into the part

@@ -5,7 +5,7 @@ use Rattle.std.specs.Prelude.{◌≡◌, refl, Bool, true, false, ◌↔◌, len
 use Rattle.std.proofs.Common.{sym, ◌∙◌, arith}
 use Rattle.std.specs.Bool.{beq}
 use Rattle.std.proofs.lemmas.Bool.{false≢true}
-use Rattle.std.proofs.Math.Logic.{Iff·trans, Iff·symm}
+use Rattle.std.proofs.Math.Logic.Iff
 use mathlib.Core.List.{List, [], ◌∷◌, ◌++◌}
 use borrow.Author.Tests.{eqb-true, le-ltb, ltb-false}
 use Rattle.language.specs.Tree.{Tree, nodes}
@@ -278,7 +278,7 @@ answer_holds nothing nothing h = refl
 -- the test for a whole text
 match_holds : (t : Tree Leaf) (text : List ℕ) (answer : Bool) → beq (matches [] t text) answer ≡ true
     → (answer ≡ true) ↔ Matches [] t text
-match_holds t text answer e = Iff·trans (Iff·symm (same_test (matches [] t text) answer e)) (matches_exactly [] t text)
+match_holds t text answer e = Iff.trans (Iff.symm (same_test (matches [] t text) answer e)) (matches_exactly [] t text)
 
 -- what passes the test for what is left
 module _ (t : Tree Leaf) (w : List ℕ) (left : Left) (e : left_test t w left ≡ true) where

@@ -2,7 +2,7 @@
 -- finds by it, in either syntax.
 use Rattle.std.specs.Prelude.{ℕ, zero, suc, ◌+◌, ◌*◌, ◌≤◌, ◌≡◌, Bool, true, false, ◌↔◌, List, [], ◌∷◌, ◌++◌, length, take, drop}
 use Rattle.std.proofs.Common.{arith, subst, ap, sym, ◌∙◌, length-append}
-use Rattle.std.proofs.Math.Logic.{Iff·rfl, Iff·symm, Iff·trans, Iff·and}
+use Rattle.std.proofs.Math.Logic.Iff
 use Rattle.language.specs.Tree.{Tree}
 use Rattle.language.specs.SignedTree.{SignedTree}
 use Rattle.tree.specs.Leaf.{Leaf, Matches}
@@ -176,31 +176,31 @@ module _ {syntax : Syntax} {bytes list classes : List ℕ} (usable : Usable synt
     pub read_then_match : (matched : Bool) → MatchAnswers list classes text (answering_match matched)
         ↔ ((length text ≤ longest_text) × ((matched ≡ true) ↔ InExpression syntax bytes text))
     read_then_match matched =
-        Iff·trans (match_exactly _ classes text matched)
-        (Iff·trans (of_read text (λ t. (matched ≡ true) ↔ Matches classes t text))
-        (Iff·and Iff·rfl (
-          λ says. Iff·trans says (as_written text of-bytes),
-          λ says. Iff·trans says (Iff·symm (as_written text of-bytes)),
+        Iff.trans (match_exactly _ classes text matched)
+        (Iff.trans (of_read text (λ t. (matched ≡ true) ↔ Matches classes t text))
+        (Iff.and Iff.rfl (
+          λ says. Iff.trans says (as_written text of-bytes),
+          λ says. Iff.trans says (Iff.symm (as_written text of-bytes)),
         )))
 
     -- search finds the part that starts earliest and then ends furthest, of those in the language of the expression
     pub read_then_search : (s e : ℕ) → SearchAnswers list classes text (finding s e)
         ↔ ((length text ≤ longest_text) × Found (InExpression syntax bytes) text s e)
     read_then_search s e =
-        Iff·trans (search_found_exactly _ classes text s e)
-        (Iff·trans (of_read text (λ t. Found (Matches classes t) text s e))
-        (Iff·and Iff·rfl (
+        Iff.trans (search_found_exactly _ classes text s e)
+        (Iff.trans (of_read text (λ t. Found (Matches classes t) text s e))
+        (Iff.and Iff.rfl (
           found_same text of-bytes as_written s e,
-          found_same text of-bytes (λ w h. Iff·symm (as_written w h)) s e,
+          found_same text of-bytes (λ w h. Iff.symm (as_written w h)) s e,
         )))
 
     -- and nothing exactly when no part is
     pub read_then_nothing : SearchAnswers list classes text (answering_match false)
         ↔ ((length text ≤ longest_text) × NothingFound (InExpression syntax bytes) text)
     read_then_nothing =
-        Iff·trans (search_nothing_exactly _ classes text)
-        (Iff·trans (of_read text (λ t. NothingFound (Matches classes t) text))
-        (Iff·and Iff·rfl (
+        Iff.trans (search_nothing_exactly _ classes text)
+        (Iff.trans (of_read text (λ t. NothingFound (Matches classes t) text))
+        (Iff.and Iff.rfl (
           λ none s e p. none s e (part_within text of-bytes (λ w h. (as_written w h).1) s e p),
           λ none s e p. none s e (part_within text of-bytes (λ w h. (as_written w h).0) s e p),
         )))

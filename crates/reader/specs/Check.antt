@@ -2,7 +2,7 @@
 -- where the check refuses nothing and a buffer is short.
 use Rattle.std.specs.Prelude.{ℕ, ◌*◌, ◌<◌, ◌≤◌, ◌≡◌, refl, Bool, true, false, cond, ◌⊎◌, ◌↔◌, List, [], length, eqb, ltb}
 use Rattle.std.proofs.Common.{arith, ap, sym, ◌∙◌, inl, inr, ⊎_elim, ltb-true, ltb-false, lt-ltb, le-ltb, ne_eqb, eqb-true}
-use Rattle.std.proofs.Math.Logic.{Iff·trans}
+use Rattle.std.proofs.Math.Logic.Iff
 use Rattle.language.specs.Tree.{Tree, nodes}
 use Rattle.tree.specs.RefusalNumbers.{too_many_pieces, buffer_too_short, class_buffer_too_short, too_many_nodes}
 use Rattle.tree.specs.Limits.{most_pieces, most_labels, longest_expression}
@@ -319,4 +319,4 @@ pub check_seventeen_exactly : (syntax : Syntax) (bytes : List ℕ) (s : SignedTr
     → length bytes ≤ longest_expression → Written syntax bytes s
     → (checked syntax bytes ≡ refusing_counts too_many_nodes 0) ↔ (most_labels < nodes (expansion s))
 check_seventeen_exactly syntax bytes s few w =
-    Iff·trans (seventeen_outcome (expanded syntax bytes)) (seventeen_exactly syntax bytes s few w)
+    Iff.trans (seventeen_outcome (expanded syntax bytes)) (seventeen_exactly syntax bytes s few w)

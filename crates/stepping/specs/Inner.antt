@@ -1,7 +1,7 @@
 -- The layer inside: the marks of a start and of a step over the rows of a list, which are made once.
 use Rattle.std.specs.Prelude.{ℕ, zero, suc, ◌+◌, ◌*◌, ◌-◌, ◌≤◌, ◌<◌, ◌≡◌, refl, Bool, true, false, ◌↔◌, List, [], ◌∷◌, ◌++◌, length, get_or, take, drop, set, replicate}
 use Rattle.std.proofs.Common.{arith, sym, ap, ◌∙◌, subst, ⊎_elim, add-one, length-append, length-drop, length-set, get_or-take, get_or-drop, ext_get_or, length-take-le, take_at, drop_at, drop-cons, take-suc}
-use Rattle.std.proofs.Math.Logic.{Iff·trans, Iff·symm}
+use Rattle.std.proofs.Math.Logic.Iff
 use Rattle.std.proofs.lemmas.List.{set_at}
 use Rattle.std.proofs.Math.Seq.{append_snoc}
 use Rattle.language.specs.Tree.{Tree}
@@ -73,8 +73,8 @@ told_exactly false told = (told.holds, λ p. absurd (told.fails refl p))
 same_front : (x : Nested Leaf) (n : ℕ) (v w : List ℕ) → n ≡ 1 + run x → take n v ≡ take n w
     → Agree x (Holds x v) (Holds x w)
 same_front x n v w e same q has =
-    Iff·trans (Iff·symm (front_holds x n v e q has))
-    (Iff·trans (subst (λ (l : List ℕ). Holds x (take n v) q ↔ Holds x l q) same (λ h. h, λ h. h))
+    Iff.trans (Iff.symm (front_holds x n v e q has))
+    (Iff.trans (subst (λ (l : List ℕ). Holds x (take n v) q ↔ Holds x l q) same (λ h. h, λ h. h))
     (front_holds x n w e q has))
 
 -- and have no bit past a last state alike
@@ -229,8 +229,8 @@ module _ {t : Tree Leaf} {rows : List ℕ} {count : ℕ}
   pub answer_told : (words : List ℕ) (X : States) (yes' : Bool) → Models (cut_up t) (Holds (cut_up t) words) X
       → (top : ℕ) → top ≡ top_of rows 0 → Tells (Bit (get_or words 0 0) top) yes' → (yes' ≡ true) ↔ X accepting
   answer_told words X yes' models top top-is told =
-      Iff·trans (told_exactly yes' told)
-      (Iff·trans (same_bit (top-is ∙ prepared.planned.0.topped)) (accepting_bit (cut_up t) words X models))
+      Iff.trans (told_exactly yes' told)
+      (Iff.trans (same_bit (top-is ∙ prepared.planned.0.topped)) (accepting_bit (cut_up t) words X models))
     where
       same_bit : {i j : ℕ} → i ≡ j → Bit (get_or words 0 0) i ↔ Bit (get_or words 0 0) j
       same_bit e = (subst (λ (i : ℕ). Bit (get_or words 0 0) i) e, subst (λ (i : ℕ). Bit (get_or words 0 0) i) (sym e))
@@ -384,7 +384,7 @@ answered_first {classes} {t} begins =
     record {
       holding = holding_first begins.hold.marks begins.hold.clean;
       answer =
-          Iff·trans begins.answer (accepts_exactly (meaning classes) t []);
+          Iff.trans begins.answer (accepts_exactly (meaning classes) t []);
     }
 
 -- words of which the first are put in the place of others answer the same
@@ -423,13 +423,13 @@ answered_next {classes} {t} {w} {before} {after} {b} {yes'} {nothing} holding we
       stepped_more (meaning classes) t b (λ q. (same q).0) p,
     ) in
     let held : Holding classes t (w ++ (b ∷ [])) after =
-    holding_next holding (λ q has. Iff·trans (went.hold.marks q has) (stepped (origin x q)))
+    holding_next holding (λ q has. Iff.trans (went.hold.marks q has) (stepped (origin x q)))
     went.hold.clean in
     record {
       holding = held;
-      answer = Iff·trans went.answer
-          (Iff·trans (Iff·symm (went.hold.marks accepting tt))
-          (Iff·trans (accepting_holds x after) (accepting_answer held)));
+      answer = Iff.trans went.answer
+          (Iff.trans (Iff.symm (went.hold.marks accepting tt))
+          (Iff.trans (accepting_holds x after) (accepting_answer held)));
     }
 
 -- words that were moved can be closed, where the marks are from `from` up to `to`

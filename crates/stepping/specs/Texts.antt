@@ -2,7 +2,7 @@
 -- in the language, and when they say that no longer text is.
 use Rattle.std.specs.Prelude.{ℕ, ◌+◌, ◌-◌, ◌≡◌, ◌↔◌, List, [], ◌∷◌, ◌++◌, get_or}
 use Rattle.std.proofs.Common.{sym, subst, arith}
-use Rattle.std.proofs.Math.Logic.{Iff·trans as iff-trans}
+use Rattle.std.proofs.Math.Logic.Iff
 use Rattle.language.specs.Tree.{Tree}
 use Rattle.language.specs.Automaton.{State, accepting, States, Started, Stepped, After}
 use Rattle.language.specs.Nested.{Nested, Models}

@@ -2,7 +2,7 @@
 -- which word below on its child pieces stand.
 use Rattle.std.specs.Prelude.{ℕ, ◌+◌, ◌≤◌, ◌<◌, ◌≡◌, refl, ◌⊎◌, ◌↔◌, ◌++◌, get_or}
 use Rattle.std.proofs.Common.{arith, sym, ap, ◌∙◌, subst, inl, inr, ⊎_elim}
-use Rattle.std.proofs.Math.Logic.{Iff·rfl, Iff·trans}
+use Rattle.std.proofs.Math.Logic.Iff
 use Rattle.language.specs.Automaton.{State, start, accepting, left, right}
 use Rattle.language.specs.Nested.{Nested, catenation, union, star, Has}
 use Rattle.tables.specs.Words.{width, run}
@@ -71,7 +71,7 @@ pub place_in : {A : Type 0} {whole x y : Nested A} {e f : State → State} {i n 
 place_in {whole = whole} {x = x} {y = y} {e = e} {f = f} {i = i} {n = n} {j = j} {m = m} i' n' same-i same-n outer
     inner = record {
       seat = seat_in i' n' same-i same-n outer.seat inner.seat;
-      has = λ q. Iff·trans (outer.has (f q)) (inner.has q);
+      has = λ q. Iff.trans (outer.has (f q)) (inner.has q);
       spots = λ q h. outer.spots (f q) ((inner.has q).1 h) ∙ ap (shift i n) (inner.spots q h)
           ∙ shift_shift (spot y q) i n j m i' n' same-i same-n;
       apart = λ q h. ⊎_elim (λ (p, at). within q p h at)
@@ -98,7 +98,7 @@ place_whole x = record {
     same_widths =
         λ o l. ap (λ (k : ℕ). get_or (widths x) k 0) (omega arith);
   };
-  has = λ q. Iff·rfl;
+  has = λ q. Iff.rfl;
   spots = λ q h. sym (shift_none (spot x q));
   apart = λ q h. inl (q, refl);
 }
@@ -127,7 +127,7 @@ catenation_left x y =
             same_widths =
                 λ o l. ap (λ (k : ℕ). get_or (widths x ++ widths y) k 0) (omega arith) ∙ getD_left x y o l;
           };
-      has = λ q. Iff·rfl;
+      has = λ q. Iff.rfl;
       spots = λ q h. refl;
       apart = apart;
     }
@@ -144,7 +144,7 @@ catenation_right x y =
     record {
       seat = record { wide = omega arith; long = omega arith; same_widths = λ o l. getD_right x y o };
       has =
-          λ q. Iff·rfl;
+          λ q. Iff.rfl;
       spots = λ q h. refl;
       apart = apart;
     }
@@ -168,7 +168,7 @@ union_left x y =
             same_widths =
                 λ o l. ap (λ (k : ℕ). get_or (widths x ++ widths y) k 0) (omega arith) ∙ getD_left x y o l;
           };
-      has = λ q. Iff·rfl;
+      has = λ q. Iff.rfl;
       spots = λ q h. refl;
       apart = apart;
     }
@@ -185,7 +185,7 @@ union_right x y =
     record {
       seat = record { wide = omega arith; long = omega arith; same_widths = λ o l. getD_right x y o };
       has =
-          λ q. Iff·rfl;
+          λ q. Iff.rfl;
       spots = λ q h. refl;
       apart = apart;
     }
@@ -209,7 +209,7 @@ star_inside x =
             same_widths =
                 λ o l. ap (λ (k : ℕ). get_or (widths x) k 0) (omega arith);
           };
-      has = λ q. Iff·rfl;
+      has = λ q. Iff.rfl;
       spots = λ q h. refl;
       apart = apart;
     }

@@ -1,7 +1,7 @@
 -- When the words of a piece and of its child pieces are settled: each child piece is, and is joined to its stand-in.
 use Rattle.std.specs.Prelude.{ℕ, suc, ◌+◌, ◌-◌, ◌≡◌, refl, ◌↔◌, List, [], ◌∷◌, ◌++◌, get_or, drop}
 use Rattle.std.proofs.Common.{arith, sym, ap, ◌∙◌, subst, get_or-drop, drop-drop}
-use Rattle.std.proofs.Math.Logic.{Iff·symm}
+use Rattle.std.proofs.Math.Logic.Iff
 use Rattle.language.specs.Automaton.{State, start, accepting, left, right, Empty, here, step}
 use Rattle.language.specs.Nested.{Nested, leaf, catenation, union, star, below, Has, OwnEmpty}
 use Rattle.language.specs.Simulation.{SettledBy}
@@ -146,7 +146,7 @@ module _ (whole : Nested Leaf) (words : List ℕ) (closes : Closes whole (get_or
       wires p q Wire.star_out m = own_settled whole words closes _ _ (stands _ _ Empty.star_out) m
       wires p q Wire.star_back m = own_settled whole words closes _ _ (stands _ _ Empty.star_back) m
   settled_part (below x) e i n f place from stands each =
-      (wires, settled_agree byteless x (λ q h. Iff·symm (inside q h)) each.0.settled)
+      (wires, settled_agree byteless x (λ q h. Iff.symm (inside q h)) each.0.settled)
     where
       inside : (q : State) → Has x q → Holds whole words (e (left q)) ↔ Holds x (child_run (child_at i f x) words) q
       inside = child_holds whole e (child_at i f x) n place from words

@@ -1,7 +1,7 @@
 -- Start and step on words: what the words hold after the closing is what the plain simulation marks.
 use Rattle.std.specs.Prelude.{ℕ, zero, suc, ◌+◌, ◌-◌, ◌≤◌, ◌<◌, ◌≡◌, refl, ◌↔◌, List, ◌∷◌, get_or, drop}
 use Rattle.std.proofs.Common.{arith, sym, ap, ◌∙◌, subst, inr, get_or-drop, pow_pos}
-use Rattle.std.proofs.Math.Logic.{Iff·rfl, Iff·trans, Iff·symm}
+use Rattle.std.proofs.Math.Logic.Iff
 use Rattle.std.proofs.Math.Pow.{pow-lt}
 use Rattle.language.specs.Automaton.{State, start, accepting, States, PathOf, Started, Stepped}
 use Rattle.language.specs.Nested.{Nested, whole, Has, origin, Models, Move, OwnEmpty}
@@ -63,8 +63,8 @@ module _ (x : Nested Leaf) (words : List ℕ) (marked : StartMarked x words) whe
   -- they hold the start and nothing else
   pub start_holds : Agree x (Holds x words) (λ q. q ≡ start)
   start_holds q h =
-      Iff·trans (holds_held x words q h)
-      (Iff·trans (first_held (spot x q) (spot_within x q h)) (
+      Iff.trans (holds_held x words q h)
+      (Iff.trans (first_held (spot x q) (spot_within x q h)) (
         first_start x q h,
         λ e. subst (λ (p : State). InFirstWord (spot x p)) (sym e) refl,
       ))
@@ -101,10 +101,10 @@ module _ (x : Nested Leaf) (before after : List ℕ) (closed : SweptTwice x befo
   pub closed_start : (classes : List ℕ) → Agree x (Holds x before) (λ q. q ≡ start)
       → Models x (Holds x after) (Started (meaning classes) (whole x))
   closed_start classes begins q h =
-      Iff·trans (closed.marks q h)
-      (Iff·trans (sweep_same byteless x (sweep_same byteless x begins) q h)
-      (Iff·trans (sweeps_start byteless x q h)
-      (started_same byteless (meaning classes) (λ a. Iff·rfl) (whole x) (origin x q))))
+      Iff.trans (closed.marks q h)
+      (Iff.trans (sweep_same byteless x (sweep_same byteless x begins) q h)
+      (Iff.trans (sweeps_start byteless x q h)
+      (started_same byteless (meaning classes) (λ a. Iff.rfl) (whole x) (origin x q))))
 
   -- after a move along the byte b, with some of the closing done already, the closing is a step of the plain simulation
   pub closed_step : (classes : List ℕ) (b : ℕ) (marks X : States) → Models x marks X
@@ -114,9 +114,9 @@ module _ (x : Nested Leaf) (before after : List ℕ) (closed : SweptTwice x befo
       → Models x (Holds x after) (Stepped (meaning classes) (whole x) b X)
   closed_step classes b marks X models more within =
       models_same x (Stepped (meaning classes) (whole x) b X) closed.marks
-      (sweeps_step_closed byteless (meaning classes) (λ a. Iff·rfl) b x marks X (Holds x before) models more within)
+      (sweeps_step_closed byteless (meaning classes) (λ a. Iff.rfl) b x marks X (Holds x before) models more within)
 
 -- the bit of the top piece's last state says whether the accepting state is in the set that the words hold
 pub accepting_bit : (x : Nested Leaf) (words : List ℕ) (X : States) → Models x (Holds x words) X
     → Bit (get_or words 0 0) (width x - 1) ↔ X accepting
-accepting_bit x words X models = Iff·trans (Iff·symm (accepting_holds x words)) (models accepting tt)
+accepting_bit x words X models = Iff.trans (Iff.symm (accepting_holds x words)) (models accepting tt)

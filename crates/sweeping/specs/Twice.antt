@@ -1,7 +1,7 @@
 -- Closing a set of marks is two sweeps of the words that hold it: so the words hold the marks of the plain simulation.
 use Rattle.std.specs.Prelude.{ℕ, suc, ◌+◌, ◌≤◌, ◌≡◌, refl, ◌↔◌, List, ◌++◌, length, get_or, take, drop}
 use Rattle.std.proofs.Common.{arith, sym, ◌∙◌, subst, ⊎_elim, get_or-take, get_or-drop, length-take-le, take_at, drop_at}
-use Rattle.std.proofs.Math.Logic.{Iff·trans, Iff·symm}
+use Rattle.std.proofs.Math.Logic.Iff
 use Rattle.std.proofs.Math.Seq.{length_front}
 use Rattle.language.specs.Automaton.{State, start}
 use Rattle.language.specs.Nested.{Nested, Has, Sweep}
@@ -39,9 +39,9 @@ front_held (under o b) k m n words e l = bit_of b (get_or-take n words (suc o) 0
 pub front_holds : (x : Nested Leaf) (n : ℕ) (words : List ℕ) → n ≡ 1 + run x
     → Agree x (Holds x (take n words)) (Holds x words)
 front_holds x n words e q h =
-    Iff·trans (holds_held x (take n words) q h)
-    (Iff·trans (front_held (spot x q) (width x) (run x) n words e (spot_within x q h))
-    (Iff·symm (holds_held x words q h)))
+    Iff.trans (holds_held x (take n words) q h)
+    (Iff.trans (front_held (spot x q) (width x) (run x) n words e (spot_within x q h))
+    (Iff.symm (holds_held x words q h)))
 
 -- and have no bit past a last state exactly when the words have none
 pub front_clean : (x : Nested Leaf) (n : ℕ) (words : List ℕ) → n ≡ 1 + run x → Clean x (take n words) ↔ Clean x words
@@ -61,8 +61,8 @@ pub record SweptTwice (x : Nested Leaf) (before after : List ℕ) : Type 0 where
 pub swept_alone : (x : Nested Leaf) (words : List ℕ) → run x ≡ 0 → Clean x words
     → Closes x (get_or words 0 0) (get_or words 0 0) → SweptTwice x words words
 swept_alone x words alone clean closed = record {
-  marks = λ q h. Iff·trans (Iff·symm (unmoved q))
-      (sweep_same byteless x (λ p k. Iff·symm (unmoved p)) q h);
+  marks = λ q h. Iff.trans (Iff.symm (unmoved q))
+      (sweep_same byteless x (λ p k. Iff.symm (unmoved p)) q h);
   clean = clean;
 }
   where
@@ -133,8 +133,8 @@ module _ (rows : List ℕ) (count : ℕ) where
           let done : Swept x (take count words) (take count after) =
           subst (Swept x (take count words)) (sym front) (swept x (run_sweepable x on)) in
           record {
-            marks = λ q h. Iff·trans (Iff·symm (front_holds x count after on.counted q h))
-                (Iff·trans (done.marks q h) (sweep_same byteless x (front_holds x count words on.counted) q h));
+            marks = λ q h. Iff.trans (Iff.symm (front_holds x count after on.counted q h))
+                (Iff.trans (done.marks q h) (sweep_same byteless x (front_holds x count words on.counted) q h));
             clean = (front_clean x count after on.counted).0 done.clean;
             each_closed =
                 closed_same x (take count after) after (λ o l. get_or-take count after o 0 (omega (arith, on.counted)))
@@ -198,7 +198,7 @@ module _ (rows : List ℕ) (count : ℕ) where
         → Settled byteless x (Holds x ys)) → ClosedTwice words (ys ++ drop count words)
     closed_once settled = record {
       swept = λ x on. record {
-        marks = λ q h. Iff·trans (Iff·symm
+        marks = λ q h. Iff.trans (Iff.symm
             (sweep_settled byteless x (Holds x (ys ++ drop count words)) (rests x on) q))
             (sweep_same byteless x (after_swept words can.enough ys same swept x on).marks q h);
         clean = (after_swept words can.enough ys same swept x on).clean;
@@ -217,7 +217,7 @@ module _ (rows : List ℕ) (count : ℕ) where
         → ClosedTwice words (zs ++ drop count (ys ++ drop count words))
     closed_twice zs as_many again = record {
       swept = λ x on. record {
-        marks = λ q h. Iff·trans ((second x on).marks q h)
+        marks = λ q h. Iff.trans ((second x on).marks q h)
             (sweep_same byteless x (after_swept words can.enough ys same swept x on).marks q h);
         clean = (second x on).clean;
       };

@@ -2,7 +2,8 @@
 use Rattle.std.specs.Prelude.{ℕ, suc, ◌+◌, ◌-◌, ◌≤◌, ◌<◌, ◌≡◌, ◌⊎◌, ◌↔◌, List, [], ◌∷◌, ◌++◌, length, drop, set}
 use Rattle.std.proofs.Common.{arith, sym, ◌∙◌, get_or-take, get_or-set_same, get_or-set_other}
 use Rattle.std.proofs.Math.Path.{refl, ap, subst}
-use Rattle.std.proofs.Math.Logic.{inl, inr, ⊎_elim, Iff·rfl, Iff·trans, Iff·symm, Iff·and}
+use Rattle.std.proofs.Math.Logic.Iff
+use Rattle.std.proofs.Math.Logic.{inl, inr, ⊎_elim}
 use Rattle.std.proofs.Math.ListN.{get_or}
 use Rattle.std.proofs.Math.Seq.{get_or-drop}
 use Rattle.language.specs.Automaton.{State, start, accepting, left, right, States, here}
@@ -76,7 +77,7 @@ own_holds x words q h o = (
 pub accepting_holds : {A : Type 0} (x : Nested A) (words : List ℕ)
     → Holds x words accepting ↔ Bit (get_or words 0 0) (width x - 1)
 accepting_holds x words =
-    Iff·trans (own_holds x words accepting tt tt) (bit_at (get_or words 0 0) (omega (arith, number_accepting x)))
+    Iff.trans (own_holds x words accepting tt tt) (bit_at (get_or words 0 0) (omega (arith, number_accepting x)))
 
 held_under : (s : Spot) (before after : List ℕ) → Under s → ((o : ℕ) → get_or before (suc o) 0 ≡ get_or after (suc o) 0)
     → SetAt s before → SetAt s after
@@ -160,10 +161,10 @@ module _ (c : ChildPiece) (i n k : ℕ) (from : c.from ≡ suc n) where
       → SetAt s (started c words) ↔ (SetAt s (child_run c words)
       ⊎ (InFirstWord s × Bit (get_or words 0 0) c.stand))
   started_held (own b) words l room =
-      Iff·trans (bit_of b (started_own c words room))
+      Iff.trans (bit_of b (started_own c words room))
       (bit_passed (get_or words 0 0) c.stand (get_or (child_run c words) 0 0) 0 b)
   started_held (under o b) words l room =
-      Iff·trans (bit_of b (started_below c words o (omega arith))) (inl, ⊎_elim (λ h. h) (λ h. absurd h.0))
+      Iff.trans (bit_of b (started_below c words o (omega arith))) (inl, ⊎_elim (λ h. h) (λ h. absurd h.0))
 
 -- the child piece c stands at e in the piece of x
 module _ (x : Nested Leaf) (e : State → State) (c : ChildPiece) (n : ℕ)
@@ -173,29 +174,29 @@ module _ (x : Nested Leaf) (e : State → State) (c : ChildPiece) (n : ℕ)
   pub child_holds : (words : List ℕ) (p : State) → Has c.tree p → Holds x words (e (left p))
       ↔ Holds c.tree (child_run c words) p
   child_holds words p h =
-      Iff·trans (holds_held x words (e (left p)) ((place.has (left p)).1 h))
-      (Iff·trans (held_at words (place.spots (left p) h))
-      (Iff·trans (Iff·symm
+      Iff.trans (holds_held x words (e (left p)) ((place.has (left p)).1 h))
+      (Iff.trans (held_at words (place.spots (left p) h))
+      (Iff.trans (Iff.symm
       (part_held c c.stand n (width c.tree) from (spot c.tree p) words (spot_within c.tree p h)))
-      (Iff·symm (holds_held c.tree (child_run c words) p h))))
+      (Iff.symm (holds_held c.tree (child_run c words) p h))))
 
   -- a state of the stand-in is marked exactly when its bit is set
   pub stand_holds : (words : List ℕ) (q : State) (b : ℕ) → Has (below c.tree) q → spot (below c.tree) q ≡ own b
       → Holds x words (e q) ↔ Bit (get_or words 0 0) (c.stand + b)
   stand_holds words q b h at =
-      Iff·trans (holds_held x words (e q) ((place.has q).1 h))
+      Iff.trans (holds_held x words (e q) ((place.has q).1 h))
       (held_at words (place.spots q h ∙ ap (shift c.stand n) at))
 
   -- the start passed down
   pub down_holds : (words : List ℕ) → c.from < length words
       → Agree c.tree (Holds c.tree (started c words)) (Down e (Holds x words))
   down_holds words room p h =
-      Iff·trans (holds_held c.tree (started c words) p h)
-      (Iff·trans (started_held c c.stand n (width c.tree) from (spot c.tree p) words
+      Iff.trans (holds_held c.tree (started c words) p h)
+      (Iff.trans (started_held c c.stand n (width c.tree) from (spot c.tree p) words
       (spot_within c.tree p h) room)
-      (iff_either (Iff·symm (Iff·trans (child_holds words p h) (holds_held c.tree (child_run c words) p h)))
-      (Iff·and (first_start c.tree p h, λ s. subst (λ (q : State). InFirstWord (spot c.tree q)) (sym s) refl)
-      (Iff·symm (Iff·trans (stand_holds words start 0 tt refl) (bit_at (get_or words 0 0) (omega arith)))))))
+      (iff_either (Iff.symm (Iff.trans (child_holds words p h) (holds_held c.tree (child_run c words) p h)))
+      (Iff.and (first_start c.tree p h, λ s. subst (λ (q : State). InFirstWord (spot c.tree q)) (sym s) refl)
+      (Iff.symm (Iff.trans (stand_holds words start 0 tt refl) (bit_at (get_or words 0 0) (omega arith)))))))
 
   -- the words after the visit but for the closing: the own word with the accepting state passed up, and the words below
   module _ (before after : List ℕ) (visited : Visited x c before after) (room : c.from < length before) where
@@ -216,7 +217,7 @@ module _ (x : Nested Leaf) (e : State → State) (c : ChildPiece) (n : ℕ)
     -- a state of the child piece
     raised_child : (p : State) → Has c.tree p → Holds x raised (e (left p)) ↔ Holds c.tree (child_run c after) p
     raised_child p h =
-        Iff·trans (same_below (e (left p)) ((place.has (left p)).1 h)
+        Iff.trans (same_below (e (left p)) ((place.has (left p)).1 h)
         (subst Under (sym (place.spots (left p) h))
         (under_shift (enter (spot c.tree p)) c.stand n (under_enter (spot c.tree p)))))
         (child_holds after p h)
@@ -230,7 +231,7 @@ module _ (x : Nested Leaf) (e : State → State) (c : ChildPiece) (n : ℕ)
     -- the child's accepting state
     accepting_bit : Holds c.tree (child_run c after) accepting ↔ Bit (get_or after c.from 0) (width c.tree - 1)
     accepting_bit =
-        Iff·trans (accepting_holds c.tree (child_run c after))
+        Iff.trans (accepting_holds c.tree (child_run c after))
         (bit_of (width c.tree - 1) (part_at c after 0 (omega arith) ∙ ap (λ (k : ℕ). get_or after k 0) (omega arith)))
 
     -- no mark of the child piece is lost
@@ -243,7 +244,7 @@ module _ (x : Nested Leaf) (e : State → State) (c : ChildPiece) (n : ℕ)
     -- a state apart from the child piece and its stand-in
     held_apart : (s : Spot) → Outside c.stand 2 n (1 + run c.tree) s → SetAt s raised ↔ SetAt s before
     held_apart (own b) out =
-        Iff·trans (raised_bit b)
+        Iff.trans (raised_bit b)
         (⊎_elim (λ h. h) (λ h. absurd (⊎_elim (λ l. omega (arith, h.0)) (λ l. omega (arith, h.0)) out)), inl)
     held_apart (under o b) out =
         bit_of b (raised_below o
@@ -252,7 +253,7 @@ module _ (x : Nested Leaf) (e : State → State) (c : ChildPiece) (n : ℕ)
     apart_holds : (q : State) → Has x q → Outside c.stand 2 n (1 + run c.tree) (spot x q)
         → Holds x raised q ↔ Holds x before q
     apart_holds q h out =
-        Iff·trans (holds_held x raised q h) (Iff·trans (held_apart (spot x q) out) (Iff·symm (holds_held x before q h)))
+        Iff.trans (holds_held x raised q h) (Iff.trans (held_apart (spot x q) out) (Iff.symm (holds_held x before q h)))
 
     up : States
     up = Up e (Holds c.tree (child_run c after)) (Holds x before)
@@ -303,7 +304,7 @@ module _ (x : Nested Leaf) (e : State → State) (c : ChildPiece) (n : ℕ)
 
     swept_marks : Agree c.tree (Holds c.tree (child_run c after))
         (Sweep byteless c.tree (Down e (Holds x before)))
-    swept_marks p h = Iff·trans (visited.swept.marks p h) (sweep_same byteless c.tree (down_holds before room) p h)
+    swept_marks p h = Iff.trans (visited.swept.marks p h) (sweep_same byteless c.tree (down_holds before room) p h)
 
     wanted : States
     wanted = Up e (Sweep byteless c.tree (Down e (Holds x before))) (Holds x before)
@@ -326,7 +327,7 @@ module _ (x : Nested Leaf) (e : State → State) (c : ChildPiece) (n : ℕ)
         (Visit byteless (below c.tree) e (OwnClosed byteless x) (Holds x before))
     unfolding wanted
     visited_holds q h =
-        Iff·trans (closed_holds x raised after closing raised_below q h) (
+        Iff.trans (closed_holds x raised after closing raised_below q h) (
           closed_within x (Holds x raised) wanted (λ p k m. (up_wanted p k).0 ((up_holds p k).0 m)) q h,
           closed_within x wanted (Holds x raised) (λ p k m. (up_holds p k).1 ((up_wanted p k).1 m)) q h,
         )
@@ -358,7 +359,7 @@ then_visit : (whole y : Nested Leaf) (e : State → State) (i n : ℕ) → Stand
     → Agree whole K (Visit byteless y e (OwnClosed byteless whole) M)
     → Agree whole K (Visit byteless y e (OwnClosed byteless whole) N)
 then_visit whole y e i n place M N K first second q h =
-    Iff·trans (second q h) (visit_same whole y e i n place M N first q h)
+    Iff.trans (second q h) (visit_same whole y e i n place M N first q h)
 
 -- the visits of the child pieces below a part of the piece make the marks those of its visit
 pub visits_hold : (whole x : Nested Leaf) (e : State → State) (i n f : ℕ) → StandsAt whole x e i n → f ≡ suc n
@@ -366,7 +367,7 @@ pub visits_hold : (whole x : Nested Leaf) (e : State → State) (i n f : ℕ) �
     → Visits whole (children_of x i f) before after
     → Agree whole (Holds whole after) (Visit byteless x e (OwnClosed byteless whole) (Holds whole before))
 visits_hold whole (leaf a) e i n f place from before after room v =
-    λ q h. subst (λ (words : List ℕ). Holds whole words q ↔ Holds whole before q) v Iff·rfl
+    λ q h. subst (λ (words : List ℕ). Holds whole words q ↔ Holds whole before q) v Iff.rfl
 visits_hold whole (catenation x y) e i n f place from before after room v =
     let (between, some, others) =
     visits_split whole (children_of x (i + 1) f) (children_of y (i + (1 + width x)) (f + run x)) before after v in

@@ -3,7 +3,7 @@
 use Rattle.std.specs.Prelude.{ℕ, zero, suc, ◌+◌, ◌-◌, ◌^◌, ◌≤◌, ◌<◌, ◌≡◌, refl, ◌⊎◌, ◌↔◌, List, [], ◌∷◌, ◌++◌, length, get_or, drop}
 use Rattle.std.proofs.Common.{add_assoc, zero-add, arith, sym, ap, ◌∙◌, subst, inl, inr, ⊎_elim, length-append, get_or-drop, get_or-append-add}
 use Rattle.std.proofs.Math.Decide.{dec_lt}
-use Rattle.std.proofs.Math.Logic.{Iff·rfl, Iff·trans, Iff·and}
+use Rattle.std.proofs.Math.Logic.Iff
 use Rattle.std.proofs.Math.ListN.{get_or-append}
 use Rattle.language.specs.Automaton.{State, start, accepting, left, right}
 use Rattle.language.specs.Nested.{Nested, leaf, catenation, union, star, below, Has}
@@ -84,24 +84,24 @@ marked_lit (leaf a) w i ws (right q) h = absurd h
 marked_lit (catenation x y) w i ws start h = bit_at w (omega arith)
 marked_lit (catenation x y) w i ws accepting h = bit_at w refl
 marked_lit (catenation x y) w i ws (left q) h =
-    Iff·trans (marked_lit x w (i + 1) ws q h) (lit_shift (spot x q) w i 1 0 ws)
+    Iff.trans (marked_lit x w (i + 1) ws q h) (lit_shift (spot x q) w i 1 0 ws)
 marked_lit (catenation x y) w i ws (right q) h =
-    Iff·trans (marked_lit y w (i + (1 + width x)) (drop (run x) ws) q h)
+    Iff.trans (marked_lit y w (i + (1 + width x)) (drop (run x) ws) q h)
     (lit_shift (spot y q) w i (1 + width x) (run x) ws)
 marked_lit (union x y) w i ws start h = bit_at w (omega arith)
 marked_lit (union x y) w i ws accepting h = bit_at w refl
-marked_lit (union x y) w i ws (left q) h = Iff·trans (marked_lit x w (i + 1) ws q h) (lit_shift (spot x q) w i 1 0 ws)
+marked_lit (union x y) w i ws (left q) h = Iff.trans (marked_lit x w (i + 1) ws q h) (lit_shift (spot x q) w i 1 0 ws)
 marked_lit (union x y) w i ws (right q) h =
-    Iff·trans (marked_lit y w (i + (1 + width x)) (drop (run x) ws) q h)
+    Iff.trans (marked_lit y w (i + (1 + width x)) (drop (run x) ws) q h)
     (lit_shift (spot y q) w i (1 + width x) (run x) ws)
 marked_lit (star x) w i ws start h = bit_at w (omega arith)
 marked_lit (star x) w i ws accepting h = bit_at w refl
-marked_lit (star x) w i ws (left q) h = Iff·trans (marked_lit x w (i + 1) ws q h) (lit_shift (spot x q) w i 1 0 ws)
+marked_lit (star x) w i ws (left q) h = Iff.trans (marked_lit x w (i + 1) ws q h) (lit_shift (spot x q) w i 1 0 ws)
 marked_lit (star x) w i ws (right q) h = absurd h
 marked_lit (below x) w i ws start h = bit_at w (omega arith)
 marked_lit (below x) w i ws accepting h = bit_at w refl
 marked_lit (below x) w i ws (left q) h =
-    Iff·trans (marked_lit x (get_or ws 0 0) 0 (drop 1 ws) q h) (lit_enter (spot x q) w i ws)
+    Iff.trans (marked_lit x (get_or ws 0 0) 0 (drop 1 ws) q h) (lit_enter (spot x q) w i ws)
 marked_lit (below x) w i ws (right q) h = absurd h
 
 lit_held : (s : Spot) (words : List ℕ) → Lit s (get_or words 0 0) 0 (drop 1 words) ↔ SetAt s words
@@ -111,7 +111,7 @@ lit_held (under o b) words = bit_of b (get_or-drop 1 words o 0 ∙ ap (λ (k : �
 -- the words of a run hold a state exactly when the bit of its spot is set
 pub holds_held : {A : Type 0} (x : Nested A) (words : List ℕ) (q : State) → Has x q
     → Holds x words q ↔ SetAt (spot x q) words
-holds_held x words q h = Iff·trans (marked_lit x (get_or words 0 0) 0 (drop 1 words) q h) (lit_held (spot x q) words)
+holds_held x words q h = Iff.trans (marked_lit x (get_or words 0 0) 0 (drop 1 words) q h) (lit_held (spot x q) words)
 
 -- a spot within so many bits and so many words below
 abbrev pub SpotWithin : ℕ → ℕ → Spot → Type 0
@@ -311,14 +311,14 @@ bounded_child x ws = (join, λ h. (h 0 (omega arith), below h))
 -- the words of the child pieces have no bit past the last state exactly when each is below its power of two
 pub clean_bounded : {A : Type 0} (x : Nested A) (ws : List ℕ) → CleanBelow x ws ↔ Bounded (run x) ws (widths x)
 clean_bounded (leaf a) ws = (λ _ o l. absurd (omega arith), λ _. tt)
-clean_bounded (catenation x y) ws = Iff·trans (Iff·and (clean_bounded x ws) (clean_bounded y (drop (run x) ws)))
+clean_bounded (catenation x y) ws = Iff.trans (Iff.and (clean_bounded x ws) (clean_bounded y (drop (run x) ws)))
     (bounded_both x y ws)
-clean_bounded (union x y) ws = Iff·trans (Iff·and (clean_bounded x ws) (clean_bounded y (drop (run x) ws)))
+clean_bounded (union x y) ws = Iff.trans (Iff.and (clean_bounded x ws) (clean_bounded y (drop (run x) ws)))
     (bounded_both x y ws)
 clean_bounded (star x) ws = clean_bounded x ws
-clean_bounded (below x) ws = Iff·trans (Iff·and Iff·rfl (clean_bounded x (drop 1 ws))) (bounded_child x ws)
+clean_bounded (below x) ws = Iff.trans (Iff.and Iff.rfl (clean_bounded x (drop 1 ws))) (bounded_child x ws)
 
 -- the words of a run have no bit past the last state exactly when each is below its power of two
 pub clean_words : {A : Type 0} (x : Nested A) (words : List ℕ)
     → Clean x words ↔ Bounded (1 + run x) words (width x ∷ widths x)
-clean_words x words = Iff·trans (Iff·and Iff·rfl (clean_bounded x (drop 1 words))) (bounded_child x words)
+clean_words x words = Iff.trans (Iff.and Iff.rfl (clean_bounded x (drop 1 words))) (bounded_child x words)

@@ -2,7 +2,7 @@
 -- child's start and accepting state.
 use Rattle.std.specs.Prelude.{ℕ, ◌+◌, ◌≡◌, refl, ◌↔◌, List, get_or, drop}
 use Rattle.std.proofs.Common.{ap, subst, zero-add}
-use Rattle.std.proofs.Math.Logic.{Iff·trans as iff-trans}
+use Rattle.std.proofs.Math.Logic.Iff
 use Rattle.language.specs.Automaton.{State, start, accepting, left, right}
 use Rattle.language.specs.Nested.{Nested, leaf, catenation, union, star, below, Has, origin}
 use Rattle.tree.specs.Leaf.{Leaf}
