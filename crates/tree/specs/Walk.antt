@@ -37,13 +37,13 @@ one_met met low k m =
     by_last a l h (no now) = rw (eq-eqb a (low + k) (omega arith))
 
 -- a climbing list climbs at least to where it began
-climbing_grows : {l : List ℕ} {low k n : ℕ} → Climbing low k l n → k ≤ n
+climbing_grows : {low k n : ℕ} {l : List ℕ} → Climbing low k l n → k ≤ n
 climbing_grows done = omega arith
 climbing_grows (again l h climbing) = climbing_grows climbing
 climbing_grows (next e climbing) = omega (arith, climbing_grows climbing)
 
 -- in a climbing list the numbers that stand first are the next ones, upwards
-firsts_climbing : {l : List ℕ} {low k n : ℕ} (met : List ℕ) → Met met low k → Climbing low k l n
+firsts_climbing : {low k n : ℕ} {l : List ℕ} (met : List ℕ) → Met met low k → Climbing low k l n
     → firsts met l ≡ upwards (low + k) (n - k)
 firsts_climbing {k = k} met m done = let nothing_left : k - k ≡ 0 = omega arith in rw nothing_left
 firsts_climbing met m (again {a = a} l h climbing) = rw (m.known a l h) (firsts_climbing met m climbing)
