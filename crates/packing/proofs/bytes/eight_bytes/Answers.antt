@@ -1,8 +1,7 @@
 -- `packing::bytes::eight_bytes` meets its contract. The loop's invariant: the word has the bytes of the states from the
 -- last one down to those that are left.
-use Prim.Native.Nat.{◌≤◌}
 use native.Mathlib.Omega.{arith}
-use Rattle.packing.specs.StateBytes.{BytesPast, bytes_none, bytes_more, bytes_fit, bytes_all}
+use Rattle.packing.specs.StateBytes.{bytes_none, bytes_more, bytes_fit, bytes_all}
 use Rattle.packing.proofs.bytes.eight_bytes.Goals as goal
 
 pub loop-left-init : goal.loop-left-init

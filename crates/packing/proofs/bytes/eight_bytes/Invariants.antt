@@ -1,7 +1,6 @@
 -- `packing::bytes::eight_bytes` meets its contract. The loop's invariant: the word has the bytes of the states from the
 use Prim.Native.Nat.{◌≤◌}
-use native.Mathlib.Omega.{arith}
-use Rattle.packing.specs.StateBytes.{BytesPast, bytes_none, bytes_more, bytes_fit, bytes_all}
+use Rattle.packing.specs.StateBytes.{BytesPast}
 use Rattle.packing.proofs.bytes.eight_bytes.Given as goal
 
 abbrev pub invariant-loop-left : goal.invariant-loop-left

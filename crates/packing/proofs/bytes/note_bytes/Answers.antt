@@ -1,9 +1,8 @@
 -- `packing::bytes::note_bytes` meets its contract. The loop's invariant: the words so far have the bytes of their
 -- states.
-use Prim.Native.Nat.{◌+◌, ◌-◌, ◌/◌, ◌≤◌}
 use native.Mathlib.Omega.{arith}
-use Rattle.closing.specs.BitsOfWords.MadeAnew.{MadeAnew, anew_none, anew_set}
-use Rattle.packing.specs.StateBytes.{ByteWord, byte_word, bytes_noted}
+use Rattle.closing.specs.BitsOfWords.MadeAnew.{anew_none, anew_set}
+use Rattle.packing.specs.StateBytes.{byte_word, bytes_noted}
 use Rattle.packing.proofs.bytes.note_bytes.Goals as goal
 
 pub loop-word-init : goal.loop-word-init

@@ -1,8 +1,7 @@
 -- `packing::bytes::note_bytes` meets its contract. The loop's invariant: the words so far have the bytes of their
 use Prim.Native.Nat.{◌+◌, ◌-◌, ◌/◌, ◌≤◌}
-use native.Mathlib.Omega.{arith}
-use Rattle.closing.specs.BitsOfWords.MadeAnew.{MadeAnew, anew_none, anew_set}
-use Rattle.packing.specs.StateBytes.{ByteWord, byte_word, bytes_noted}
+use Rattle.closing.specs.BitsOfWords.MadeAnew.{MadeAnew}
+use Rattle.packing.specs.StateBytes.{ByteWord}
 use Rattle.packing.proofs.bytes.note_bytes.Given as goal
 
 abbrev pub invariant-loop-word : goal.invariant-loop-word

@@ -1,21 +1,13 @@
 -- `packing::masks::note_masks` meets its contract. The loop's invariant: the bits of the states gone through are in the
 -- masks that their codes say.
-use Prim.Native.Nat.{◌≤◌, ◌-◌}
 use native.Mathlib.Omega.{arith}
 use lib.ListN.{length-set}
 use Rattle.tables.specs.Plan.{LeadsOn, Jumps, IsLeaf, IsClass}
-use Rattle.packing.specs.Masks.{
-  BitsOfCodes,
-  gathered_none,
-  gathered_more,
-  gathered_all,
-  masks_noted,
-}
+use Rattle.packing.specs.Masks.{gathered_none, gathered_more, gathered_all, masks_noted}
 use Rattle.packing.proofs.masks.note_masks.Goals as goal
 
 pub loop-state-init : goal.loop-state-init
-loop-state-init c =
-    (
+loop-state-init c = (
   omega arith,
   gathered_none LeadsOn _,
   gathered_none Jumps _,
@@ -23,29 +15,13 @@ loop-state-init c =
   gathered_none IsClass _,
 )
 
-pub leads_on-requires : goal.leads_on-requires
-leads_on-requires c =
-    tt
-
-pub jumps-requires : goal.jumps-requires
-jumps-requires c =
-    tt
-
-pub is_leaf-requires : goal.is_leaf-requires
-is_leaf-requires c =
-    tt
-
-pub is_class-requires : goal.is_class-requires
-is_class-requires c =
-    tt
-
 pub loop-state-preserved : goal.loop-state-preserved
 loop-state-preserved c =
     let so_far = c.loop-state.invariant in (
       omega arith,
       gathered_more so_far.1 c.leads_on.ensures c.set_where-on.ensures,
       gathered_more so_far.2 c.jumps.ensures c.set_where-jumping.ensures,
-      gathered_more so_far.3 c.is_IsLeaf.ensures c.set_where-leaves.ensures,
+      gathered_more so_far.3 c.is_leaf.ensures c.set_where-leaves.ensures,
       gathered_more so_far.4 c.is_class.ensures c.set_where-classes.ensures,
     )
 

@@ -1,15 +1,7 @@
 -- `packing::masks::note_masks` meets its contract. The loop's invariant: the bits of the states gone through are in the
 use Prim.Native.Nat.{◌≤◌, ◌-◌}
-use native.Mathlib.Omega.{arith}
-use lib.ListN.{length-set}
 use Rattle.tables.specs.Plan.{LeadsOn, Jumps, IsLeaf, IsClass}
-use Rattle.packing.specs.Masks.{
-  BitsOfCodes,
-  gathered_none,
-  gathered_more,
-  gathered_all,
-  masks_noted,
-}
+use Rattle.packing.specs.Masks.{BitsOfCodes}
 use Rattle.packing.proofs.masks.note_masks.Given as goal
 
 abbrev pub invariant-loop-state : goal.invariant-loop-state
