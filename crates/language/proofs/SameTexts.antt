@@ -17,14 +17,7 @@ use Rattle.language.specs.SignedTree.{
 }
 use Rattle.language.specs.StandsFor.{stands_for}
 use Rattle.language.specs.JoinedTexts.{Within, joined_within, repeated_within}
-use Rattle.language.specs.CountedTexts.{
-  more_repeated,
-  repeated_more,
-  few_perhaps,
-  perhaps_few,
-  between_times,
-  times_between,
-}
+use Rattle.language.proofs.CountedTexts.{more_repeated, repeated_more, few_perhaps, perhaps_few, between_times, times_between}
 
 module _ {A : Type 0} (M : Meaning A) (empty : A) (has : M.HasEmpty empty) where
   -- each text by the signs is a text of the tree

@@ -4,8 +4,8 @@ use Rattle.language.specs.Tree.{Tree}
 use Rattle.language.specs.Meaning.{Meaning}
 use Rattle.language.specs.Language.{Language}
 use Rattle.language.specs.Automaton.{Accepts}
-use Rattle.language.specs.Rest.{accepted_language}
-use Rattle.language.specs.TextRuns.{language_accepted}
+use Rattle.language.proofs.Rest.{accepted_language}
+use Rattle.language.proofs.TextRuns.{language_accepted}
 
 pub accepts_exactly : {A : Type 0} (M : Meaning A) (t : Tree A) (w : List ℕ)
     → Accepts M t w ↔ Language M t w

@@ -7,7 +7,7 @@ use Rattle.language.specs.Meaning.{Meaning}
 use Rattle.language.specs.Language.{Language}
 use Rattle.language.specs.Automaton.{State, accepting, States, Started, Stepped, After}
 use Rattle.language.specs.Simulation.{◌⊆◌, none_left}
-use Rattle.language.specs.Acceptance.{accepts_exactly}
+use Rattle.language.proofs.Acceptance.{accepts_exactly}
 use Rattle.language.specs.Models.{StateOf, started_state, stepped_state}
 
 module _ {A : Type 0} (M : Meaning A) (t : Tree A) where

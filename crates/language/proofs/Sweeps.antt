@@ -10,19 +10,13 @@ use Rattle.language.specs.Simulation.{◌⊆◌, closed_keeps, closed_settled, c
 use Rattle.language.specs.Settled.{Settled, settled_same}
 use Rattle.language.specs.StateWalk.{walked_keeps, walked_more}
 use Rattle.language.specs.TwoWalks.{two_walks_settle}
-use Rattle.language.specs.Visits.{sweep_walked, sweep_within}
-use Rattle.language.specs.Copies.{
-  Full,
-  copy_of_origin,
-  copy_has,
-  start_full,
-  empty_full,
-  reads_full,
-  reading_reads,
-  origin_settled,
-}
-use Rattle.language.specs.Same.{MoreIn, sweep_same, models_same}
-use Rattle.language.specs.SameEmpty.{SameEmpty, closed_same}
+use Rattle.language.proofs.Visits.{sweep_walked, sweep_within}
+use Rattle.language.specs.Copies.{Full, copy_of_origin, copy_has, start_full, empty_full, reads_full, reading_reads}
+use Rattle.language.proofs.Copies.{origin_settled}
+use Rattle.language.specs.Same.{MoreIn}
+use Rattle.language.proofs.Same.{sweep_same, models_same}
+use Rattle.language.specs.SameEmpty.{SameEmpty}
+use Rattle.language.proofs.SameEmpty.{closed_same}
 
 module _ {A : Type 0} (M : Meaning A) (x : Nested A) where
   -- two sweeps lose no mark

@@ -5,8 +5,9 @@ use Rattle.language.specs.Meaning.{Meaning}
 use Rattle.language.specs.Nested.{Nested, leaf, catenation, union, star, below, Has, Sweep}
 use Rattle.language.specs.Settled.{Wire, Settled}
 use Rattle.language.specs.StateWalk.{walked_keeps}
-use Rattle.language.specs.Visits.{sweep_walked, sweep_within}
-use Rattle.language.specs.Same.{Agree, sweep_more}
+use Rattle.language.proofs.Visits.{sweep_walked, sweep_within}
+use Rattle.language.specs.Same.{Agree}
+use Rattle.language.proofs.Same.{sweep_more}
 
 module _ {A : Type 0} (M : Meaning A) where
   -- a transition of the topmost node joins states that there are
