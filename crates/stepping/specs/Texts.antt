@@ -40,10 +40,10 @@ module _ {classes : List ℕ} {t : Tree Leaf} {w words : List ℕ} (holding : Ho
   pub accepting_answer : Bit (get_or words 0 0) (width (cut_up t) - 1) ↔ Matches classes t w
   accepting_answer =
       let x : Nested Leaf = cut_up t in
-      iff-trans (bit_at (get_or words 0 0) (omega (arith, number_accepting x)))
-      (iff-trans (held_at words (sym (own_spot x accepting tt)))
-      (iff-trans ((holds_held x words accepting tt).1, (holds_held x words accepting tt).0)
-      (iff-trans (holding.modelled accepting tt) (accepts_exactly (meaning classes) t w))))
+      Iff.trans (bit_at (get_or words 0 0) (omega (arith, number_accepting x)))
+      (Iff.trans (held_at words (sym (own_spot x accepting tt)))
+      (Iff.trans ((holds_held x words accepting tt).1, (holds_held x words accepting tt).0)
+      (Iff.trans (holding.modelled accepting tt) (accepts_exactly (meaning classes) t w))))
 
   -- after one byte more they hold what a step with it marks
   pub holding_next : {b : ℕ} {later : List ℕ}

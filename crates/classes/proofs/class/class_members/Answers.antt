@@ -1,0 +1,35 @@
+-- `classes::class::class_members` meets its contract: with a `^` or without one, its items are read.
+use mathlib.Core.Path.{◌∙◌}
+use mathlib.Core.Bool.{true, false}
+use native.Mathlib.Omega.{arith}
+use Rattle.classes.specs.Members.{filled_members}
+use Rattle.classes.specs.ClassItems.{class_but, class_only}
+use borrow.Author.Rules.{rules}
+use Rattle.classes.proofs.class.class_members.Goals as goal
+
+pub overflow_add-at-then-stands_at : goal.overflow_add-at-then-stands_at
+overflow_add-at-then-stands_at c =
+    let caret = c.stands_at.ensures.if_so c.if-stands_at.taken in omega (arith, caret.0)
+
+pub items-requires : goal.items-requires
+items-requires c =
+    let caret = c.stands_at.ensures.if_so c.if-stands_at.taken in (
+      omega (arith, caret.0),
+      filled_members true c.set_all.last.0 (c.set_all.kept.0 ∙ c.requires.1)
+          c.set_all.ensures,
+    )
+
+pub returns-then-stands_at : goal.returns-then-stands_at
+returns-then-stands_at c =
+    let caret = c.stands_at.ensures.if_so c.if-stands_at.taken in
+    class_but c.args.expr.now c.args.at c.items.new.1.1.0 c.items.result caret.0 caret.1
+    c.items.ensures
+
+pub items-requires-2 : goal.items-requires-2
+items-requires-2 c =
+    (omega arith, filled_members false c.set_all-2.last.0 (c.set_all-2.kept.0 ∙ c.requires.1) c.set_all-2.ensures)
+
+pub returns : goal.returns
+returns c =
+    class_only c.args.expr.now c.args.at c.items-2.new.1.1.0 c.items-2.result (omega arith)
+    (c.stands_at.ensures.if_not c.if-stands_at.left) c.items-2.ensures
