@@ -1,5 +1,7 @@
 // The desk's own trial: each line of standard input is an expression, and is tried on the end of February, on all 366
 // dates and on texts that are no dates; the dates that the first picks are listed.
+#![tactic(auto)]
+
 mod date;
 mod trial;
 

@@ -1,4 +1,6 @@
 // Reads standard input, and writes what the rule on its first line is read as.
+#![tactic(auto)]
+
 ghost use Rattle.explain.specs.Space.{ExplainSpace};
 
 use explaining::{Explained, MOST_EXPLAINED};

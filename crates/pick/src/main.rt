@@ -1,5 +1,7 @@
 // Reads standard input, and writes which of its later lines match its first one, and on standard error why it is
 // refused.
+#![tactic(auto)]
+
 ghost use Rattle.std.specs.Prelude.{◌≤◌, length};
 ghost use Rattle.printing.specs.Printing.{Prints};
 ghost use Rattle.showing.specs.Refusal.{most_shown};
