@@ -1,5 +1,5 @@
 -- Closing looks only at states that there are, and no mark is lost by a sweep.
-use Rattle.std.specs.Prelude.{ℕ, ◌≡◌, refl, ◌⊎◌}
+use Rattle.std.specs.Prelude.{◌≡◌, refl, ◌⊎◌}
 use Rattle.std.proofs.Common.{subst, inl, inr, ⊎_elim}
 use Rattle.language.specs.Automaton.{State, start, accepting, left, right, States, PathOf, here, step}
 use Rattle.language.specs.Nested.{
