@@ -1,5 +1,5 @@
 -- What a count is, and how one is read byte by byte from after its `{`.
-use Rattle.std.specs.Prelude.{ℕ, ◌+◌, ◌*◌, ◌-◌, Bool, true, false, cond, eqb, ltb, leb}
+use Rattle.std.specs.Prelude.{ℕ, ◌+◌, ◌*◌, ◌-◌, Bool, false, cond, eqb, ltb, leb}
 
 -- the largest number of a count
 abbrev pub largest : ℕ

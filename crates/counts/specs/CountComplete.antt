@@ -1,5 +1,5 @@
 -- What the grammar of a count reads, the reading of a count finds.
-use Rattle.std.specs.Prelude.{ℕ, ◌+◌, ◌*◌, ◌≤◌, ◌<◌, ◌≡◌, refl, true, cond, List, ◌∷◌, length}
+use Rattle.std.specs.Prelude.{ℕ, ◌+◌, ◌≤◌, ◌<◌, ◌≡◌, true, List, length}
 use Rattle.std.proofs.Common.{◌∙◌, arith, le-leb, ne_eqb}
 use Rattle.counts.specs.Count.{largest, Counting, fewest_due, may_stand}
 use Rattle.counts.specs.CountRun.{found, count_run}

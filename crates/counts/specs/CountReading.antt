@@ -1,8 +1,7 @@
 -- What the readers of a number and of a count promise: how the reading of the count goes on after it.
-use Rattle.std.specs.Prelude.{ℕ, ◌+◌, ◌*◌, ◌-◌, ◌≤◌, ◌<◌, ◌≡◌, List, length, drop, get_or}
+use Rattle.std.specs.Prelude.{ℕ, ◌-◌, ◌≤◌, ◌<◌, ◌≡◌, List, length, drop, get_or}
 use Rattle.counts.specs.Count.{largest, Counting}
 use Rattle.counts.specs.CountRun.{CountRan, found, failed, count_run, count_at}
-use Rattle.counts.specs.CountGrammar.{IsDigit}
 use Rattle.counts.specs.CountSigns.{Side, due, read}
 use Rattle.counts.specs.declared.part.NumberPart.{NumberPart}
 use Rattle.counts.specs.declared.part.NumberPart.TheVariants.{Read as Number-found, Faulty as No-number-found}

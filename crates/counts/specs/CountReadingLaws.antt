@@ -1,31 +1,10 @@
 -- How the reading of a count goes on at a digit, at the comma, at the `}` and at everything else.
-use Rattle.std.specs.Prelude.{ℕ, ◌+◌, ◌*◌, ◌-◌, ◌≤◌, ◌<◌, ◌≡◌, refl, true, false, List, [], ◌∷◌, length, drop, get_or, eqb, leb}
-use Rattle.std.proofs.Common.{sym, ◌∙◌, arith, add-one, drop-cons, le-leb, ne_eqb, eq-eqb}
+use Rattle.std.specs.Prelude.{ℕ, ◌+◌, ◌*◌, ◌≤◌, ◌<◌, ◌≡◌, refl, true, false, List, [], ◌∷◌, length, drop, get_or}
+use Rattle.std.proofs.Common.{◌∙◌, arith, add-one, drop-cons, ne_eqb, eq-eqb}
 use Rattle.std.proofs.Math.Decide.{dec_lt}
 use Rattle.std.proofs.Math.Seq.{drop-length}
 use Rattle.std.proofs.lemmas.Bool.{lt-leb}
-use Rattle.counts.specs.Count.{
-  largest,
-  CountSign,
-  digit,
-  comma,
-  ending,
-  other,
-  count_sign,
-  Counting,
-  fewest_read,
-  most_due,
-  most_read,
-  CountStep,
-  goes_on,
-  whole,
-  faulty,
-  may_follow,
-  may_stand,
-  fewest_step,
-  most_step,
-  count_step,
-}
+use Rattle.counts.specs.Count.{largest, CountSign, digit, comma, ending, other, count_sign, Counting, fewest_read, most_due, most_read, goes_on, faulty, may_follow, may_stand, fewest_step, most_step, count_step}
 use Rattle.counts.specs.CountRun.{CountRan, found, failed, count_ran_on, count_run, count_at}
 use Rattle.counts.specs.CountGrammar.{IsDigit}
 use Rattle.counts.specs.CountSigns.{
@@ -43,19 +22,7 @@ use Rattle.counts.specs.CountSigns.{
   digit_fails,
 }
 use Rattle.counts.specs.CountComplete.{stands}
-use Rattle.counts.specs.CountReading.{
-  count_run_from,
-  DigitAt,
-  value_at,
-  NumberSoFar,
-  NumberHere,
-  NoNumber,
-  NumberAnswer,
-  CountHere,
-  CountLost,
-  RanAnswer,
-  CountAnswer,
-}
+use Rattle.counts.specs.CountReading.{count_run_from, DigitAt, value_at, NumberSoFar, NumberHere, NoNumber, CountHere, CountLost, RanAnswer, CountAnswer}
 use Rattle.counts.specs.declared.part.CountPart.{CountPart}
 use Rattle.counts.specs.declared.part.CountPart.TheVariants.{Read as Count-found, Faulty as No-count-found}
 

@@ -1,5 +1,5 @@
 -- What a byte of a count is by its sign, and how a digit moves the reading on, in the first number and in the second.
-use Rattle.std.specs.Prelude.{ℕ, ◌+◌, ◌*◌, ◌-◌, ◌≤◌, ◌≡◌, refl, Bool, true, false, cond, eqb, ltb, leb}
+use Rattle.std.specs.Prelude.{ℕ, ◌+◌, ◌*◌, ◌-◌, ◌≤◌, ◌≡◌, refl, Bool, true, false, cond, eqb, ltb}
 use Rattle.std.proofs.Common.{arith, eqb-true, ltb-false, le-ltb, le-leb, ne_eqb}
 use Rattle.counts.specs.Count.{
   largest,

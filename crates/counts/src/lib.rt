@@ -1,3 +1,5 @@
 // Reads a count `{m,n}`.
+#![tactic(auto)]
+
 pub mod count;
 pub mod part;

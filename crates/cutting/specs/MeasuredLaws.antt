@@ -5,7 +5,7 @@ use Rattle.std.proofs.Math.Decide.{dec_le}
 use Rattle.language.specs.Tree.{Tree, leaf, catenation, union, star, nodes}
 use Rattle.tree.specs.Leaf.{Leaf}
 use Rattle.tree.specs.Cut.{open_size}
-use Rattle.tree.specs.Limits.{most_nodes, most_labels}
+use Rattle.tree.specs.Limits.{most_nodes}
 use Rattle.tree.specs.Layout.{label_of, catenation_kind, union_kind, star_kind}
 use Rattle.tree.specs.Records.{labels, piece_count}
 use Rattle.tree.specs.Lengths.{length_labels}

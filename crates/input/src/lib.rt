@@ -1,2 +1,4 @@
 // The lines of an input.
+#![tactic(auto)]
+
 pub mod line;

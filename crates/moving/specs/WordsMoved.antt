@@ -276,32 +276,32 @@ module _ (classes : List ℕ) (b : ℕ) where
   marked_moved (catenation x y) i w w' ws ws' s u accepting h =
       neither (unmarked_end (λ p. no_catenation) s) (λ m. in_no_catenation m.2)
   marked_moved (catenation x y) i w w' ws ws' s u (left q) h =
-      iff-trans (marked_moved x (i + 1) w w' ws ws' (catenation_left s) u.0 q h)
+      Iff.trans (marked_moved x (i + 1) w w' ws ws' (catenation_left s) u.0 q h)
       (lifted {M = Marked (catenation x y) w i ws} left (λ p. Reading.catenation_left) (λ p. in_catenation_left p))
   marked_moved (catenation x y) i w w' ws ws' s u (right q) h =
-      iff-trans (marked_moved y (i + (1 + width x)) w w' (drop (run x) ws) (drop (run x) ws') (catenation_right s)
+      Iff.trans (marked_moved y (i + (1 + width x)) w w' (drop (run x) ws) (drop (run x) ws') (catenation_right s)
       u.1 q h)
       (lifted {M = Marked (catenation x y) w i ws} right (λ p. Reading.catenation_right) (λ p. in_catenation_right p))
   marked_moved (union x y) i w w' ws ws' s u start h = neither (unmarked_start s) (λ m. in_no_start m.2)
   marked_moved (union x y) i w w' ws ws' s u accepting h =
       neither (unmarked_end (λ p. no_union) s) (λ m. in_no_union m.2)
   marked_moved (union x y) i w w' ws ws' s u (left q) h =
-      iff-trans (marked_moved x (i + 1) w w' ws ws' (union_left s) u.0 q h)
+      Iff.trans (marked_moved x (i + 1) w w' ws ws' (union_left s) u.0 q h)
       (lifted {M = Marked (union x y) w i ws} left (λ p. Reading.union_left) (λ p. in_union_left p))
   marked_moved (union x y) i w w' ws ws' s u (right q) h =
-      iff-trans (marked_moved y (i + (1 + width x)) w w' (drop (run x) ws) (drop (run x) ws') (union_right s) u.1 q
+      Iff.trans (marked_moved y (i + (1 + width x)) w w' (drop (run x) ws) (drop (run x) ws') (union_right s) u.1 q
       h)
       (lifted {M = Marked (union x y) w i ws} right (λ p. Reading.union_right) (λ p. in_union_right p))
   marked_moved (star x) i w w' ws ws' s u start h = neither (unmarked_start s) (λ m. in_no_start m.2)
   marked_moved (star x) i w w' ws ws' s u accepting h = neither (unmarked_end (λ p. no_star) s) (λ m. in_no_star m.2)
   marked_moved (star x) i w w' ws ws' s u (left q) h =
-      iff-trans (marked_moved x (i + 1) w w' ws ws' (star_inside s) u q h)
+      Iff.trans (marked_moved x (i + 1) w w' ws ws' (star_inside s) u q h)
       (lifted {M = Marked (star x) w i ws} left (λ p. Reading.star_inside) (λ p. in_star p))
   marked_moved (below x) i w w' ws ws' s u start h = neither (unmarked_start s) (λ m. in_no_start m.2)
   marked_moved (below x) i w w' ws ws' s u accepting h =
       neither (unmarked_end (λ p. no_stand_in) s) (λ m. in_no_below m.2)
   marked_moved (below x) i w w' ws ws' s u (left q) h =
-      iff-trans (marked_moved x 0 (get_or ws 0 0) (get_or ws' 0 0) (drop 1 ws) (drop 1 ws') (shifts u.0) u.1 q h)
+      Iff.trans (marked_moved x 0 (get_or ws 0 0) (get_or ws' 0 0) (drop 1 ws) (drop 1 ws') (shifts u.0) u.1 q h)
       (lifted {M = Marked (below x) w i ws} left (λ p. Reading.in_child) (λ p. in_below p))
 
   -- no bit past a last state is set

@@ -1,4 +1,6 @@
 // An answer in one number: a refusal's number, a flag and two numbers of 24 bits.
+#![tactic(auto)]
+
 ghost use Rattle.std.specs.Prelude.{◌+◌, ◌*◌, ◌≤◌, ◌<◌, ◌≡◌, cond};
 ghost use Rattle.one_number.specs.Packed.{packed};
 

@@ -1,3 +1,5 @@
 // The signs `+`, `?` and `{m,n}`: the labels of an operand are copied as the sign says.
+#![tactic(auto)]
+
 pub mod copies;
 mod note;

@@ -1,4 +1,6 @@
 // Running a table of steps: whether a table accepts a text. Any slice of 257 or more entries is a table.
+#![tactic(auto)]
+
 pub mod numbers;
 pub mod run;
 

@@ -6,9 +6,9 @@ use Rattle.std.proofs.Math.Logic.Iff
 use Rattle.language.specs.Tree.{Tree}
 use Rattle.language.specs.Automaton.{State, accepting, States, Started, Stepped, After}
 use Rattle.language.specs.Nested.{Nested, Models}
-use Rattle.language.specs.Acceptance.{accepts_exactly}
+use Rattle.language.proofs.Acceptance.{accepts_exactly}
 use Rattle.language.specs.Models.{origin_onto}
-use Rattle.language.specs.AlongText.{after_step, reached_state, none_longer}
+use Rattle.language.proofs.AlongText.{after_step, reached_state, none_longer}
 use Rattle.tree.specs.Leaf.{Leaf, meaning, Matches}
 use Rattle.tree.specs.Records.{piece_count}
 use Rattle.tree.specs.Pieces.{cut_up, stated}
@@ -40,10 +40,10 @@ module _ {classes : List ℕ} {t : Tree Leaf} {w words : List ℕ} (holding : Ho
   pub accepting_answer : Bit (get_or words 0 0) (width (cut_up t) - 1) ↔ Matches classes t w
   accepting_answer =
       let x : Nested Leaf = cut_up t in
-      iff-trans (bit_at (get_or words 0 0) (omega (arith, number_accepting x)))
-      (iff-trans (held_at words (sym (own_spot x accepting tt)))
-      (iff-trans ((holds_held x words accepting tt).1, (holds_held x words accepting tt).0)
-      (iff-trans (holding.modelled accepting tt) (accepts_exactly (meaning classes) t w))))
+      Iff.trans (bit_at (get_or words 0 0) (omega (arith, number_accepting x)))
+      (Iff.trans (held_at words (sym (own_spot x accepting tt)))
+      (Iff.trans ((holds_held x words accepting tt).1, (holds_held x words accepting tt).0)
+      (Iff.trans (holding.modelled accepting tt) (accepts_exactly (meaning classes) t w))))
 
   -- after one byte more they hold what a step with it marks
   pub holding_next : {b : ℕ} {later : List ℕ}

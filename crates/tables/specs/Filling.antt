@@ -117,6 +117,7 @@ plain_no_stand_in plain stand_in = plain
 -- no stand-in is at or below a leaf
 no_stand_in_at_leaf : {a : Leaf} {f p n i : ℕ} {u : Site} {k : ℕ} → In (site (leaf a) f p n i) u → StandIn u k → ⊥
 no_stand_in_at_leaf here m = plain_no_stand_in tt m
+no_stand_in_at_leaf {a = a} {f = f} {p = p} {n = n} {i = i} {u = u} {k = k} (step {t = t} x6 _) m = elim x6 [ ]
 
 -- a leaf's part
 pub fill_leaf : {list : List ℕ} {a : Leaf} {f p n i : ℕ} {room : ℕ} → Fine list room (site (leaf a) f p n i)

@@ -1,5 +1,7 @@
 // The rows of a good list, made once before any byte is read: one of 13 words for each piece, which says of its states
 // where their empty transitions lead and which leaves start there, and where the piece stands.
+#![tactic(auto)]
+
 pub mod fill;
 pub mod rows;
 

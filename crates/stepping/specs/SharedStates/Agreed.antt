@@ -75,7 +75,7 @@ child_start x ws = marked_start x (get_or ws 0 0) 0 (drop 1 ws)
 child_accepting : (x : Nested Leaf) (ws : List ℕ) → Marked x (get_or ws 0 0) 0 (drop 1 ws) accepting
     ↔ Bit (get_or ws 0 0) (number x accepting)
 child_accepting x ws =
-    iff-trans (marked_accepting x (get_or ws 0 0) 0 (drop 1 ws)) (bit_at (get_or ws 0 0) (zero-add (number x accepting)))
+    Iff.trans (marked_accepting x (get_or ws 0 0) 0 (drop 1 ws)) (bit_at (get_or ws 0 0) (zero-add (number x accepting)))
 
 -- where the pairs agree, states that are one are marked alike: from one to the other the way goes over stand-ins
 agree : (x : Nested Leaf) (w i : ℕ) (ws : List ℕ) → Pairs x w i ws → (p q : State) → Has x p → Has x q
@@ -126,8 +126,8 @@ pairs (union x y) w i ws m = (
 )
 pairs (star x) w i ws m = pairs x w (i + 1) ws (λ p q h k e. m (left p) (left q) h k (ap left e))
 pairs (below x) w i ws m = (
-  iff-trans (m start (left start) tt tt refl, m (left start) start tt tt refl) (child_start x ws),
-  iff-trans (m accepting (left accepting) tt tt refl, m (left accepting) accepting tt tt refl) (child_accepting x ws),
+  Iff.trans (m start (left start) tt tt refl, m (left start) start tt tt refl) (child_start x ws),
+  Iff.trans (m accepting (left accepting) tt tt refl, m (left accepting) accepting tt tt refl) (child_accepting x ws),
   pairs x (get_or ws 0 0) 0 (drop 1 ws) (λ p q h k e. m (left p) (left q) h k e),
 )
 

@@ -1,0 +1,16 @@
+-- `classes::members::set_all` meets its contract. The loop's invariant: the values before `i` have the number.
+use Prim.Native.Nat.{◌-◌, ◌≤◌}
+use mathlib.Core.Path.{◌≡◌, refl}
+use native.Mathlib.Omega.{arith}
+use lib.ListN.{length, length-set}
+use Rattle.classes.specs.Members.{FilledUpTo, filled_more}
+use borrow.Author.Rules.{rules}
+use Rattle.classes.proofs.members.set_all.Given as goal
+
+abbrev pub invariant-loop-i : goal.invariant-loop-i
+invariant-loop-i l =
+    (length l.members ≡ length l.initial.members) × (l.i ≤ length l.initial.members) × FilledUpTo l.members l.value l.i
+
+abbrev pub decreases-loop-i : goal.decreases-loop-i
+decreases-loop-i l =
+    length l.initial.members - l.i
