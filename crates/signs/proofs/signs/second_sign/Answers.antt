@@ -31,7 +31,7 @@ returns-then-byte-eq63 c =
 
 pub counted-requires : goal.counted-requires
 counted-requires c =
-    (c.requires.within, (c.if-byte-eq123.true, c.requires.room))
+    record { within = c.requires.within; brace = c.if-byte-eq123.true; room = c.requires.room }
 
 pub returns-then-byte-eq123 : goal.returns-then-byte-eq123
 returns-then-byte-eq123 c =

@@ -18,7 +18,7 @@ returns-then-expr-at-eq42 c =
 
 pub second_sign-requires : goal.second_sign-requires
 second_sign-requires c =
-    (c.requires.within, (c.if-expr-at-eq42.false, c.requires.room))
+    record { within = c.requires.within; other = c.if-expr-at-eq42.false; room = c.requires.room }
 
 pub returns-then-second : goal.returns-then-second
 returns-then-second c =

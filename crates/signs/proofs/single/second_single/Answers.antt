@@ -24,7 +24,7 @@ returns-then-byte-eq46 c =
 
 pub class-requires : goal.class-requires
 class-requires c =
-    (c.requires.within, (c.if-byte-eq91.true, c.requires.room))
+    record { within = c.requires.within; bracket = c.if-byte-eq91.true; room = c.requires.room }
 
 pub returns-then-byte-eq91 : goal.returns-then-byte-eq91
 returns-then-byte-eq91 c =
@@ -40,17 +40,12 @@ returns-then-byte-eq125 c =
 
 pub character-requires : goal.character-requires
 character-requires c =
-    (
-      c.requires.within,
-      (
-        c.requires.character,
-        (
-          no_class_begins _ c.if-byte-eq46.false c.if-byte-eq91.false
-              c.if-byte-eq93.false c.if-byte-eq125.false,
-          c.requires.room,
-        ),
-      ),
-    )
+    record {
+      within = c.requires.within;
+      character = c.requires.character;
+      common = no_class_begins _ c.if-byte-eq46.false c.if-byte-eq91.false c.if-byte-eq93.false c.if-byte-eq125.false;
+      room = c.requires.room;
+    }
 
 pub returns : goal.returns
 returns c =
