@@ -1,5 +1,7 @@
 // The outside interface: reading, matching, searching, starting, stepping, picking and tables of steps, each of which
 // answers one number. The crate foamlattice_c exports each of these functions to callers in C and Rust.
+#![tactic(auto)]
+
 ghost use Rattle.std.specs.Prelude.{◌≡◌, length};
 ghost use Rattle.reader.specs.Answer.{read_answered, records_after};
 ghost use Rattle.checker.specs.Checked.{counted_numbers, checked};
