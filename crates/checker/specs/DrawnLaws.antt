@@ -4,7 +4,7 @@ use Rattle.std.proofs.Common.{ap, sym, ◌∙◌, arith, length-append}
 use Rattle.language.specs.Tree.{Tree, leaf, catenation, union, star, nodes}
 use Rattle.language.specs.SignedTree.{SignedTree}
 use Rattle.language.specs.WithLeaves.{EveryLeaf, EverySignedLeaf}
-use Rattle.language.specs.WithLeavesLaws.{every_stands_for}
+use Rattle.language.proofs.WithLeavesLaws.{every_stands_for}
 use Rattle.tree.specs.Limits.{longest_expression, most_labels}
 use Rattle.tree.specs.Leaf.{Leaf}
 use Rattle.tree.specs.Records.{class_numbers, class_count, Ranked}
