@@ -18,7 +18,8 @@ use Rattle.language.specs.Nested.{
   OwnEmpty,
   OwnClosed,
 }
-use Rattle.language.specs.Same.{MoreIn, closed_more_in}
+use Rattle.language.specs.Same.{MoreIn}
+use Rattle.language.proofs.Same.{closed_more_in}
 use Rattle.tree.specs.Leaf.{Leaf, byteless}
 use Rattle.tables.specs.Words.{Own}
 use Rattle.closing.specs.Passes.Transitions.{transition_own}

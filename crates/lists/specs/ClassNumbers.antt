@@ -1,13 +1,13 @@
 -- The numbers of class leaves, taken off labels: those of a tree's labels are the tree's, and where each is its rank,
 -- the class labels before it are as many.
 use Rattle.std.specs.Prelude.{ℕ, zero, suc, ◌+◌, ◌*◌, ◌/◌, ◌%◌, ◌≤◌, ◌<◌, ◌≡◌, refl, Bool, true, false, cond, List, [], ◌∷◌, ◌++◌, eqb, length, get_or, take, drop}
-use Rattle.std.proofs.Common.{ap, sym, ◌∙◌, append-nil, arith, not-suc-le-zero, length-append, take-append-drop, take-suc, drop-cons, eqb-true}
+use Rattle.std.proofs.Common.{ap, sym, ◌∙◌, append-nil, arith, not-suc-le-zero, length-append, take-append-drop, take-suc, drop-cons}
 use Rattle.std.proofs.Math.Decide.{dec_lt}
 use Rattle.std.proofs.Math.ListN.{get_or-append}
 use Rattle.std.proofs.Math.Seq.{get_or-append_seam}
 use Rattle.language.specs.Tree.{Tree, leaf, catenation, union, star, nodes}
 use Rattle.tree.specs.Leaf.{Leaf}
-use Rattle.tree.specs.Layout.{class_kind, class_label, kind_at, one_if_class, class_records, label_with, label_at}
+use Rattle.tree.specs.Layout.{class_kind, class_label, kind_at, class_records, label_at}
 use Rattle.tree.specs.Records.{labels, class_numbers, Ranked}
 use Rattle.tree.specs.Lengths.{length_labels}
 

@@ -1,2 +1,4 @@
 // Whether labels are those of one tree.
+#![tactic(auto)]
+
 pub mod order;

@@ -1,0 +1,112 @@
+-- `measuring::measure::measure` meets its contract. The loop's invariant: the records below `i` are measured. A turn
+-- reads the children's slots, which the invariant speaks of, and the laws of the specs gather the record's own numbers
+-- from theirs; that a tree has these labels bounds them all. The measure is what is left of the labels.
+use Prim.Native.Nat.{◌+◌, ◌≤◌, ◌-◌}
+use mathlib.Core.Path.{◌≡◌, refl, ◌∙◌}
+use native.Mathlib.Omega.{arith}
+use lib.ListN.{length, get_or, length-set}
+use Rattle.language.specs.Tree.{Tree}
+use Rattle.tree.specs.Leaf.{Leaf}
+use Rattle.tree.specs.Records.{labels}
+use Rattle.cutting.specs.Measured.{RoomToMeasure, Measured}
+use Rattle.cutting.specs.MeasuredLaws.{
+  Gathered,
+  gathered,
+  children,
+  right_size_le,
+  room_stays,
+  measured_none,
+  measured_more,
+}
+use Rattle.measuring.proofs.measure.measure.Reads as reads
+use Rattle.measuring.proofs.measure.measure.Lts as lts
+use Rattle.cutting.proofs.cut.cut_count.Reads as cut-count-reads
+use Rattle.cutting.proofs.cut.open_size.Reads as open-size-reads
+use Rattle.cutting.proofs.slots.left_slot.Reads as left-slot-reads
+use Rattle.cutting.proofs.slots.right_slot.Reads as right-slot-reads
+use Rattle.measuring.proofs.measure.measure.Goals as goal
+use Rattle.measuring.proofs.measure.measure.Goals.{After-left_slot-left}
+
+-- what is gathered once both slots are known, for every tree with these labels
+found : (c : After-left_slot-left) (t : Tree Leaf) → c.args.labels.now ≡ labels t
+    → let left = c.left_slot-left.result in
+    let right = c.right_slot-right.result in
+    Gathered t c.loop-i.i (get_or c.loop-i.sizes left 0 + get_or c.loop-i.sizes right 0 + 1)
+    (get_or c.loop-i.opens left 0) (get_or c.loop-i.opens right 0)
+    (get_or c.loop-i.cuts left 0) (get_or c.loop-i.cuts right 0)
+found c t e =
+    gathered t c.loop-i.i c.left_slot-left.result c.right_slot-right.result c.loop-i.sizes c.loop-i.opens
+    c.loop-i.cuts
+    (children c.args.labels.now t c.loop-i.i c.left_slot-left.result c.right_slot-right.result c.loop-i.sizes
+    c.loop-i.opens c.loop-i.cuts e
+    c.loop-i-test.true c.loop-i.invariant.2 c.right_slot-right.ensures.0 c.left_slot-left.ensures.0)
+
+pub loop-i-init : goal.loop-i-init
+loop-i-init c =
+    let room = c.requires.room_to_measure in (
+      omega arith,
+      room_stays (length c.args.labels.now) c.args.sizes.now c.args.opens.now
+          c.args.cuts.now 0 0 0 0
+          room,
+      measured_none c.args.labels.now c.args.sizes.now c.args.opens.now c.args.cuts.now room,
+      refl,
+      refl,
+      refl,
+    )
+
+pub right_slot-right-requires : goal.right_slot-right-requires
+right_slot-right-requires c =
+    tt
+
+pub left_slot-left-requires : goal.left_slot-left-requires
+left_slot-left-requires c =
+    right_size_le c.args.labels.now c.requires.postorder.tree c.loop-i.i c.right_slot-right.result c.loop-i.sizes
+    c.requires.postorder.same
+    c.loop-i-test.true (c.loop-i.invariant.2.sized c.requires.postorder.tree c.requires.postorder.same)
+    c.right_slot-right.ensures.0
+
+pub overflow_add-size : goal.overflow_add-size
+overflow_add-size c =
+    let o = c.requires.postorder in
+    omega (arith, found (goal.at.overflow_add-size c).After-left_slot-left o.tree o.same)
+
+pub overflow_add-size-in-loop-i : goal.overflow_add-size-in-loop-i
+overflow_add-size-in-loop-i c =
+    let o = c.requires.postorder in
+    omega (arith, found (goal.at.overflow_add-size-in-loop-i c).After-left_slot-left o.tree o.same)
+
+pub open_size-open_here-requires : goal.open_size-open_here-requires
+open_size-open_here-requires c =
+    let o = c.requires.postorder in
+    let g = found (goal.at.open_size-open_here-requires c).After-left_slot-left o.tree o.same in
+    (g.left_le, g.right_le)
+
+pub cut_count-cuts_here-requires : goal.cut_count-cuts_here-requires
+cut_count-cuts_here-requires c =
+    let o = c.requires.postorder in
+    let g = found (goal.at.cut_count-cuts_here-requires c).After-left_slot-left o.tree o.same in
+    record { l_le_most_nodes = (g.left_le, g.right_le); below_right_bound = omega (arith, g.cuts_le) }
+
+pub loop-i-preserved : goal.loop-i-preserved
+loop-i-preserved c = (
+  omega arith,
+  room_stays (length c.args.labels.now) c.loop-i.sizes c.loop-i.opens c.loop-i.cuts
+      (c.loop-i.i + 1) _ _ _
+      c.loop-i.invariant.1,
+  measured_more c.args.labels.now c.loop-i.i _ c.open_size-open_here.result
+      c.cut_count-cuts_here.result c.loop-i.sizes c.loop-i.opens c.loop-i.cuts
+      c.loop-i-test.true c.loop-i.invariant.1 c.loop-i.invariant.2
+      (λ t e. (
+        (found (goal.at.loop-i-preserved c).After-left_slot-left t e).size_is,
+        c.open_size-open_here.ensures ∙ (found (goal.at.loop-i-preserved c).After-left_slot-left t e).open_is,
+        c.cut_count-cuts_here.ensures ∙ (found (goal.at.loop-i-preserved c).After-left_slot-left t e).cuts_is,
+      )),
+  simp length-set (omega (arith, length-set c.args.sizes.now 0 0)),
+  simp length-set (omega (arith, length-set c.args.opens.now 0 0)),
+  simp length-set (omega (arith, length-set c.args.cuts.now 0 0)),
+)
+
+pub returns : goal.returns
+returns c =
+    let all : c.loop-i.i ≡ length c.args.labels.now = omega arith in
+    rw (← all) c.loop-i.invariant.2
