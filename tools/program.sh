@@ -81,6 +81,11 @@ main() {
     fi
     case ${said##*$'\n'} in
     '') exit "$status" ;;
+    'standard output: Broken pipe')
+        # Nobody reads its output any more, and it was told so as a failed write: the script ends as by that signal.
+        kill -s PIPE $$
+        fail "$said"
+        ;;
     refused*)
         printf '%s\n' "$said" >&2
         exit 1
