@@ -1,6 +1,5 @@
 -- `sweeping::sweep::pass` meets its contract: masked by 1, the word shifted down is its bit, which shifted up stays
 -- within 64 bits.
-use borrow.Author.Rules.{rules}
 use mathlib.Core.Path.{◌≡◌, ap, ◌∙◌}
 use Prim.Native.Nat.{ℕ, ◌*◌, ◌/◌, ◌%◌, ◌^◌, ◌<◌}
 use native.Mathlib.Nat.{mod-lt}
@@ -9,24 +8,15 @@ use lib.Bits.{bit_and, bit_or, and_mask}
 use lib.Pow.{shl_exact}
 use Rattle.tables.specs.Words.{word_bits}
 use Rattle.sweeping.specs.Swept.{passed}
-use Rattle.sweeping.proofs.sweep.pass.Statement.{statement}
-use Rattle.sweeping.proofs.sweep.pass.Tie as tie
-
-shr-result : tie.Need-overflow-shr-result
-shr-result c = search rules
-
-shl-result : tie.Need-overflow-shl-result
-shl-result c = search rules
+use Rattle.sweeping.proofs.sweep.pass.Goals as goal
 
 shifted : (v to : ℕ) → to < word_bits → (bit_and v 1 * 2 ^ to) % 2 ^ word_bits ≡ v % 2 * 2 ^ to
 shifted v to h =
     ap (λ (n : ℕ). (n * 2 ^ to) % 2 ^ word_bits) (and_mask v 1)
     ∙ shl_exact {a = v % 2} 1 to word_bits (mod-lt v {m = 2} (omega arith)) (omega arith)
 
-returns : tie.Need-returns
+pub returns : goal.returns
 unfolding passed
-returns c = ap (λ (n : ℕ). bit_or c.args.word n)
+returns c =
+    ap (λ (n : ℕ). bit_or c.args.word n)
     (shifted (c.args.other / 2 ^ c.args.from) c.args.to c.requires.1)
-
-pub pass_spec : {M : Type 1} → statement M
-pass_spec = tie.close (tie.spec shr-result shl-result returns)
