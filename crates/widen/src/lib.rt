@@ -1,4 +1,6 @@
 // Lists of the old layout, with eight bytes a record, turned into lists of today's, with the place 0 in every record.
+#![tactic(auto)]
+
 ghost use Rattle.std.specs.Prelude.{◌*◌, ◌≤◌, ◌<◌, ◌≡◌, ◌++◌, length, drop};
 ghost use Rattle.tree.specs.Limits.{most_records};
 ghost use Rattle.tree.specs.Layout.{record_size};
