@@ -63,7 +63,7 @@ fn beside() -> Result<PathBuf, String> {
     directory.join(ARCHIVE).is_file().then_some(directory).ok_or_else(|| {
         format!(
             "there is no {ARCHIVE}. Set FOAMLATTICE_LIB to the directory that has it; or put the Rattle kit (`rt`) on the path, \
-             and it is proved and made in target/staticlib of the repository, as by `rt staticlib foamlattice`"
+             and it is proved and made in target/staticlib of the repository, as by `tools/build foamlattice`"
         )
     })
 }

@@ -15,8 +15,27 @@ const DECISIONS: &str = "docs/DECISIONS.md";
 const BEGIN: &str = "<!-- made by tests/definitions/run -->\n";
 const END: &str = "<!-- end -->\n";
 
+/// The calls of the outside interface, which are exported under these names.
+const CALLS: [&str; 15] = [
+    "foam_check",
+    "foam_check2",
+    "foam_read",
+    "foam_read2",
+    "foam_match",
+    "foam_search",
+    "foam_start",
+    "foam_step",
+    "foam_steps",
+    "foam_lines",
+    "foam_lines_table",
+    "foam_table",
+    "foam_match_table",
+    "foam_widen",
+    "foam_pick",
+];
+
 /// The functions that make up the product, by their source files.
-const ENTRY_POINTS: [(&str, &[&str]); 14] = [
+const ENTRY_POINTS: [(&str, &[&str]); 15] = [
     ("deciding/src/good.rt", &["decide"]),
     ("widen/src/lib.rt", &["widen"]),
     ("checker/src/lib.rt", &["check", "check_second"]),
@@ -30,26 +49,8 @@ const ENTRY_POINTS: [(&str, &[&str]); 14] = [
     ("picker/src/lib.rt", &["pick"]),
     ("showing/src/lib.rt", &["refusal"]),
     ("explaining/src/lib.rt", &["explain"]),
-    (
-        "foamlattice/src/lib.rt",
-        &[
-            "foam_check",
-            "foam_check2",
-            "foam_read",
-            "foam_read2",
-            "foam_match",
-            "foam_search",
-            "foam_start",
-            "foam_step",
-            "foam_steps",
-            "foam_lines",
-            "foam_lines_table",
-            "foam_table",
-            "foam_match_table",
-            "foam_widen",
-            "foam_pick",
-        ],
-    ),
+    ("foamlattice/src/lib.rt", &CALLS),
+    ("foamlattice_c/src/lib.rt", &CALLS),
 ];
 
 /// The crates, lowest first.

@@ -27,12 +27,15 @@ fn words(line: &str) -> impl Iterator<Item = &str> {
     line.split(|c: char| c.is_whitespace() || "(){}[],;.".contains(c)).filter(|w| !w.is_empty())
 }
 
-/// The names that `use CRATE.specs.FILE.{a, b as c};` brings in, under the names that they get.
+/// The names that `use Rattle.CRATE.specs.FILE.{a, b as c}` brings in, under the names that they get.
 fn brought(text: &str) -> BTreeMap<String, Name> {
     let mut names = BTreeMap::new();
-    for part in text.split("use Rattle·").skip(1) {
+    for part in text.split("use Rattle.").skip(1) {
         let Some((from, list)) = part.split('}').next().and_then(|p| p.split_once(".{")) else { continue };
-        let path = from.replacen("·specs", "", 1).replacen(".specs.", "/specs/", 1).replace('.', "/") + ".antt";
+        if from.contains(char::is_whitespace) {
+            continue;
+        }
+        let path = from.replace('.', "/") + ".antt";
         for name in list.split(',').map(str::trim).filter(|n| !n.is_empty()) {
             let (here, there) = name.split_once(" as ").map_or((name, name), |(there, here)| (here, there));
             names.insert(here.to_string(), (path.clone(), there.to_string()));

@@ -1,47 +1,22 @@
 -- What is drawn from a written tree: its classes are counted and numbered, and a drawn outcome tells the scanner's.
-use Rattle.std.specs.Prelude.{ℕ, zero, suc, ◌+◌, ◌*◌, ◌≤◌, ◌<◌, ◌≡◌, refl, Bool, true, false, ◌↔◌, List, [], ◌∷◌, ◌++◌, length, get_or}
+use Rattle.std.specs.Prelude.{ℕ, zero, suc, ◌+◌, ◌*◌, ◌≤◌, ◌<◌, ◌≡◌, refl, ◌↔◌, List, [], ◌∷◌, ◌++◌, length, get_or}
 use Rattle.std.proofs.Common.{ap, sym, ◌∙◌, arith, length-append}
 use Rattle.language.specs.Tree.{Tree, leaf, catenation, union, star, nodes}
 use Rattle.language.specs.SignedTree.{SignedTree}
 use Rattle.language.specs.WithLeaves.{EveryLeaf, EverySignedLeaf}
-use Rattle.language.specs.WithLeavesLaws.{every_stands_for}
+use Rattle.language.proofs.WithLeavesLaws.{every_stands_for}
 use Rattle.tree.specs.Limits.{longest_expression, most_labels}
 use Rattle.tree.specs.Leaf.{Leaf}
 use Rattle.tree.specs.Records.{class_numbers, class_count, Ranked}
-use Rattle.operands.specs.Bytes.{Syntax, first, second, sign_of}
-use Rattle.operands.specs.Signs.{Means, sign_means}
+use Rattle.operands.specs.Bytes.{Syntax, first, second}
+use Rattle.operands.specs.Signs.{sign_means}
 use Rattle.operands.specs.Scanner.{Atom, literal, one_of, no_text, Outcome, tree, refused}
 use Rattle.checker.specs.Expanded.{expansion, expanded}
-use Rattle.operands.specs.Grammar.{
-  Level,
-  Spells,
-  Written,
-  itself,
-  escaped,
-  any_but_line_end,
-  bracketed,
-  group,
-  no_sign,
-  one_star,
-  one_or_more,
-  none_or_one,
-  so_many,
-  one_factor,
-  next_factor,
-  one_branch,
-  next_branch,
-}
+use Rattle.operands.specs.Grammar.{Level, Spells, itself, escaped, any_but_line_end, bracketed, group, no_sign, one_star, one_or_more, none_or_one, so_many, one_factor, next_factor, one_branch, next_branch}
 use Rattle.operands.specs.Sound.{no_tree}
 use Rattle.operands.specs.FirstSyntax.{first_size}
 use Rattle.operands.specs.Agree.{Refusal}
-use Rattle.checker.specs.ExpandedLaws.{
-  WrittenTree,
-  TreeRefusal,
-  expanded_exactly,
-  expanded_refusal,
-  first_refusal,
-  expanded_size,
-}
+use Rattle.checker.specs.ExpandedLaws.{WrittenTree, TreeRefusal, expanded_exactly, expanded_refusal, first_refusal}
 use Rattle.checker.specs.Drawn.{classes_of, classes_in, recorded, recorded_from, drawn}
 use Rattle.checker.specs.OneShape.{nodes_recorded}
 
@@ -118,6 +93,7 @@ no_classes (leaf no_text) each = refl
 no_classes (catenation s t) each = rw (no_classes s each.0, no_classes t each.1)
 no_classes (union s t) each = rw (no_classes s each.0, no_classes t each.1)
 no_classes (star s) each = no_classes s each
+no_classes (leaf (one_of _)) each = elim each [ ]
 
 -- the two syntaxes are two
 neither : first ≡ second → ⊥

@@ -1,6 +1,6 @@
 -- When an expression has a tree, and when it is refused by its bytes alone: exactly by the scanner's faults, and else
 -- by 17 where the tree that its signs stand for has more than 2,047 nodes. In the first syntax 17 is never given.
-use Rattle.std.specs.Prelude.{ℕ, ◌+◌, ◌*◌, ◌≤◌, ◌<◌, ◌≡◌, refl, Bool, true, false, cond, ◌↔◌, ◌⊎◌, List, length, ltb}
+use Rattle.std.specs.Prelude.{ℕ, ◌≤◌, ◌<◌, ◌≡◌, refl, Bool, true, false, cond, ◌↔◌, ◌⊎◌, List, length, ltb}
 use Rattle.std.proofs.Common.{ap, sym, ◌∙◌, inl, inr, ⊎_elim, arith, ltb-true, ltb-false, lt-ltb, le-ltb}
 use Rattle.language.specs.Tree.{Tree, nodes}
 use Rattle.language.specs.SignedTree.{SignedTree}

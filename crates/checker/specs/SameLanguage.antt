@@ -7,7 +7,7 @@ use Rattle.std.proofs.Math.ListN.{get_or-append}
 use Rattle.language.specs.Tree.{Tree, leaf, catenation, union, star}
 use Rattle.language.specs.Language.{Language, Repeated, none, more}
 use Rattle.language.specs.SignedTree.{SignedTree, WellCounted}
-use Rattle.language.specs.SameTexts.{same_texts}
+use Rattle.language.proofs.SameTexts.{same_texts}
 use Rattle.tree.specs.Leaf.{Leaf, meaning, Matches}
 use Rattle.tree.specs.Layout.{class_record_size}
 use Rattle.tree.specs.Cut.{one}

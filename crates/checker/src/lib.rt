@@ -1,5 +1,7 @@
 // Checks an expression and counts its records, pieces and classes, with no buffer lent: two syntaxes, the second with
 // the dot, classes, `+`, `?` and counts.
+#![tactic(auto)]
+
 pub mod answer;
 pub mod count;
 

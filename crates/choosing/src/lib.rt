@@ -1,5 +1,7 @@
 // Texts over the rows of a list's pieces: by a table of steps, where the texts are long enough to pay for it and it
 // fits, and by marks otherwise.
+#![tactic(auto)]
+
 ghost use Rattle.std.specs.Prelude.{ℕ, ◌≡◌, true, ◌↔◌};
 ghost use Rattle.language.specs.Tree.{Tree};
 ghost use Rattle.tree.specs.Leaf.{Leaf, Matches};

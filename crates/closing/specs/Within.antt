@@ -1,5 +1,5 @@
 -- Closing looks only at states that there are, and no mark is lost by a sweep.
-use Rattle.std.specs.Prelude.{ℕ, ◌≡◌, refl, ◌⊎◌}
+use Rattle.std.specs.Prelude.{◌≡◌, refl, ◌⊎◌}
 use Rattle.std.proofs.Common.{subst, inl, inr, ⊎_elim}
 use Rattle.language.specs.Automaton.{State, start, accepting, left, right, States, PathOf, here, step}
 use Rattle.language.specs.Nested.{
@@ -18,7 +18,8 @@ use Rattle.language.specs.Nested.{
   OwnEmpty,
   OwnClosed,
 }
-use Rattle.language.specs.Same.{MoreIn, closed_more_in}
+use Rattle.language.specs.Same.{MoreIn}
+use Rattle.language.proofs.Same.{closed_more_in}
 use Rattle.tree.specs.Leaf.{Leaf, byteless}
 use Rattle.tables.specs.Words.{Own}
 use Rattle.closing.specs.Passes.Transitions.{transition_own}

@@ -1,5 +1,5 @@
 -- Closed words of a piece: closing again changes nothing, and no marks are closed.
-use Rattle.std.specs.Prelude.{ℕ, ◌*◌, ◌^◌, ◌<◌}
+use Rattle.std.specs.Prelude.{ℕ}
 use Rattle.std.proofs.Common.{pow_pos}
 use Rattle.language.specs.Automaton.{here}
 use Rattle.language.specs.Nested.{Nested}

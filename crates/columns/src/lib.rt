@@ -1,4 +1,6 @@
 // Which bytes share a column of a table of steps: those that no leaf tells apart.
+#![tactic(auto)]
+
 pub mod columns;
 mod parting;
 

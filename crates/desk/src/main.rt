@@ -1,11 +1,14 @@
 // The desk's own trial: each line of standard input is an expression, and is tried on the end of February, on all 366
 // dates and on texts that are no dates; the dates that the first picks are listed.
+#![tactic(auto)]
+
 mod date;
 mod trial;
 
 ghost use Rattle.std.specs.Prelude.{◌≤◌, length};
 
-use libc::STDIN_FILENO;
+use std::io;
+use streams::{Input, read_input};
 use trial::trial;
 
 // Where the line that starts at `start` ends.
@@ -22,17 +25,21 @@ fn line_end(input: &[u8], start: usize) -> usize
 }
 
 // Tries each line's expression; what the first picks is listed.
-fn each_line(input: &[u8]) {
+fn each_line(rt: &impl Print, input: &[u8]) -> io::Result<()> {
     let mut start = 0;
     while start < input.len() {
         let end = line_end(input, start);
-        trial(&input[start..end], start == 0);
+        trial(rt, &input[start..end], start == 0)?;
         start = end + 1;
     }
+    Ok(())
 }
 
-fn main() {
-    let mut input = io::large_buffer();
-    let n = io::read_full(STDIN_FILENO, &mut input);
-    each_line(&input[..n]);
+fn main(rt: HostRuntime) -> io::Result<()> {
+    let mut stdin = rt.stdin();
+    let mut input = [0u8; 65536];
+    match read_input(&mut stdin, &mut input) {
+        Input::Read { count } => each_line(&rt, &input[..count]),
+        Input::Failed { error } => Err(error),
+    }
 }

@@ -3,8 +3,8 @@ ghost use Rattle.std.specs.Prelude.{◌+◌, ◌≤◌, ◌<◌, ◌≡◌, leng
 
 use crate::date::{FIRST, changed, next_date, text_of};
 use finder::Matched;
-use libc::STDOUT_FILENO;
 use reader::ReadAnswer;
+use std::io;
 use tree::layout::RECORD_SIZE;
 use tree::limits::MOST_RECORDS;
 
@@ -16,12 +16,12 @@ const LOWEST_BIT: u8 = 1;
 
 const HIGHEST_BIT: u8 = 128;
 
-fn say(text: &[u8]) {
-    io::write_all(STDOUT_FILENO, text);
+fn say(rt: &impl Print, text: &[u8]) -> io::Result<()> {
+    rt.write_all(text)
 }
 
-fn say_number(number: u64) {
-    io::print_decimal(STDOUT_FILENO, number);
+fn say_number(rt: &impl Print, number: u64) -> io::Result<()> {
+    print!(rt; "{number}")
 }
 
 // Whether the list's language has the text.
@@ -45,33 +45,33 @@ fn picks_changed(list: &[u8], date: usize, at: usize, bit: u8) -> bool {
 }
 
 // A name, and whether its text is picked.
-fn say_picked(name: &[u8], list: &[u8], text: &[u8]) {
-    say(name);
+fn say_picked(rt: &impl Print, name: &[u8], list: &[u8], text: &[u8]) -> io::Result<()> {
+    say(rt, name)?;
     if picks(list, text) {
-        say(b" yes");
+        say(rt, b" yes")
     } else {
-        say(b" no");
+        say(rt, b" no")
     }
 }
 
 // The three dates that once were told apart wrongly.
-fn say_end_of_february(list: &[u8]) {
-    say_picked(b"02-28", list, b"02-28");
-    say_picked(b", 02-29", list, b"02-29");
-    say_picked(b", 03-01", list, b"03-01");
-    say(b"\n");
+fn say_end_of_february(rt: &impl Print, list: &[u8]) -> io::Result<()> {
+    say_picked(rt, b"02-28", list, b"02-28")?;
+    say_picked(rt, b", 02-29", list, b"02-29")?;
+    say_picked(rt, b", 03-01", list, b"03-01")?;
+    say(rt, b"\n")
 }
 
 // Texts that look like dates and are none.
-fn say_no_dates(list: &[u8]) {
-    say_picked(b"02-30", list, b"02-30");
-    say_picked(b", 04-31", list, b"04-31");
-    say_picked(b", 13-01", list, b"13-01");
-    say_picked(b", 00-10", list, b"00-10");
-    say_picked(b", 2-29", list, b"2-29");
-    say_picked(b", 02-299", list, b"02-299");
-    say_picked(b", an empty line", list, b"");
-    say(b"\n");
+fn say_no_dates(rt: &impl Print, list: &[u8]) -> io::Result<()> {
+    say_picked(rt, b"02-30", list, b"02-30")?;
+    say_picked(rt, b", 04-31", list, b"04-31")?;
+    say_picked(rt, b", 13-01", list, b"13-01")?;
+    say_picked(rt, b", 00-10", list, b"00-10")?;
+    say_picked(rt, b", 2-29", list, b"2-29")?;
+    say_picked(rt, b", 02-299", list, b"02-299")?;
+    say_picked(rt, b", an empty line", list, b"")?;
+    say(rt, b"\n")
 }
 
 // How many are picked, after one more text.
@@ -105,41 +105,42 @@ fn pick_dates(list: &[u8], places: &mut [u64]) -> u64
 }
 
 // A line for a date that was picked.
-fn say_date(place: u64, date: usize) {
+fn say_date(rt: &impl Print, place: u64, date: usize) -> io::Result<()> {
     if place == 0 {
-        return;
+        return Ok(());
     }
-    say_number(place);
-    say(b" ");
+    say_number(rt, place)?;
+    say(rt, b" ")?;
     let text = text_of(date);
-    say(&text);
-    say(b"\n");
+    say(rt, &text)?;
+    say(rt, b"\n")
 }
 
 // A line for each date that was picked.
-fn list_dates(places: &[u64]) {
+fn list_dates(rt: &impl Print, places: &[u64]) -> io::Result<()> {
     let mut date = FIRST;
     let mut k = 0;
     while k < places.len() {
-        say_date(places[k], date);
+        say_date(rt, places[k], date)?;
         date = next_date(date);
         k += 1;
     }
+    Ok(())
 }
 
 // All dates: how many are picked, and the places of 29 February and 1 March.
-fn say_dates(list: &[u8], listed: bool) {
+fn say_dates(rt: &impl Print, list: &[u8], listed: bool) -> io::Result<()> {
     let mut places = [0u64; DATES];
     let picked = pick_dates(list, &mut places);
     if listed {
-        list_dates(&places);
+        list_dates(rt, &places)?;
     }
-    say_number(picked);
-    say(b" of 366 dates, 02-29 is ");
-    say_number(places[59]);
-    say(b", 03-01 is ");
-    say_number(places[60]);
-    say(b"\n");
+    say_number(rt, picked)?;
+    say(rt, b" of 366 dates, 02-29 is ")?;
+    say_number(rt, places[59])?;
+    say(rt, b", 03-01 is ")?;
+    say_number(rt, places[60])?;
+    say(rt, b"\n")
 }
 
 // How many of the dates are picked when one bit of the byte at a place is changed in each.
@@ -156,49 +157,48 @@ fn picked_when_changed(list: &[u8], at: usize, bit: u8) -> u64 {
     picked
 }
 
-fn say_changed_at(list: &[u8], at: usize, bit: u8) {
-    say_number(picked_when_changed(list, at, bit));
-    say(b" ");
+fn say_changed_at(rt: &impl Print, list: &[u8], at: usize, bit: u8) -> io::Result<()> {
+    say_number(rt, picked_when_changed(list, at, bit))?;
+    say(rt, b" ")
 }
 
 // The dates with one bit changed: how many are picked, for each of their five bytes.
-fn say_changed(list: &[u8], bit: u8) {
-    say_changed_at(list, 0, bit);
-    say_changed_at(list, 1, bit);
-    say_changed_at(list, 2, bit);
-    say_changed_at(list, 3, bit);
-    say_changed_at(list, 4, bit);
+fn say_changed(rt: &impl Print, list: &[u8], bit: u8) -> io::Result<()> {
+    say_changed_at(rt, list, 0, bit)?;
+    say_changed_at(rt, list, 1, bit)?;
+    say_changed_at(rt, list, 2, bit)?;
+    say_changed_at(rt, list, 3, bit)?;
+    say_changed_at(rt, list, 4, bit)
 }
 
 // Tries a list on everything, the dates that matter most first.
-fn try_list(list: &[u8], pieces: usize, listed: bool) {
-    say_number(pieces as u64);
-    say(b" pieces\n");
-    say_end_of_february(list);
-    say_dates(list, listed);
-    say_no_dates(list);
-    say_changed(list, LOWEST_BIT);
-    say(b"of 366 with the lowest bit of a byte changed\n");
-    say_changed(list, HIGHEST_BIT);
-    say(b"of 366 with the highest bit of a byte changed\n");
+fn try_list(rt: &impl Print, list: &[u8], pieces: usize, listed: bool) -> io::Result<()> {
+    say_number(rt, pieces as u64)?;
+    say(rt, b" pieces\n")?;
+    say_end_of_february(rt, list)?;
+    say_dates(rt, list, listed)?;
+    say_no_dates(rt, list)?;
+    say_changed(rt, list, LOWEST_BIT)?;
+    say(rt, b"of 366 with the lowest bit of a byte changed\n")?;
+    say_changed(rt, list, HIGHEST_BIT)?;
+    say(rt, b"of 366 with the highest bit of a byte changed\n")
 }
 
 // How many bytes so many records have.
-fn bytes_of(records: usize) -> isize {
+fn bytes_of(records: usize) -> usize {
     if records > MOST_RECORDS {
         return 0;
     }
-    (RECORD_SIZE * records) as isize
+    RECORD_SIZE * records
 }
 
 // Reads an expression and tries it; lists what dates it picks where that is asked.
-pub fn trial(expr: &[u8], listed: bool) {
+pub fn trial(rt: &impl Print, expr: &[u8], listed: bool) -> io::Result<()> {
     let mut list = [0u8; RECORD_SIZE * MOST_RECORDS];
     let answer = reader::read(expr, &mut list);
     let ReadAnswer::Read { records, pieces } = answer else {
-        say(b"refused\n");
-        return;
+        return say(rt, b"refused\n");
     };
-    let n = io::count(bytes_of(records), &list);
-    try_list(&list[..n], pieces, listed);
+    let n = bytes_of(records).min(list.len());
+    try_list(rt, &list[..n], pieces, listed)
 }

@@ -1,4 +1,6 @@
 // A rule and its records drawn: the rule, a mark under each place that made a node, and a line for each record.
+#![tactic(auto)]
+
 pub mod depth;
 pub mod marks;
 

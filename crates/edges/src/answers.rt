@@ -6,71 +6,75 @@ use marks::MarksAnswer;
 use marks::numbers::numbers_of;
 use reader::ReadAnswer;
 use saying::{refused, say, say_number, say_yes};
+use std::io;
 
-fn say_counts(records: usize, pieces: usize) {
-    say(b"records ");
-    say_number(records as u64);
-    say(b", pieces ");
-    say_number(pieces as u64);
+fn say_counts(rt: &impl Print, records: usize, pieces: usize) -> io::Result<()> {
+    say(rt, b"records ")?;
+    say_number(rt, records as u64)?;
+    say(rt, b", pieces ")?;
+    say_number(rt, pieces as u64)
 }
 
-pub fn say_read(answer: ReadAnswer) {
+pub fn say_read(rt: &impl Print, answer: ReadAnswer) -> io::Result<()> {
     match answer {
-        ReadAnswer::Read { records, pieces } => say_counts(records, pieces),
+        ReadAnswer::Read { records, pieces } => say_counts(rt, records, pieces),
         ReadAnswer::Refused { number, place } => {
-            refused(number, place);
+            refused(rt, number, place)?;
+            Ok(())
         }
     }
 }
 
-pub fn say_counted(answer: CountedAnswer) {
+pub fn say_counted(rt: &impl Print, answer: CountedAnswer) -> io::Result<()> {
     match answer {
         CountedAnswer::Counted {
             records,
             pieces,
             classes,
         } => {
-            say_counts(records, pieces);
-            say(b", classes ");
-            say_number(classes as u64);
+            say_counts(rt, records, pieces)?;
+            say(rt, b", classes ")?;
+            say_number(rt, classes as u64)
         }
         CountedAnswer::Refused { number, place } => {
-            refused(number, place);
+            refused(rt, number, place)?;
+            Ok(())
         }
     }
 }
 
-pub fn say_matched(matched: Matched) {
+pub fn say_matched(rt: &impl Print, matched: Matched) -> io::Result<()> {
     let numbers = match_numbers(matched);
-    if !refused(numbers.refusal, numbers.place) {
-        say_yes(numbers.matched);
+    if refused(rt, numbers.refusal, numbers.place)? {
+        return Ok(());
     }
+    say_yes(rt, numbers.matched)
 }
 
-fn say_part(start: usize, end: usize) {
-    say(b"start ");
-    say_number(start as u64);
-    say(b", end ");
-    say_number(end as u64);
+fn say_part(rt: &impl Print, start: usize, end: usize) -> io::Result<()> {
+    say(rt, b"start ")?;
+    say_number(rt, start as u64)?;
+    say(rt, b", end ")?;
+    say_number(rt, end as u64)
 }
 
-pub fn say_searched(searched: Searched) {
+pub fn say_searched(rt: &impl Print, searched: Searched) -> io::Result<()> {
     let numbers = search_numbers(searched);
-    if refused(numbers.refusal, numbers.place) {
-        return;
+    if refused(rt, numbers.refusal, numbers.place)? {
+        return Ok(());
     }
     if numbers.matched {
-        say_part(numbers.start, numbers.end);
+        say_part(rt, numbers.start, numbers.end)
     } else {
-        say(b"nothing");
+        say(rt, b"nothing")
     }
 }
 
 // What a start or a step answered.
-pub fn say_marks(answer: MarksAnswer) {
+pub fn say_marks(rt: &impl Print, answer: MarksAnswer) -> io::Result<()> {
     let numbers = numbers_of(answer);
-    if !refused(numbers.refusal, numbers.place) {
-        say_yes(numbers.accepting);
+    if !refused(rt, numbers.refusal, numbers.place)? {
+        say_yes(rt, numbers.accepting)?;
     }
-    say(b", marks");
+    say(rt, b", marks")
 }

@@ -7,6 +7,7 @@ use fields::between;
 use marks::MarksAnswer;
 use reader::ReadAnswer;
 use saying::{say, say_bytes, say_words};
+use std::io;
 use tree::layout::{CLASS_RECORD_SIZE, RECORD_SIZE};
 use tree::limits::{MOST_PIECES, MOST_RECORDS};
 
@@ -26,43 +27,48 @@ fn at_most(n: usize, most: usize) -> usize
 }
 
 // Reads into the first bytes of a buffer, in the first syntax.
-fn read_into(expr: &[u8], list: &mut [u8], room: usize)
+fn read_into(rt: &impl Print, expr: &[u8], list: &mut [u8], room: usize) -> io::Result<()>
     requires { room ≤ length list.old }
 {
-    say_read(reader::read(expr, &mut list[..room]));
+    say_read(rt, reader::read(expr, &mut list[..room]))
 }
 
 // Reads into so many bytes.
-pub fn read_first(expr: &[u8], room: usize) {
+pub fn read_first(rt: &impl Print, expr: &[u8], room: usize) -> io::Result<()> {
     let mut list = [0u8; LONGEST_LIST];
-    read_into(expr, &mut list, at_most(room, LONGEST_LIST));
+    read_into(rt, expr, &mut list, at_most(room, LONGEST_LIST))
 }
 
 // Reads into the first bytes of two buffers, in the second syntax.
 fn read_second_into(
+    rt: &impl Print,
     expr: &[u8],
     list: &mut [u8],
     room: usize,
     classes: &mut [u8],
     class_room: usize,
-)
+) -> io::Result<()>
     requires room_in_bounds { room ≤ length list.old }
     requires class_room_in_bounds { class_room ≤ length classes.old }
 {
-    say_counted(reader::read_second(expr, &mut list[..room], &mut classes[..class_room]));
+    say_counted(
+        rt,
+        reader::read_second(expr, &mut list[..room], &mut classes[..class_room]),
+    )
 }
 
 // Reads into so many bytes and so many for the classes.
-pub fn read_second(expr: &[u8], room: usize, class_room: usize) {
+pub fn read_second(rt: &impl Print, expr: &[u8], room: usize, class_room: usize) -> io::Result<()> {
     let mut list = [0u8; LONGEST_LIST];
     let mut classes = [0u8; LONGEST_CLASSES];
     read_second_into(
+        rt,
         expr,
         &mut list,
         at_most(room, LONGEST_LIST),
         &mut classes,
         at_most(class_room, LONGEST_CLASSES),
-    );
+    )
 }
 
 // Starts, and steps along each byte of the text; answers what the last of these answered.
@@ -77,50 +83,72 @@ fn walk(list: &[u8], classes: &[u8], words: &mut [u64], text: &[u8]) -> MarksAns
 }
 
 // What the start and the steps along a text answer, and the first words then.
-fn say_walk(list: &[u8], classes: &[u8], words: &mut [u64], text: &[u8], shown: usize) {
-    say_marks(walk(list, classes, words, text));
-    say_words(words, shown);
+fn say_walk(
+    rt: &impl Print,
+    list: &[u8],
+    classes: &[u8],
+    words: &mut [u64],
+    text: &[u8],
+    shown: usize,
+) -> io::Result<()> {
+    say_marks(rt, walk(list, classes, words, text))?;
+    say_words(rt, words, shown)
 }
 
 // The words, what a step along `a` from them answers, and the words then.
-fn say_step(list: &[u8], classes: &[u8], words: &mut [u64]) {
-    say_words(words, words.len());
-    say(b": ");
-    say_marks(marks::step(list, classes, words, b'a'));
-    say_words(words, words.len());
+fn say_step(rt: &impl Print, list: &[u8], classes: &[u8], words: &mut [u64]) -> io::Result<()> {
+    say_words(rt, words, words.len())?;
+    say(rt, b": ")?;
+    say_marks(rt, marks::step(list, classes, words, b'a'))?;
+    say_words(rt, words, words.len())
 }
 
 // Marks: the numbers are how many words are lent, how many are shown, and these words.
-fn by_words(call: u8, list: &[u8], classes: &[u8], text: &[u8], numbers: &mut [u64]) {
+fn by_words(
+    rt: &impl Print,
+    call: u8,
+    list: &[u8],
+    classes: &[u8],
+    text: &[u8],
+    numbers: &mut [u64],
+) -> io::Result<()> {
     if numbers.len() < MOST_NUMBERS {
-        return;
+        return Ok(());
     }
     let lent = at_most(numbers[0] as usize, MOST_PIECES);
     let shown = numbers[1] as usize;
     let words = &mut numbers[2..lent + 2];
     if call == b'w' {
-        say_walk(list, classes, words, text, shown);
+        say_walk(rt, list, classes, words, text, shown)
     } else {
-        say_step(list, classes, words);
+        say_step(rt, list, classes, words)
     }
 }
 
 // The bytes of a list and of its classes.
-fn say_list(list: &[u8], classes: &[u8]) {
-    say_bytes(list);
+fn say_list(rt: &impl Print, list: &[u8], classes: &[u8]) -> io::Result<()> {
+    say_bytes(rt, list)?;
     if classes.len() > 0 {
-        say(b", classes");
-        say_bytes(classes);
+        say(rt, b", classes")?;
+        say_bytes(rt, classes)?;
     }
+    Ok(())
 }
 
 // A call by a list with these classes: matches, searches, shows its bytes, walks from a start, or steps.
-pub fn by_list(call: u8, list: &[u8], classes: &[u8], text: &[u8], numbers: &mut [u64]) {
+pub fn by_list(
+    rt: &impl Print,
+    call: u8,
+    list: &[u8],
+    classes: &[u8],
+    text: &[u8],
+    numbers: &mut [u64],
+) -> io::Result<()> {
     match call {
-        b'm' => say_matched(finder::is_match(list, classes, text)),
-        b's' => say_searched(finder::search(list, classes, text)),
-        b'b' => say_list(list, classes),
-        _ => by_words(call, list, classes, text, numbers),
+        b'm' => say_matched(rt, finder::is_match(list, classes, text)),
+        b's' => say_searched(rt, finder::search(list, classes, text)),
+        b'b' => say_list(rt, list, classes),
+        _ => by_words(rt, call, list, classes, text, numbers),
     }
 }
 
@@ -143,22 +171,35 @@ fn class_bytes(count: usize) -> usize {
 }
 
 // A call by the list of an expression of the first syntax.
-pub fn by_first(call: u8, expr: &[u8], text: &[u8], numbers: &mut [u64]) {
+pub fn by_first(
+    rt: &impl Print,
+    call: u8,
+    expr: &[u8],
+    text: &[u8],
+    numbers: &mut [u64],
+) -> io::Result<()> {
     let mut list = [0u8; LONGEST_LIST];
     let ReadAnswer::Read { records, pieces: _ } = reader::read(expr, &mut list) else {
-        return;
+        return Ok(());
     };
     by_list(
+        rt,
         call,
         between(&list, 0, record_bytes(records)),
         b"",
         text,
         numbers,
-    );
+    )
 }
 
 // The same of the second syntax.
-pub fn by_second(call: u8, expr: &[u8], text: &[u8], numbers: &mut [u64]) {
+pub fn by_second(
+    rt: &impl Print,
+    call: u8,
+    expr: &[u8],
+    text: &[u8],
+    numbers: &mut [u64],
+) -> io::Result<()> {
     let mut list = [0u8; LONGEST_LIST];
     let mut classes = [0u8; LONGEST_CLASSES];
     let answer = reader::read_second(expr, &mut list, &mut classes);
@@ -168,9 +209,9 @@ pub fn by_second(call: u8, expr: &[u8], text: &[u8], numbers: &mut [u64]) {
         classes: count,
     } = answer
     else {
-        return;
+        return Ok(());
     };
     let part = between(&list, 0, record_bytes(records));
     let class_part = between(&classes, 0, class_bytes(count));
-    by_list(call, part, class_part, text, numbers);
+    by_list(rt, call, part, class_part, text, numbers)
 }

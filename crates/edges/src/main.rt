@@ -1,13 +1,19 @@
 // Both sides of each limit and refusal of docs/REFERENCE.md: what is refused and what is not, a line each. Standard
 // input is a table of the cases: each row gives what is printed first, what is called, and what is lent to it.
+#![tactic(auto)]
+
 mod answers;
 mod calls;
 mod rows;
 
-use libc::STDIN_FILENO;
+use std::io;
+use streams::{Input, read_input};
 
-fn main() {
-    let mut input = io::large_buffer();
-    let n = io::read_full(STDIN_FILENO, &mut input);
-    rows::each_row(&input[..n]);
+fn main(rt: HostRuntime) -> io::Result<()> {
+    let mut stdin = rt.stdin();
+    let mut input = [0u8; 65536];
+    match read_input(&mut stdin, &mut input) {
+        Input::Read { count } => rows::each_row(&rt, &input[..count]),
+        Input::Failed { error } => Err(error),
+    }
 }

@@ -1,4 +1,6 @@
 // The whole output of `explain`, from the bytes that it reads.
+#![tactic(auto)]
+
 ghost use Rattle.std.specs.Prelude.{◌≤◌, length};
 ghost use Rattle.printing.specs.Printing.{Prints};
 ghost use Rattle.explaining.specs.Explained.{explained_rule, most_explained};

@@ -4,7 +4,7 @@ use Rattle.std.proofs.Common.{sym, subst, arith}
 use Rattle.std.proofs.Math.Logic.Iff
 use Rattle.language.specs.Nested.{whole, origin}
 use Rattle.language.specs.Tree.{Tree}
-use Rattle.language.specs.Same.{models_same}
+use Rattle.language.proofs.Same.{models_same}
 use Rattle.tree.specs.Leaf.{Leaf}
 use Rattle.tree.specs.Pieces.{cut_up}
 use Rattle.tree.specs.Records.{piece_count}

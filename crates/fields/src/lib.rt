@@ -1,8 +1,11 @@
 // Rows of a table: fields with a tab between them. In a field `%` and two hex digits are a byte, and `~`, a number and
 // `;` are as many more of the byte before them.
+#![tactic(auto)]
+
 ghost use Rattle.std.specs.Prelude.{◌≤◌, ◌<◌, length};
 
 use saying::say;
+use std::io;
 
 // Where the first such byte stands from `start` on, or the end.
 pub fn end_at(bytes: &[u8], start: usize, stop: u8) -> usize
@@ -161,8 +164,8 @@ pub fn between(bytes: &[u8], start: usize, end: usize) -> &[u8] {
 }
 
 // Says the bytes of a field.
-pub fn say_field(bytes: &[u8], start: usize, end: usize) {
-    say(between(bytes, start, end));
+pub fn say_field(rt: &impl Print, bytes: &[u8], start: usize, end: usize) -> io::Result<()> {
+    say(rt, between(bytes, start, end))
 }
 
 // Puts a number at its place, where there is one; answers the next place.

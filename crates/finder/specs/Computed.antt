@@ -28,8 +28,8 @@ use Rattle.language.specs.Nested.{
 }
 use Rattle.language.specs.StateWalk.{Entered, First, Second, Walked, walked_keeps, walked_more}
 use Rattle.language.specs.TwoWalks.{two_walks_settle}
-use Rattle.language.specs.Visits.{sweep_walked, sweep_within}
-use Rattle.language.specs.Sweeps.{sweeps_start, sweeps_step}
+use Rattle.language.proofs.Visits.{sweep_walked, sweep_within}
+use Rattle.language.proofs.Sweeps.{sweeps_start, sweeps_step}
 
 -- a set of states that a test decides
 abbrev pub Test : Type 0

@@ -7,8 +7,8 @@ use Rattle.std.proofs.Math.Logic.Iff
 use Rattle.language.specs.Tree.{Tree}
 use Rattle.language.specs.Automaton.{State, States, accepting, Started, Stepped, After}
 use Rattle.language.specs.Nested.{Nested, whole, origin}
-use Rattle.language.specs.Acceptance.{accepts_exactly}
-use Rattle.language.specs.AlongText.{after_step, reached_state}
+use Rattle.language.proofs.Acceptance.{accepts_exactly}
+use Rattle.language.proofs.AlongText.{after_step, reached_state}
 use Rattle.language.specs.Models.{StateOf, models_origins}
 use Rattle.language.specs.Simulation.{◌⊆◌, stepped_more}
 use Rattle.tree.specs.Leaf.{Leaf, meaning}

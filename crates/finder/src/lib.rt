@@ -1,4 +1,6 @@
 // Whole-text match and search over good lists.
+#![tactic(auto)]
+
 pub mod numbers;
 
 ghost use Rattle.std.specs.Prelude.{◌/◌, ◌≤◌, ◌<◌, ◌≡◌, true, false, length};

@@ -4,7 +4,7 @@ use Rattle.std.specs.Prelude.{ℕ, ◌+◌, ◌≤◌, ◌≡◌, List}
 use Rattle.std.proofs.Common.{arith, ap, sym, ◌∙◌}
 use Rattle.tree.specs.Limits.{longest_text}
 use Rattle.finder.specs.Promise.{Refuses, not_good, too_few_classes, too_long}
-use Rattle.input.specs.LineLaws.{lines_count}
+use Rattle.input.proofs.LineLaws.{lines_count}
 use Rattle.tree.specs.RefusalNumbers.{table_too_short}
 use Rattle.lines.specs.Answer.{LinesNumbers}
 use Rattle.lines.specs.Promise.{LinesAnswers, lines_refused, lines_no_room, lines_answered}

@@ -1,5 +1,7 @@
-// The outside interface: reading, matching, searching, starting, stepping, picking and tables of steps for callers in C
-// and Rust, each of which answers one number.
+// The outside interface: reading, matching, searching, starting, stepping, picking and tables of steps, each of which
+// answers one number. The crate foamlattice_c exports each of these functions to callers in C and Rust.
+#![tactic(auto)]
+
 ghost use Rattle.std.specs.Prelude.{◌≡◌, length};
 ghost use Rattle.reader.specs.Answer.{read_answered, records_after};
 ghost use Rattle.checker.specs.Checked.{counted_numbers, checked};
@@ -46,8 +48,7 @@ use tree::refusal_numbers::{
 use widen::{Widened, widen};
 
 // Reads an expression of the first syntax into tree records.
-#[unsafe(no_mangle)]
-pub extern "C" fn foam_read(expression: &[u8], records: &mut [u8]) -> u64
+pub fn foam_read(expression: &[u8], records: &mut [u8]) -> u64
     ensures answer { result ≡ read_packed
         (read_answered expression.now (length records.old)) }
     ensures buffer { records.new ≡ records_after expression.now records.old }
@@ -75,8 +76,7 @@ fn pack_counted(answer: CountedAnswer) -> u64
 }
 
 // Checks an expression of the first syntax, with no buffer lent.
-#[unsafe(no_mangle)]
-pub extern "C" fn foam_check(expression: &[u8]) -> u64
+pub fn foam_check(expression: &[u8]) -> u64
     ensures { result ≡ second_packed (checked first expression.now) }
 {
     let answer = check(expression);
@@ -84,8 +84,7 @@ pub extern "C" fn foam_check(expression: &[u8]) -> u64
 }
 
 // Checks an expression of the second syntax, with no buffer lent.
-#[unsafe(no_mangle)]
-pub extern "C" fn foam_check2(expression: &[u8]) -> u64
+pub fn foam_check2(expression: &[u8]) -> u64
     ensures { result ≡ second_packed (checked second expression.now) }
 {
     let answer = check_second(expression);
@@ -93,8 +92,7 @@ pub extern "C" fn foam_check2(expression: &[u8]) -> u64
 }
 
 // Reads an expression of the second syntax into tree records and class records.
-#[unsafe(no_mangle)]
-pub extern "C" fn foam_read2(expression: &[u8], records: &mut [u8], classes: &mut [u8]) -> u64
+pub fn foam_read2(expression: &[u8], records: &mut [u8], classes: &mut [u8]) -> u64
     ensures answer { result ≡ second_packed (second_answered expression.now (length records.old)
         (length classes.old)) }
     ensures records { records.new ≡ second_records_after expression.now records.old
@@ -120,8 +118,7 @@ fn pack_found(numbers: FoundNumbers) -> u64
 }
 
 // Whether the whole text is in the language of the list's tree.
-#[unsafe(no_mangle)]
-pub extern "C" fn foam_match(records: &[u8], classes: &[u8], text: &[u8]) -> u64
+pub fn foam_match(records: &[u8], classes: &[u8], text: &[u8]) -> u64
     ensures { Matching records.now classes.now text.now result }
 {
     let answer = is_match(records, classes, text);
@@ -130,8 +127,7 @@ pub extern "C" fn foam_match(records: &[u8], classes: &[u8], text: &[u8]) -> u64
 }
 
 // The part of the text that starts earliest and then ends furthest, of those in the language of the list's tree.
-#[unsafe(no_mangle)]
-pub extern "C" fn foam_search(records: &[u8], classes: &[u8], text: &[u8]) -> u64
+pub fn foam_search(records: &[u8], classes: &[u8], text: &[u8]) -> u64
     ensures { Searching records.now classes.now text.now result }
 {
     let answer = search(records, classes, text);
@@ -153,8 +149,7 @@ fn pack_marked(numbers: marks::numbers::MarksNumbers) -> u64
 }
 
 // Writes the marks to start with.
-#[unsafe(no_mangle)]
-pub extern "C" fn foam_start(records: &[u8], classes: &[u8], words: &mut [u64]) -> u64
+pub fn foam_start(records: &[u8], classes: &[u8], words: &mut [u64]) -> u64
     ensures { Starting records.now classes.now words.old
         words.new result }
 {
@@ -164,8 +159,7 @@ pub extern "C" fn foam_start(records: &[u8], classes: &[u8], words: &mut [u64]) 
 }
 
 // Turns the marks into those after one more byte.
-#[unsafe(no_mangle)]
-pub extern "C" fn foam_step(records: &[u8], classes: &[u8], words: &mut [u64], byte: u8) -> u64
+pub fn foam_step(records: &[u8], classes: &[u8], words: &mut [u64], byte: u8) -> u64
     ensures { Stepping records.now classes.now byte words.old
         words.new
         result }
@@ -176,8 +170,7 @@ pub extern "C" fn foam_step(records: &[u8], classes: &[u8], words: &mut [u64], b
 }
 
 // Turns the marks into those after each byte, one after the other.
-#[unsafe(no_mangle)]
-pub extern "C" fn foam_steps(records: &[u8], classes: &[u8], words: &mut [u64], bytes: &[u8]) -> u64
+pub fn foam_steps(records: &[u8], classes: &[u8], words: &mut [u64], bytes: &[u8]) -> u64
     ensures { SteppingEach records.now classes.now words.old
         bytes.now words.new result }
 {
@@ -201,8 +194,7 @@ fn pack_lines(answer: LinesAnswer) -> u64
 }
 
 // Writes a byte for each line of the text: 1 where the line is in the language of the list's tree, 0 where it is not.
-#[unsafe(no_mangle)]
-pub extern "C" fn foam_lines(records: &[u8], classes: &[u8], text: &[u8], answers: &mut [u8]) -> u64
+pub fn foam_lines(records: &[u8], classes: &[u8], text: &[u8], answers: &mut [u8]) -> u64
     ensures { AnsweringLines records.now classes.now text.now
         answers.old answers.new result }
 {
@@ -211,8 +203,7 @@ pub extern "C" fn foam_lines(records: &[u8], classes: &[u8], text: &[u8], answer
 }
 
 // Writes a byte for each line of the text: 1 where the table of steps accepts the line, 0 where it does not.
-#[unsafe(no_mangle)]
-pub extern "C" fn foam_lines_table(table: &[u16], text: &[u8], answers: &mut [u8]) -> u64
+pub fn foam_lines_table(table: &[u16], text: &[u8], answers: &mut [u8]) -> u64
     ensures { AnsweringByTable table.now text.now answers.old
         answers.new result }
 {
@@ -226,8 +217,7 @@ pub extern "C" fn foam_lines_table(table: &[u16], text: &[u8], answers: &mut [u8
 }
 
 // Turns a good list of the old layout, of eight bytes a record, into one of today with the place 0 in every record.
-#[unsafe(no_mangle)]
-pub extern "C" fn foam_widen(old: &[u8], records: &mut [u8]) -> u64
+pub fn foam_widen(old: &[u8], records: &mut [u8]) -> u64
     ensures { Widening old.now records.old records.new result }
 {
     let answer = widen(old, records);
@@ -240,8 +230,7 @@ pub extern "C" fn foam_widen(old: &[u8], records: &mut [u8]) -> u64
 
 // Writes the whole output of `pick` for an input: the expression is read once, and its tables are made once for all
 // texts.
-#[unsafe(no_mangle)]
-pub extern "C" fn foam_pick(input: &[u8], output: &mut [u8]) -> u64
+pub fn foam_pick(input: &[u8], output: &mut [u8]) -> u64
     ensures { Picking input.now output.old output.new result }
 {
     let answer = pick(input, output);
@@ -252,13 +241,7 @@ pub extern "C" fn foam_pick(input: &[u8], output: &mut [u8]) -> u64
 }
 
 // Makes a table of steps of the list's tree, in the table that is lent, with room lent for finding its states.
-#[unsafe(no_mangle)]
-pub extern "C" fn foam_table(
-    records: &[u8],
-    classes: &[u8],
-    table: &mut [u16],
-    room: &mut [u64],
-) -> u64
+pub fn foam_table(records: &[u8], classes: &[u8], table: &mut [u16], room: &mut [u64]) -> u64
     ensures { Tabling records.now classes.now table.old table.new
         room.old room.new result }
 {
@@ -273,8 +256,7 @@ pub extern "C" fn foam_table(
 }
 
 // Whether a table of steps accepts the whole text.
-#[unsafe(no_mangle)]
-pub extern "C" fn foam_match_table(table: &[u16], text: &[u8]) -> u64
+pub fn foam_match_table(table: &[u16], text: &[u8]) -> u64
     ensures { result ≡ table_packed (table_answered table.now text.now) }
 {
     let answer = match_table(table, text);

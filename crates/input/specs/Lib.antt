@@ -2,5 +2,4 @@
 pub mod Part
 pub mod Lines
 pub mod Ends
-pub mod LineLaws
 pub mod EndLaws

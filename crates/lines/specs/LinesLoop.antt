@@ -8,7 +8,7 @@ use Rattle.finder.specs.Promise.{match_answered}
 use Rattle.finder.specs.Refusals.{Answerable}
 use Rattle.input.specs.Lines.{lines}
 use Rattle.input.specs.Ends.{Ends, after_end}
-use Rattle.input.specs.EndLaws.{after_inside, line_at, lines_none, lent_part}
+use Rattle.input.proofs.EndLaws.{after_inside, line_at, lines_none, lent_part}
 use Rattle.printing.specs.Printing.{printed, Prints}
 use Rattle.printing.specs.PrintingLaws.{prints_none, prints_join, prints_byte}
 use Rattle.lines.specs.Promise.{answer_byte, EachAnswered, no_line, line_answered, LinesWritten, MatchSays}

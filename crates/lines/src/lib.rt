@@ -1,4 +1,6 @@
 // An answer for each line of a text, by one list: its rows are made once for all lines.
+#![tactic(auto)]
+
 mod good;
 pub mod room;
 

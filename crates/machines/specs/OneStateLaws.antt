@@ -6,8 +6,8 @@ use Rattle.std.proofs.Math.Seq.{append_snoc}
 use Rattle.language.specs.Tree.{Tree}
 use Rattle.language.specs.Automaton.{State, accepting, States, Started, Stepped}
 use Rattle.language.specs.Simulation.{none_left}
-use Rattle.language.specs.Acceptance.{accepts_exactly}
-use Rattle.language.specs.AlongText.{after_step}
+use Rattle.language.proofs.Acceptance.{accepts_exactly}
+use Rattle.language.proofs.AlongText.{after_step}
 use Rattle.language.specs.TakenAsOne.{NotToldApart}
 use Rattle.tree.specs.Leaf.{Leaf, character, class, has_empty, TakesByte, meaning, Matches}
 use Rattle.machines.specs.Explored.{MarksAfter, NothingAfter, OneState}

@@ -1,4 +1,6 @@
 // Making a table of steps of a record list.
+#![tactic(auto)]
+
 pub mod numbers;
 
 ghost use Rattle.preparing.specs.Made.{RoomFor};

@@ -1,4 +1,6 @@
 // Marks in words: start and step, by moves and sweeps over the pieces of a good list.
+#![tactic(auto)]
+
 mod along;
 pub mod numbers;
 

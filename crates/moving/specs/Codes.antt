@@ -173,3 +173,8 @@ module _ (classes : List ℕ) (b : ℕ) where
       let r = reads_from x p o (coded (inside_code x p o) e) in (left r.0, Reads.star_inside r.1)
   reads_from (below x) start o e = absurd (no_leaf_takes e refl)
   reads_from (below x) accepting o e = absurd (no_leaf_takes e refl)
+  reads_from (leaf a) (left p) o e = elim o [ ]
+  reads_from (leaf a) (right p) o e = elim o [ ]
+  reads_from (star x) (right p) o e = elim o [ ]
+  reads_from (below x) (left p) o e = elim o [ ]
+  reads_from (below x) (right p) o e = elim o [ ]

@@ -72,6 +72,15 @@ leaf_numbers (star x) i exit none (left p) o =
     (leaf_numbers x (i + 1) _ (both_leafless (i + 1)) p o)
 leaf_numbers (below x) i exit none start o = none_same zero_leafless
 leaf_numbers (below x) i exit none accepting o = none_same none
+leaf_numbers (leaf (character c)) i exit none (left p) o = elim o [ ]
+leaf_numbers (leaf (character c)) i exit none (right p) o = elim o [ ]
+leaf_numbers (leaf (class k)) i exit none (left p) o = elim o [ ]
+leaf_numbers (leaf (class k)) i exit none (right p) o = elim o [ ]
+leaf_numbers (leaf empty_text) i exit none (left p) o = elim o [ ]
+leaf_numbers (leaf empty_text) i exit none (right p) o = elim o [ ]
+leaf_numbers (star x) i exit none (right p) o = elim o [ ]
+leaf_numbers (below x) i exit none (left p) o = elim o [ ]
+leaf_numbers (below x) i exit none (right p) o = elim o [ ]
 
 -- in the whole piece
 pub leaf_by_number : (x : Nested Leaf) (p : State) → Own x p → (n : ℕ) → 0 < n

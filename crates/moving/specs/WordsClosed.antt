@@ -96,6 +96,10 @@ marked_keeps (below x) i w w' ws ws' bits u start h m = bits i m
 marked_keeps (below x) i w w' ws ws' bits u accepting h m = bits (i + 1) m
 marked_keeps (below x) i w w' ws ws' bits u (left q) h m =
     marked_keeps x 0 (get_or ws 0 0) (get_or ws' 0 0) (drop 1 ws) (drop 1 ws') (piece_keeps u.0) u.1 q h m
+marked_keeps (leaf a) i w w' ws ws' bits u (left q) h m = elim h [ ]
+marked_keeps (leaf a) i w w' ws ws' bits u (right q) h m = elim h [ ]
+marked_keeps (star x) i w w' ws ws' bits u (right q) h m = elim h [ ]
+marked_keeps (below x) i w w' ws ws' bits u (right q) h m = elim h [ ]
 
 -- a state of the own word is marked exactly when the bit of its number is set
 own_marked : (x : Nested Leaf) (w i : ℕ) (ws : List ℕ) (q : State) → Own x q
@@ -141,6 +145,10 @@ marked_within (below x) i w w' ws ws' Z settled own marked u (left q) h m =
     marked_within x 0 (get_or ws 0 0) (get_or ws' 0 0) (drop 1 ws) (drop 1 ws') (λ p. Z (left p)) settled.1
     (own_within x (get_or ws 0 0) (get_or ws' 0 0) (drop 1 ws) (λ p. Z (left p)) settled.1 u.0 (λ p. marked (left p)))
     (λ p. marked (left p)) u.1 q h m
+marked_within (leaf _) i w w' ws ws' Z settled own marked u (left q) h m = elim h [ ]
+marked_within (leaf _) i w w' ws ws' Z settled own marked u (right q) h m = elim h [ ]
+marked_within (star x) i w w' ws ws' Z settled own marked u (right q) h m = elim h [ ]
+marked_within (below x) i w w' ws ws' Z settled own marked u (right q) h m = elim h [ ]
 
 -- each child piece is closed
 each_closed_below : (x : Nested Leaf) (ws ws' : List ℕ) → BelowClosed x ws ws' → EachClosedBelow x ws'

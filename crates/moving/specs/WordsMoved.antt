@@ -303,6 +303,10 @@ module _ (classes : List ℕ) (b : ℕ) where
   marked_moved (below x) i w w' ws ws' s u (left q) h =
       Iff.trans (marked_moved x 0 (get_or ws 0 0) (get_or ws' 0 0) (drop 1 ws) (drop 1 ws') (shifts u.0) u.1 q h)
       (lifted {M = Marked (below x) w i ws} left (λ p. Reading.in_child) (λ p. in_below p))
+  marked_moved (leaf a) i w w' ws ws' s u (left q) h = elim h [ ]
+  marked_moved (leaf a) i w w' ws ws' s u (right q) h = elim h [ ]
+  marked_moved (star x) i w w' ws ws' s u (right q) h = elim h [ ]
+  marked_moved (below x) i w w' ws ws' s u (right q) h = elim h [ ]
 
   -- no bit past a last state is set
   clean_moved : (x : Nested Leaf) (ws ws' : List ℕ) → BelowMoved x ws ws' → CleanBelow x ws'

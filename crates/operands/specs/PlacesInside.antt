@@ -4,7 +4,8 @@ use Rattle.std.proofs.Common.{arith}
 use Rattle.language.specs.SignedTree.{SignedTree}
 use Rattle.language.specs.PlacedTree.{places}
 use Rattle.language.specs.PlacedStandsFor.{placed_stands_for}
-use Rattle.language.specs.EachPlace.{Each, EachWritten, each_stands_for, each_also}
+use Rattle.language.specs.EachPlace.{Each, EachWritten}
+use Rattle.language.proofs.EachPlace.{each_stands_for, each_also}
 use Rattle.tree.specs.Limits.{most_place}
 use Rattle.operands.specs.Bytes.{Syntax}
 use Rattle.operands.specs.Scanner.{Atom, no_text, tree, scanned}

@@ -1,3 +1,5 @@
 // What an expression is, and the reader of one character.
+#![tactic(auto)]
+
 pub mod character;
 pub mod part;

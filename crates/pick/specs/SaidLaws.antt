@@ -22,7 +22,7 @@ use Rattle.checker.specs.declared.answer.CountedAnswer.TheVariants.{Counted}
 use Rattle.matching.specs.Found.{part}
 use Rattle.printing.specs.OutputLimits.{longest_input}
 use Rattle.input.specs.Ends.{Ends}
-use Rattle.input.specs.EndLaws.{first_line}
+use Rattle.input.proofs.EndLaws.{first_line}
 use Rattle.reporting.specs.Print.{refusing_many_pieces}
 use Rattle.showing.specs.Refusal.{most_shown, refusal_lines, lent_refusal}
 use Rattle.pick.specs.Said.{said_of, said_of_expression, too_long_said, said}

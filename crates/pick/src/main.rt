@@ -1,5 +1,7 @@
 // Reads standard input, and writes which of its later lines match its first one, and on standard error why it is
 // refused.
+#![tactic(auto)]
+
 ghost use Rattle.std.specs.Prelude.{◌≤◌, length};
 ghost use Rattle.printing.specs.Printing.{Prints};
 ghost use Rattle.showing.specs.Refusal.{most_shown};
@@ -8,11 +10,12 @@ ghost use Rattle.pick.specs.Said.{said_of_expression, said};
 
 use checker::{CountedAnswer, check};
 use input::line::line_end;
-use libc::{STDERR_FILENO, STDOUT_FILENO};
 use picker::{LONGEST_INPUT, MOST_OUTPUT, Picked};
 use printing::print::put;
 use showing::{MOST_SHOWN, refusal};
-use streams::{Input, read_input};
+use std::alloc::Global;
+use std::io::Read;
+use streams::{Input, fail, read_input};
 
 // Puts what is said of an expression into a buffer: where and why it is refused, nothing where it is not.
 fn put_refusal(expression: &[u8], out: &mut [u8]) -> usize
@@ -39,40 +42,63 @@ fn put_said(input: &[u8], out: &mut [u8]) -> usize
 }
 
 // Says on standard error why an input is refused.
-fn tell_refusal(input: &[u8]) {
+fn tell_refusal(stderr: &impl Print, input: &[u8]) {
     let mut said = [0u8; MOST_SHOWN];
     let length = put_said(input, &mut said);
-    io::write_all(STDERR_FILENO, &said[..length]);
+    let _ = stderr.write_all(&said[..length]);
 }
 
 // Writes the output for an input, by way of a buffer that is long enough for every output, and then why it is refused.
-fn write_output(input: &[u8], output: &mut [u8]) {
+fn write_output(
+    stdout: &impl Print,
+    stderr: &impl Print,
+    alloc: Global,
+    input: &[u8],
+    output: &mut [u8],
+) {
     let picked = picker::pick(input, output);
     let Picked::Written { length } = picked else {
         return;
     };
-    if !io::write_all(STDOUT_FILENO, &output[..length]) {
-        os::fail(b"standard output");
+    if let Err(error) = stdout.write_all(&output[..length]) {
+        let _ = fail(stderr, alloc, "standard output", error);
         return;
     }
-    tell_refusal(input);
+    tell_refusal(stderr, input);
 }
 
 // Reads the input, and writes the output for it; a read or a write that fails is told on standard error.
-fn run(input: &mut [u8], output: &mut [u8; MOST_OUTPUT])
+fn run(
+    stdin: &mut impl Read,
+    stdout: &impl Print,
+    stderr: &impl Print,
+    alloc: Global,
+    input: &mut [u8],
+    output: &mut [u8; MOST_OUTPUT],
+)
     requires space { Space input.old }
 {
-    let read = read_input(input);
-    let Input::Read { count } = read else {
-        os::fail(b"standard input");
-        return;
-    };
-    write_output(&input[..count], output);
+    match read_input(stdin, input) {
+        Input::Read { count } => write_output(stdout, stderr, alloc, &input[..count], output),
+        Input::Failed { error } => {
+            let _ = fail(stderr, alloc, "standard input", error);
+        }
+    }
 }
 
 // The input buffer has a byte more than an input may have, so that a longer one is seen.
-fn main() {
+fn main(rt: HostRuntime) {
     let mut input = [0u8; 65537];
     let mut output = [0u8; MOST_OUTPUT];
-    run(&mut input, &mut output);
+    let mut stdin = rt.stdin();
+    let stdout = rt.stdout();
+    let stderr = rt.stderr();
+    run(
+        &mut stdin,
+        &stdout,
+        &stderr,
+        rt.alloc(),
+        &mut input,
+        &mut output,
+    );
 }

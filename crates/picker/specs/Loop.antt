@@ -11,7 +11,7 @@ use Rattle.finder.specs.Decide.{matches}
 use Rattle.finder.specs.DecideExactly.{matches_answer}
 use Rattle.input.specs.Lines.{lines}
 use Rattle.input.specs.Ends.{Ends, after_end}
-use Rattle.input.specs.EndLaws.{after_inside, line_at, lines_none, lent_part}
+use Rattle.input.proofs.EndLaws.{after_inside, line_at, lines_none, lent_part}
 use Rattle.printing.specs.ReportLines.{text_line, total_line}
 use Rattle.reporting.specs.Print.{yes_after, text_lines}
 use Rattle.reporting.specs.OutputBound.{text_line_length, total_line_length, yes_after_most}

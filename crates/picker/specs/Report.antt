@@ -19,9 +19,9 @@ use Rattle.reader.specs.Kept.{Kept}
 use Rattle.matching.specs.Found.{part}
 use Rattle.finder.specs.Decide.{matches}
 use Rattle.input.specs.Lines.{lines, expression, texts}
-use Rattle.input.specs.LineLaws.{texts_count}
+use Rattle.input.proofs.LineLaws.{texts_count}
 use Rattle.input.specs.Ends.{Ends, after_end}
-use Rattle.input.specs.EndLaws.{after_inside, first_line}
+use Rattle.input.proofs.EndLaws.{after_inside, first_line}
 use Rattle.printing.specs.OutputLimits.{longest_input, most_output}
 use Rattle.printing.specs.ReportLines.{refusal_line}
 use Rattle.reporting.specs.Print.{refusing_many_pieces, reading_outcome, text_lines, reported}

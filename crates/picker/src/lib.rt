@@ -1,4 +1,6 @@
 // The whole output of `pick`, from the bytes that it reads.
+#![tactic(auto)]
+
 mod texts;
 
 ghost use Rattle.std.specs.Prelude.{◌≤◌, [], length};

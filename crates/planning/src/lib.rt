@@ -1,2 +1,4 @@
 // Makes the rows of a good list.
+#![tactic(auto)]
+
 pub mod plan;

@@ -1,5 +1,7 @@
 // Deciding on a list and making its rows, in those that are lent: what lies on the stack for deciding is gone before
 // the rows are used.
+#![tactic(auto)]
+
 ghost use Rattle.std.specs.Prelude.{◌/◌, ◌≤◌, ◌<◌, length};
 ghost use Rattle.tree.specs.Limits.{few_slots};
 ghost use Rattle.tree.specs.Layout.{record_size};

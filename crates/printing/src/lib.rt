@@ -1,3 +1,5 @@
 // The lines that are printed for the lines of an input.
+#![tactic(auto)]
+
 pub mod print;
 pub mod report;

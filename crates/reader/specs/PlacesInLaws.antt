@@ -5,8 +5,8 @@ use Rattle.language.specs.Tree.{Tree, nodes}
 use Rattle.language.specs.SignedTree.{SignedTree}
 use Rattle.language.specs.PlacedTree.{places}
 use Rattle.language.specs.PlacedStandsFor.{placed_stands_for}
-use Rattle.language.specs.PlacedLaws.{unplaced_stands_for, length_places}
-use Rattle.language.specs.EachPlace.{each_at}
+use Rattle.language.proofs.PlacedLaws.{unplaced_stands_for, length_places}
+use Rattle.language.proofs.EachPlace.{each_at}
 use Rattle.tree.specs.Limits.{most_place, most_labels, most_pieces}
 use Rattle.tree.specs.Leaf.{Leaf}
 use Rattle.tree.specs.Layout.{record_size, place_at}

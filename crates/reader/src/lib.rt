@@ -1,5 +1,7 @@
 // Reads an expression into tree records, or refuses it by number and place: two readers, the second with the dot and
 // classes.
+#![tactic(auto)]
+
 mod answer;
 mod store;
 

@@ -15,7 +15,7 @@ use Rattle.checker.specs.Expanded.{expanded}
 use Rattle.checker.specs.Drawn.{drawn}
 use Rattle.checker.specs.DrawnLaws.{first_drawn_size, first_drawn_refusal}
 use Rattle.input.specs.Lines.{lines, expression, texts}
-use Rattle.input.specs.LineLaws.{texts_count}
+use Rattle.input.proofs.LineLaws.{texts_count}
 use Rattle.printing.specs.DigitLaws.{digits_length}
 use Rattle.printing.specs.OutputLimits.{longest_input, most_output}
 use Rattle.printing.specs.ReportLines.{text_line, total_line, refusal_line}

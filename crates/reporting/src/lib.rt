@@ -1,1 +1,2 @@
 // What `pick` prints for an input: theory alone, in specs/.
+#![tactic(auto)]

@@ -5,16 +5,11 @@ use Rattle.std.proofs.Common.{arith, ap, sym, ◌∙◌, lt-ltb, le-ltb}
 use Rattle.language.specs.Tree.{Tree, nodes}
 use Rattle.language.specs.PlacedTree.{PlacedTree, unplaced, places as tree_places, placed_with_leaves}
 use Rattle.language.specs.PlacedStandsFor.{placed_stands_for}
-use Rattle.language.specs.PlacedLaws.{
-  unplaced_stands_for,
-  places_leaves,
-  unplaced_leaves,
-  placed_stands_for_leaves,
-}
+use Rattle.language.proofs.PlacedLaws.{unplaced_stands_for, places_leaves, unplaced_leaves, placed_stands_for_leaves}
 use Rattle.language.specs.SignedTree.{SignedTree}
 use Rattle.language.specs.StandsFor.{stands_for}
 use Rattle.language.specs.SignedSize.{capped}
-use Rattle.language.specs.WithLeavesLaws.{nodes_leaves, every_stands_for}
+use Rattle.language.proofs.WithLeavesLaws.{nodes_leaves, every_stands_for}
 use Rattle.tree.specs.RefusalNumbers.{expression_empty, expression_too_long, closing_without_group}
 use Rattle.tree.specs.Limits.{longest_expression, most_labels}
 use Rattle.tree.specs.Leaf.{Leaf}

@@ -1,6 +1,6 @@
 -- One more operand makes a larger catenation, and one more branch a larger union; a fault in it is theirs; and where
 -- none is due the whole was read.
-use Rattle.std.specs.Prelude.{ℕ, ◌+◌, ◌<◌, ◌≤◌, ◌≡◌, Bool, true, false, List, length}
+use Rattle.std.specs.Prelude.{ℕ, ◌≤◌, ◌≡◌, Bool, true, false, List, length}
 use Rattle.std.proofs.Common.{arith, sym, ◌∙◌}
 use Rattle.tree.specs.Saying.{true_false}
 use Rattle.operands.specs.Bytes.{Syntax}

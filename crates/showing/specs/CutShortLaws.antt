@@ -12,7 +12,7 @@ use Rattle.std.proofs.Math.Seq.{take-length}
 use borrow.Author.Tests.{lt-ltb, le-ltb, eqb-true, ltb-false, eq-eqb, ne_eqb}
 use Rattle.operands.specs.Text.{bytes as letters}
 use Rattle.input.specs.Part.{part}
-use Rattle.input.specs.EndLaws.{lent_part}
+use Rattle.input.proofs.EndLaws.{lent_part}
 use Rattle.showing.specs.Shown.{shown_byte, shown_width, shown, spaces}
 use Rattle.showing.specs.ShownLaws.{shown_append, shown_one, spaces_length}
 use Rattle.showing.specs.CutShort.{

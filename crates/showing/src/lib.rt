@@ -1,4 +1,6 @@
 // How an expression that is refused is shown: the expression, a caret under the place, and the refusal in words.
+#![tactic(auto)]
+
 pub mod bytes;
 pub mod cut;
 

@@ -7,11 +7,12 @@ use Rattle.std.proofs.Math.Seq.{append_snoc}
 use Rattle.language.specs.Tree.{Tree}
 use Rattle.language.specs.Automaton.{State, States, accepting, start, Started, Stepped, After, here}
 use Rattle.language.specs.Nested.{Nested, leaf, catenation, union, star, below, whole, origin, Models, Has, Sweep}
-use Rattle.language.specs.Same.{Agree, models_same}
+use Rattle.language.specs.Same.{Agree}
+use Rattle.language.proofs.Same.{models_same}
 use Rattle.language.specs.Simulation.{◌⊆◌, stepped_more}
-use Rattle.language.specs.Acceptance.{accepts_exactly}
+use Rattle.language.proofs.Acceptance.{accepts_exactly}
 use Rattle.language.specs.Models.{StateOf, alike_models, models_alike, models_origins}
-use Rattle.language.specs.AlongText.{reached_state}
+use Rattle.language.proofs.AlongText.{reached_state}
 use Rattle.tree.specs.Limits.{most_pieces, most_states}
 use Rattle.tree.specs.Leaf.{Leaf, meaning, byteless}
 use Rattle.tree.specs.Records.{piece_count}
@@ -21,7 +22,7 @@ use Rattle.tables.specs.Words.{word_bits, Bit, width, run, Holds, Clean, Agreein
 use Rattle.tables.specs.Plan.{row_words, top_of, Planned, Closes}
 use Rattle.closing.specs.BitsOfWords.Bits.{Tells, bit_zero, told_no, told_yes}
 use Rattle.tables.specs.Tables.{Prepared, Roomy, Ready, Holding, Answered}
-use Rattle.language.specs.Unmoved.{sweep_none}
+use Rattle.language.proofs.Unmoved.{sweep_none}
 use Rattle.closing.specs.BitsOfWords.Zero.{AllZero}
 use Rattle.closing.specs.BitsOfWords.AllZero.{zero_holds}
 use Rattle.moving.specs.Spans.{Spans}

@@ -6,9 +6,9 @@ use Rattle.std.proofs.Math.Logic.Iff
 use Rattle.language.specs.Tree.{Tree}
 use Rattle.language.specs.Automaton.{State, accepting, States, Started, Stepped, After}
 use Rattle.language.specs.Nested.{Nested, Models}
-use Rattle.language.specs.Acceptance.{accepts_exactly}
+use Rattle.language.proofs.Acceptance.{accepts_exactly}
 use Rattle.language.specs.Models.{origin_onto}
-use Rattle.language.specs.AlongText.{after_step, reached_state, none_longer}
+use Rattle.language.proofs.AlongText.{after_step, reached_state, none_longer}
 use Rattle.tree.specs.Leaf.{Leaf, meaning, Matches}
 use Rattle.tree.specs.Records.{piece_count}
 use Rattle.tree.specs.Pieces.{cut_up, stated}

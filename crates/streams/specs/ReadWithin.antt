@@ -6,4 +6,4 @@ use Rattle.streams.specs.declared.Input.TheVariants.{Read, Failed}
 
 abbrev pub ReadWithin : List ℕ → Input → Type 0
 ReadWithin buffer (Read count) = count ≤ length buffer
-ReadWithin buffer Failed = Unit {0}
+ReadWithin buffer (Failed error) = Unit {0}

@@ -1,7 +1,13 @@
-// Standard input, read whole: what the programs do before their work.
+// Standard input, read whole, and what fails, told on standard error: what the programs do around their work.
+#![tactic(auto)]
+
+ghost use Rattle.std.specs.Prelude.{◌≡◌, length};
+ghost use Rattle.std.specs.Io.{ReadsAtMost};
 ghost use Rattle.streams.specs.ReadWithin.{ReadWithin};
 
-use libc::{EINTR, STDIN_FILENO};
+use std::alloc::Global;
+use std::io;
+use std::io::{ErrorKind, Read};
 
 // What reading the input comes to.
 #[derive(Drop)]
@@ -9,46 +15,65 @@ pub enum Input {
     // So many bytes were read: up to the input's end, or as many as there is space for.
     Read { count: usize },
     // A read failed.
-    Failed,
+    Failed { error: io::Error },
 }
 
 // So many times a read is tried at most, so that the program ends however often it is interrupted.
 const MOST_TRIES: usize = 1000000;
 
 // Whether this is the answer of a read that a signal interrupted.
-fn interrupted(got: isize) -> bool {
-    got < 0 && os::errno() == EINTR
+fn interrupted(got: &io::Result<usize>) -> bool {
+    match got {
+        Ok(_) => false,
+        Err(error) => error.kind() == ErrorKind::Interrupted,
+    }
 }
 
-// One read of standard input; a read that a signal interrupted is tried again.
-fn read_part(part: &mut [u8]) -> isize {
-    let mut got = libc::read(STDIN_FILENO, part);
+// One read of the input; a read that a signal interrupted is tried again.
+fn read_part(stdin: &mut impl Read, part: &mut [u8]) -> io::Result<usize>
+    ensures { ReadsAtMost result part.new }
+{
+    let mut got = stdin.read(part);
     let mut tries = 1;
     while tries < MOST_TRIES {
-        if !interrupted(got) {
+        if !interrupted(&got) {
             break;
         }
-        got = libc::read(STDIN_FILENO, part);
+        got = stdin.read(part);
         tries += 1;
     }
     got
 }
 
-// Reads standard input, which may come in many parts, into a buffer.
-pub fn read_input(input: &mut [u8]) -> Input
+// Reads the input, which may come in many parts, into a buffer.
+pub fn read_input(stdin: &mut impl Read, input: &mut [u8]) -> Input
     ensures { ReadWithin input.new result }
 {
     let mut count = 0;
     while count < input.len() {
-        let got = read_part(&mut input[count..]);
-        if got < 0 {
-            return Input::Failed;
-        }
-        let more = io::count(got, &input[count..]);
+        let more = match read_part(stdin, &mut input[count..]) {
+            Ok(more) => more,
+            Err(error) => return Input::Failed { error },
+        };
         if more == 0 {
             break;
         }
         count += more;
     }
     Input::Read { count }
+}
+
+// Why something failed, in the system's words, without the error's number behind them.
+fn reason(said: &str) -> &str {
+    match said.split_once(" (os error ") {
+        Some((words, _)) => words,
+        None => said,
+    }
+}
+
+// Says on standard error, which is lent, what failed and why.
+pub fn fail(stderr: &impl Print, alloc: Global, what: &str, error: io::Error) -> io::Result<()> {
+    let said = format!(in alloc; "{error}")?;
+    let words = reason(&said);
+    println!(stderr; "{what}: {words}")
 }

@@ -6,7 +6,7 @@ use Rattle.language.specs.Automaton.{State, start, accepting, left, right, Empty
 use Rattle.language.specs.Nested.{Nested, leaf, catenation, union, star, below, Has, OwnEmpty}
 use Rattle.language.specs.Simulation.{SettledBy}
 use Rattle.language.specs.Settled.{Wire, Settled}
-use Rattle.language.specs.Unmoved.{settled_agree}
+use Rattle.language.proofs.Unmoved.{settled_agree}
 use Rattle.tree.specs.Leaf.{Leaf, byteless}
 use Rattle.tables.specs.Words.{Bit, width, run, Holds}
 use Rattle.tables.specs.Plan.{Closes}

@@ -5,10 +5,11 @@ use Rattle.std.proofs.Math.Logic.Iff
 use Rattle.std.proofs.Math.Pow.{pow-lt}
 use Rattle.language.specs.Automaton.{State, start, accepting, States, PathOf, Started, Stepped}
 use Rattle.language.specs.Nested.{Nested, whole, Has, origin, Models, Move, OwnEmpty}
-use Rattle.language.specs.Same.{MoreIn, Agree, sweep_same, models_same}
+use Rattle.language.specs.Same.{MoreIn, Agree}
+use Rattle.language.proofs.Same.{sweep_same, models_same}
 use Rattle.language.specs.Settled.{Settled}
-use Rattle.language.specs.SameEmpty.{started_same}
-use Rattle.language.specs.Sweeps.{sweeps_start, sweeps_step_closed}
+use Rattle.language.proofs.SameEmpty.{started_same}
+use Rattle.language.proofs.Sweeps.{sweeps_start, sweeps_step_closed}
 use Rattle.tree.specs.Limits.{most_states}
 use Rattle.tree.specs.Leaf.{Leaf, meaning, byteless}
 use Rattle.tables.specs.Words.{Bit, width, run, number, Holds, Clean}

@@ -6,8 +6,9 @@ use Rattle.std.proofs.Math.Seq.{length_front}
 use Rattle.language.specs.Automaton.{State, start}
 use Rattle.language.specs.Nested.{Nested, Has, Sweep}
 use Rattle.language.specs.Settled.{Settled}
-use Rattle.language.specs.Same.{Agree, sweep_same}
-use Rattle.language.specs.Unmoved.{settled_agree, sweep_settled}
+use Rattle.language.specs.Same.{Agree}
+use Rattle.language.proofs.Same.{sweep_same}
+use Rattle.language.proofs.Unmoved.{settled_agree, sweep_settled}
 use Rattle.tree.specs.Leaf.{Leaf, byteless}
 use Rattle.tables.specs.Words.{width, run, Holds, Clean}
 use Rattle.tables.specs.Plan.{Closes}

@@ -22,7 +22,8 @@ use Rattle.language.specs.Nested.{
   Sweep,
   OwnClosed,
 }
-use Rattle.language.specs.Same.{Agree, up_more_in, visit_more_in, sweep_same}
+use Rattle.language.specs.Same.{Agree}
+use Rattle.language.proofs.Same.{up_more_in, visit_more_in, sweep_same}
 use Rattle.tree.specs.Leaf.{Leaf, byteless}
 use Rattle.tables.specs.Words.{Bit, width, run, Own, number, Holds}
 use Rattle.tables.specs.Plan.{Closes}

@@ -4,7 +4,7 @@ use Rattle.std.proofs.Common.{arith}
 use Rattle.matching.specs.Found.{part}
 use Rattle.running.specs.Runs.{runs}
 use Rattle.input.specs.Ends.{Ends}
-use Rattle.input.specs.EndLaws.{lent_part}
+use Rattle.input.proofs.EndLaws.{lent_part}
 use Rattle.table_lines.specs.Promise.{TableSays}
 
 pub lent_runs : (table : List ℕ) {text : List ℕ} {place end : ℕ} → Ends text place end → (matched : Bool)

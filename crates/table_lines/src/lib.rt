@@ -1,4 +1,6 @@
 // An answer for each line of a text, by a table of steps.
+#![tactic(auto)]
+
 ghost use Rattle.std.specs.Prelude.{◌≤◌, length};
 ghost use Rattle.input.specs.Lines.{lines};
 ghost use Rattle.lines.specs.Promise.{LinesWritten};

@@ -1,5 +1,7 @@
 // Making a table of steps from the rows of a list's pieces: its columns, then its states, found in the lent room, then
 // its entries, written out where all fit.
+#![tactic(auto)]
+
 ghost use Rattle.std.specs.Prelude.{◌+◌, ◌-◌, ◌≤◌, min, ◌≡◌, length, take};
 ghost use Rattle.language.specs.Tree.{Tree};
 ghost use Rattle.tree.specs.Leaf.{Leaf};

@@ -1,2 +1,4 @@
 // A refusal in words, and its line.
+#![tactic(auto)]
+
 pub mod words;

@@ -1,4 +1,6 @@
 // Writing a table of steps out of the room where its states were found.
+#![tactic(auto)]
+
 ghost use Rattle.std.specs.Prelude.{ℕ, ◌+◌, ◌*◌, ◌/◌, ◌%◌, ◌^◌, ◌≤◌, ◌<◌, ◌≡◌, length, get_or, replicate};
 ghost use Rattle.machines.specs.Columns.{byte_count};
 ghost use Rattle.machines.specs.TableOf.{heading, most_entries};

@@ -1,5 +1,5 @@
 -- Words of 0 hold no mark.
-use Rattle.std.specs.Prelude.{ℕ, suc, ◌+◌, ◌<◌, ◌≡◌, List, get_or}
+use Rattle.std.specs.Prelude.{ℕ, suc, ◌+◌, List}
 use Rattle.std.proofs.Common.{arith, subst}
 use Rattle.language.specs.Automaton.{State}
 use Rattle.language.specs.Nested.{Nested, Has}

@@ -54,6 +54,11 @@ module _ {A : Type 0} where
   number_below (union x y) (left q) o = omega (arith, number_below x q o)
   number_below (union x y) (right q) o = omega (arith, number_below y q o)
   number_below (star x) (left q) o = omega (arith, number_below x q o)
+  number_below (leaf _) (left q) o = elim o [ ]
+  number_below (below _) (left q) o = elim o [ ]
+  number_below (leaf _) (right q) o = elim o [ ]
+  number_below (star x) (right q) o = elim o [ ]
+  number_below (below _) (right q) o = elim o [ ]
 
   -- every number below the width is some state's
   pub number_onto : (x : Nested A) (i : ℕ) → i < width x → (q : State) × Own x q × (number x q ≡ i)
@@ -164,6 +169,11 @@ module _ {A : Type 0} where
       ∙ mapped left x q o (stands x q o)
   stands (below x) start o = refl
   stands (below x) accepting o = refl
+  stands (leaf a) (left q) o = elim o [ ]
+  stands (leaf a) (right q) o = elim o [ ]
+  stands (star x) (right q) o = elim o [ ]
+  stands (below x) (left q) o = elim o [ ]
+  stands (below x) (right q) o = elim o [ ]
 
   -- two states of one number are one
   pub number_injective : (x : Nested A) (p q : State) → Own x p → Own x q → number x p ≡ number x q → p ≡ q

@@ -1,22 +1,13 @@
 -- The codes hold the empty transitions: the code of state i leads to state j exactly where a transition leads from the
 -- one to the other.
-use Rattle.std.specs.Prelude.{ℕ, ◌+◌, ◌*◌, ◌/◌, ◌≡◌, refl, Bool, true, false, cond, ◌⊎◌, ◌↔◌, [], ◌∷◌, ◌++◌, length, get_or}
-use Rattle.std.proofs.Common.{sym, ap, ◌∙◌, subst, inl, inr, ⊎_elim, arith}
+use Rattle.std.specs.Prelude.{ℕ, ◌+◌, ◌*◌, ◌/◌, ◌≡◌, refl, Bool, true, false, cond, ◌⊎◌, ◌↔◌, [], ◌∷◌, ◌++◌, get_or}
+use Rattle.std.proofs.Common.{sym, ◌∙◌, subst, inl, inr, ⊎_elim, arith}
 use Rattle.std.proofs.lemmas.Bool.{false≢true}
 use Rattle.language.specs.Automaton.{State, start, accepting, left, right, Empty}
 use Rattle.language.specs.Nested.{Nested, leaf, catenation, union, star, below, OwnEmpty}
 use Rattle.tree.specs.Leaf.{Leaf, byteless, has_empty}
 use Rattle.tables.specs.Words.{width, Own, number}
-use Rattle.tables.specs.Plan.{
-  leads_on,
-  jumps_to,
-  leads_and_jumps,
-  LeadsOn,
-  Jumps,
-  start_code,
-  leaf_code,
-  codes_of,
-}
+use Rattle.tables.specs.Plan.{leads_on, jumps_to, leads_and_jumps, LeadsOn, Jumps, start_code, codes_of}
 use Rattle.tables.specs.Entries.{length_codes}
 use Rattle.closing.specs.BitsOfWords.NodeParts.{one_inside, one_end, two_left, two_right, two_end}
 use Rattle.closing.specs.BitsOfWords.Numbers.{number_accepting, number_below}
@@ -176,6 +167,11 @@ out (star x) i exit (left p) o j b =
     (out x (i + 1) (leads_and_jumps (i + 1)) p o j (same_leads j (inside_code _ exit x _ _ p o) (omega arith) b))
 out (below x) i exit start o j b = absurd (none_leads (i + 0) j b)
 out (below x) i exit accepting o j b = inr (refl, b)
+out (leaf a) i exit (left p) o j b = elim o [ ]
+out (leaf a) i exit (right p) o j b = elim o [ ]
+out (star x) i exit (right p) o j b = elim o [ ]
+out (below x) i exit (left p) o j b = elim o [ ]
+out (below x) i exit (right p) o j b = elim o [ ]
 
 -- the accepting state's code is the one given
 exit_code : (x : Nested Leaf) (i exit : ℕ) → get_or (codes_of x i exit) (number x accepting) 0 ≡ exit

@@ -4,7 +4,7 @@ use mathlib.Core.Path.{sym, ap, ◌∙◌}
 use native.Mathlib.Omega.{arith}
 use borrow.Author.Rules.{rules}
 use lib.Seq.{length-take-le}
-use Rattle.input.specs.EndLaws.{first_line}
+use Rattle.input.proofs.EndLaws.{first_line}
 use Rattle.explaining.specs.Explained.{explained_rule}
 use Rattle.explaining.specs.Rule.{wrote, explained_long, explained_short}
 use Rattle.explaining.proofs.explain.Statement.{statement}

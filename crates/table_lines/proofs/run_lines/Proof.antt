@@ -7,7 +7,7 @@ use native.Mathlib.Omega.{arith}
 use borrow.Author.Rules.{rules}
 use lib.ListN.{length, length-set}
 use Rattle.input.specs.Lines.{lines}
-use Rattle.input.specs.EndLaws.{after_start}
+use Rattle.input.proofs.EndLaws.{after_start}
 use Rattle.table_lines.specs.Promise.{TableSays}
 use Rattle.table_lines.specs.Lent.{lent_runs}
 use Rattle.lines.specs.Unique.{one_at_most}

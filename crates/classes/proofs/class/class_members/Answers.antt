@@ -9,27 +9,31 @@ use Rattle.classes.proofs.class.class_members.Goals as goal
 
 pub overflow_add-at-then-stands_at : goal.overflow_add-at-then-stands_at
 overflow_add-at-then-stands_at c =
-    let caret = c.stands_at.ensures.if_so c.if-stands_at.taken in omega (arith, caret.0)
+    let caret = c.stands_at.ensures.if_so c.if-stands_at.true in omega (arith, caret.0)
 
 pub items-requires : goal.items-requires
 items-requires c =
-    let caret = c.stands_at.ensures.if_so c.if-stands_at.taken in (
-      omega (arith, caret.0),
-      filled_members true c.set_all.last.0 (c.set_all.kept.0 ∙ c.requires.1)
-          c.set_all.ensures,
-    )
+    let caret = c.stands_at.ensures.if_so c.if-stands_at.true in
+    record {
+      within = omega (arith, caret.0);
+      empty = filled_members true c.set_all.new.members (c.set_all.auto.members ∙ c.requires.1) c.set_all.ensures;
+    }
 
 pub returns-then-stands_at : goal.returns-then-stands_at
 returns-then-stands_at c =
-    let caret = c.stands_at.ensures.if_so c.if-stands_at.taken in
-    class_but c.args.expr.now c.args.at c.items.new.1.1.0 c.items.result caret.0 caret.1
+    let caret = c.stands_at.ensures.if_so c.if-stands_at.true in
+    class_but c.args.expr.now c.args.at c.items.new.members c.items.result caret.0 caret.1
     c.items.ensures
 
 pub items-requires-2 : goal.items-requires-2
 items-requires-2 c =
-    (omega arith, filled_members false c.set_all-2.last.0 (c.set_all-2.kept.0 ∙ c.requires.1) c.set_all-2.ensures)
+    record {
+      within = omega arith;
+      empty =
+          filled_members false c.set_all-2.new.members (c.set_all-2.auto.members ∙ c.requires.1) c.set_all-2.ensures;
+    }
 
 pub returns : goal.returns
 returns c =
-    class_only c.args.expr.now c.args.at c.items-2.new.1.1.0 c.items-2.result (omega arith)
-    (c.stands_at.ensures.if_not c.if-stands_at.left) c.items-2.ensures
+    class_only c.args.expr.now c.args.at c.items-2.new.members c.items-2.result (omega arith)
+    (c.stands_at.ensures.if_not c.if-stands_at.false) c.items-2.ensures

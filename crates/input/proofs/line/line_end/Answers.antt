@@ -1,16 +1,15 @@
 -- `input::line::line_end` meets its contract: no byte passed begins an end, those above 13 with no test of an end. The
 -- measure is what is left of the input.
-use Prim.Native.Nat.{ℕ, ◌+◌, ◌≤◌, ◌<◌, ◌-◌}
+use Prim.Native.Nat.{ℕ, ◌+◌, ◌≤◌, ◌<◌}
 use mathlib.Core.Path.{◌≡◌, sym, subst}
-use mathlib.Core.Logic.{⊎_elim}
 use mathlib.Core.List.{List}
 use native.Mathlib.Decide.{dec_lt}
 use native.Mathlib.Omega.{arith}
 use borrow.Author.Rules.{rules}
-use borrow.Author.Tests.{ltb-true, ltb-false}
-use lib.ListN.{length, drop}
+use borrow.Author.Tests.{ltb-true}
+use lib.ListN.{drop}
 use Rattle.input.specs.Ends.{end_size}
-use Rattle.input.specs.EndLaws.{size_other}
+use Rattle.input.proofs.EndLaws.{size_other}
 use Rattle.input.proofs.line.line_end.Goals as goal
 use Rattle.input.proofs.line.line_end.Goals.{else-input-end-le-LAST_OF_ENDS-via-then-input-end-le-LAST_OF_ENDS+else-end_size-gt0, else-input-end-le-LAST_OF_ENDS-via-else-input-end-le-LAST_OF_ENDS}
 

@@ -1,15 +1,8 @@
 -- `input::line::line_end` meets its contract: no byte passed begins an end, those above 13 with no test of an end. The
-use Prim.Native.Nat.{ℕ, ◌+◌, ◌≤◌, ◌<◌, ◌-◌}
-use mathlib.Core.Path.{◌≡◌, sym, subst}
-use mathlib.Core.Logic.{⊎_elim}
-use mathlib.Core.List.{List}
-use native.Mathlib.Decide.{dec_lt}
-use native.Mathlib.Omega.{arith}
-use borrow.Author.Rules.{rules}
-use borrow.Author.Tests.{ltb-true, ltb-false}
+use Prim.Native.Nat.{ℕ, ◌≤◌, ◌<◌, ◌-◌}
+use mathlib.Core.Path.{◌≡◌}
 use lib.ListN.{length, drop}
 use Rattle.input.specs.Ends.{end_size}
-use Rattle.input.specs.EndLaws.{size_other}
 use Rattle.input.proofs.line.line_end.Given as goal
 
 abbrev pub invariant-loop-end : goal.invariant-loop-end

@@ -10,7 +10,7 @@ use lib.ListN.{length, length-set}
 use Rattle.tables.specs.Tables.{Prepared}
 use Rattle.finder.specs.Refusals.{Answerable}
 use Rattle.input.specs.Lines.{lines}
-use Rattle.input.specs.EndLaws.{after_start}
+use Rattle.input.proofs.EndLaws.{after_start}
 use Rattle.lines.specs.Promise.{MatchSays}
 use Rattle.lines.specs.Unique.{one_at_most}
 use Rattle.lines.specs.LinesLoop.{

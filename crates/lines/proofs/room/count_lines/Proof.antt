@@ -6,8 +6,8 @@ use native.Mathlib.Omega.{arith}
 use borrow.Author.Rules.{rules}
 use lib.ListN.{length, drop}
 use Rattle.input.specs.Lines.{lines}
-use Rattle.input.specs.EndLaws.{after_start, after_inside, lines_none}
-use Rattle.input.specs.LineLaws.{lines_count}
+use Rattle.input.proofs.EndLaws.{after_start, after_inside, lines_none}
+use Rattle.input.proofs.LineLaws.{lines_count}
 use Rattle.lines.specs.LinesLoop.{fewer}
 use Rattle.lines.proofs.room.count_lines.Statement.{statement}
 use Rattle.lines.proofs.room.count_lines.Tie as tie

@@ -5,7 +5,7 @@ use lib.Dec.{leb}
 use borrow.Author.Tests.{leb-true, leb-false}
 use borrow.Author.Rules.{rules}
 use Rattle.closing.specs.BitsOfWords.Bits.{Tells, told_yes}
-use Rattle.input.specs.LineLaws.{lines_count}
+use Rattle.input.proofs.LineLaws.{lines_count}
 use Rattle.lines.proofs.room.has_room.Statement.{statement}
 use Rattle.lines.proofs.room.has_room.Tie as tie
 use Rattle.lines.proofs.room.has_room.Reads as reads

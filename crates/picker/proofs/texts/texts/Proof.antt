@@ -13,7 +13,7 @@ use Rattle.tree.specs.Leaf.{Leaf}
 use Rattle.tables.specs.Tables.{Prepared}
 use Rattle.choosing.specs.TableChoice.{AcceptsLanguage}
 use Rattle.finder.specs.Decide.{matches}
-use Rattle.input.specs.EndLaws.{after_start}
+use Rattle.input.proofs.EndLaws.{after_start}
 use Rattle.reporting.specs.Print.{yes_after}
 use Rattle.picker.specs.Loop.{
   PrintSpace,

@@ -17,7 +17,7 @@ use Rattle.repeats.proofs.copies.follow.Goals as goal
 
 pub loop-i-init : goal.loop-i-init
 loop-i-init c = (
-  follows_none c.args.places c.args.place c.args.with-question c.requires.room.few,
+  follows_none c.args.places c.args.place c.args.with_question c.requires.room.few,
   record { onward = omega arith; few = c.requires.room.few },
   refl,
   omega arith,
@@ -38,7 +38,7 @@ pub loop-i-preserved : goal.loop-i-preserved
 loop-i-preserved c =
     let a = copies_counted c.copy_run-copy.ensures c.loop-i.invariant.1.few in
     let b = appended_counted c.end_copy-total.ensures a.few in (
-      follows_more c.loop-i.i c.args.places c.args.place c.args.with-question c.requires c.loop-i.invariant.0
+      follows_more c.loop-i.i c.args.places c.args.place c.args.with_question c.requires c.loop-i.invariant.0
           c.copy_run-copy.ensures
           c.end_copy-total.ensures,
       record { onward = omega (arith, c.loop-i.invariant.1.onward, a.onward, b.onward); few = b.few },

@@ -14,13 +14,12 @@ loop-i-init c =
     (omega arith, refl, refl)
 
 pub loop-i-preserved : goal.loop-i-preserved
-loop-i-preserved c =
-    (
-      omega arith,
-      c.write_number.auto.out ∙ c.loop-i.invariant.1,
-      sym (placed_next c.args.places.now c.loop-i.out c.write_number.new.out c.loop-i.i _
-          c.loop-i-test.true refl c.write_number.ensures) ∙ c.loop-i.invariant.2,
-    )
+loop-i-preserved c = (
+  omega arith,
+  c.write_number.auto.out ∙ c.loop-i.invariant.1,
+  sym (placed_next c.args.places.now c.loop-i.out c.write_number.new.out c.loop-i.i _
+      c.loop-i-test.true refl c.write_number.ensures) ∙ c.loop-i.invariant.2,
+)
 
 pub returns : goal.returns
 returns c =

@@ -1,0 +1,17 @@
+pub mod StandsForLaws
+pub mod CountedTexts
+pub mod SameTexts
+pub mod WithLeavesLaws
+pub mod PlacedLaws
+pub mod SignedSizeLaws
+pub mod EachPlace
+pub mod Same
+pub mod SameEmpty
+pub mod Visits
+pub mod Sweeps
+pub mod Unmoved
+pub mod Rest
+pub mod TextRuns
+pub mod Acceptance
+pub mod AlongText
+pub mod Copies
