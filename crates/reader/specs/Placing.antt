@@ -8,7 +8,7 @@ use Rattle.language.specs.SignedTree.{SignedTree}
 use Rattle.tree.specs.Limits.{most_labels}
 use Rattle.operands.specs.Bytes.{Syntax}
 use Rattle.operands.specs.Scanner.{Atom, tree, scanned}
-use Rattle.operands.specs.Sound.{no_tree}
+use Rattle.operands.proofs.Sound.{no_tree}
 use Rattle.operands.specs.LeavesPlaced.{written_at}
 use Rattle.scanner.specs.Expression.{ExpressionAnswer, PlacesRead, places_read}
 use Rattle.operands.specs.declared.part.Part.{Part}
