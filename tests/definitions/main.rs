@@ -56,7 +56,7 @@ const ENTRY_POINTS: [(&str, &[&str]); 15] = [
 /// The crates, lowest first.
 fn crates() -> Vec<String> {
     let text = fs::read_to_string("crates.txt").expect("crates.txt");
-    text.lines().filter_map(|l| l.split_once(':')).map(|(name, _)| name.to_string()).collect()
+    text.lines().filter(|l| !l.starts_with('#')).filter_map(|l| l.split([' ', ':']).next()).map(str::to_string).collect()
 }
 
 /// The files below a folder in the order in which a file lists them, each followed by those that it lists itself.
@@ -67,9 +67,9 @@ fn listed(list: &str, folder: &str) -> Vec<String> {
     files.flat_map(|f| [vec![format!("{f}.antt")], listed(&format!("{f}.antt"), &f)].concat()).collect()
 }
 
-/// The files of a crate in the order in which its Lib lists them.
+/// The files of a crate in the order in which its two Libs list them.
 fn reading_order(name: &str) -> Vec<String> {
-    listed(&format!("{name}/specs/Lib.antt"), &format!("{name}/specs"))
+    ["specs", "proofs"].map(|part| listed(&format!("{name}/{part}/Lib.antt"), &format!("{name}/{part}"))).concat()
 }
 
 /// What stands in backquotes in the last cell of a row.

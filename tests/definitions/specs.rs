@@ -1,4 +1,5 @@
-//! The files of definitions and lemmas below `crates/*/specs/`, and the contracts in `crates/*/src/`, as far as names go.
+//! The files of definitions and lemmas below `crates/*/specs/` and `crates/*/proofs/`, and the contracts in `crates/*/src/`, as
+//! far as names go.
 
 use std::collections::{BTreeMap, BTreeSet};
 use std::fs;
@@ -27,7 +28,7 @@ fn words(line: &str) -> impl Iterator<Item = &str> {
     line.split(|c: char| c.is_whitespace() || "(){}[],;.".contains(c)).filter(|w| !w.is_empty())
 }
 
-/// The names that `use Rattle.CRATE.specs.FILE.{a, b as c}` brings in, under the names that they get.
+/// The names that `use Rattle.CRATE.specs.FILE.{a, b as c}`, or the same of proofs, brings in, under the names that they get.
 fn brought(text: &str) -> BTreeMap<String, Name> {
     let mut names = BTreeMap::new();
     for part in text.split("use Rattle.").skip(1) {
@@ -103,7 +104,7 @@ pub struct Specs(BTreeMap<String, File>);
 impl Specs {
     pub fn load(crates: &[String]) -> Specs {
         let mut files = BTreeMap::new();
-        let mut folders: Vec<String> = crates.iter().map(|c| format!("{c}/specs")).collect();
+        let mut folders: Vec<String> = crates.iter().flat_map(|c| [format!("{c}/specs"), format!("{c}/proofs")]).collect();
         while let Some(folder) = folders.pop() {
             let Ok(entries) = fs::read_dir(format!("crates/{folder}")) else { continue };
             for entry in entries.flatten() {

@@ -13,7 +13,7 @@ use Rattle.operands.specs.Bytes.{Syntax}
 use Rattle.operands.specs.Scanner.{Atom, tree}
 use Rattle.operands.specs.Bytes.{first}
 use Rattle.operands.specs.FirstSyntax.{first_size}
-use Rattle.operands.specs.Agree.{scanned_exactly}
+use Rattle.operands.proofs.Agree.{scanned_exactly}
 use Rattle.checker.specs.Expanded.{expansion, expanded_for, expanded}
 use Rattle.checker.specs.ExpandedLaws.{expanded_small, expanded_large, form_first}
 use Rattle.checker.specs.Drawn.{classes_in, recorded}

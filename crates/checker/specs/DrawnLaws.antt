@@ -13,7 +13,7 @@ use Rattle.operands.specs.Signs.{sign_means}
 use Rattle.operands.specs.Scanner.{Atom, literal, one_of, no_text, Outcome, tree, refused}
 use Rattle.checker.specs.Expanded.{expansion, expanded}
 use Rattle.operands.specs.Grammar.{Level, Spells, itself, escaped, any_but_line_end, bracketed, group, no_sign, one_star, one_or_more, none_or_one, so_many, one_factor, next_factor, one_branch, next_branch}
-use Rattle.operands.specs.Sound.{no_tree}
+use Rattle.operands.proofs.Sound.{no_tree}
 use Rattle.operands.specs.FirstSyntax.{first_size}
 use Rattle.operands.specs.Agree.{Refusal}
 use Rattle.checker.specs.ExpandedLaws.{WrittenTree, TreeRefusal, expanded_exactly, expanded_refusal, first_refusal}

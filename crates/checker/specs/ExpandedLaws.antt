@@ -9,9 +9,10 @@ use Rattle.tree.specs.RefusalNumbers.{too_many_nodes}
 use Rattle.operands.specs.Bytes.{Syntax, first}
 use Rattle.operands.specs.Scanner.{Atom, Outcome, tree, refused, scanned}
 use Rattle.operands.specs.Grammar.{Written}
-use Rattle.operands.specs.Sound.{no_tree}
+use Rattle.operands.proofs.Sound.{no_tree}
 use Rattle.operands.specs.FirstSyntax.{first_size}
-use Rattle.operands.specs.Agree.{scanned_exactly, scanned_refusal, Refusal}
+use Rattle.operands.specs.Agree.{scanned_refusal, Refusal}
+use Rattle.operands.proofs.Agree.{scanned_exactly}
 use Rattle.checker.specs.Expanded.{expansion, expanded_for, expanded}
 
 -- the bytes are written with signs that stand for t, which has at most 2,047 nodes

@@ -1,6 +1,6 @@
 -- The records mean what was written: with the class records of an expression, the tree of its records has the language
 -- of its written tree. A text is of bytes: no value is above 255.
-use Rattle.std.specs.Prelude.{ℕ, ◌+◌, ◌*◌, ◌/◌, ◌%◌, ◌^◌, ◌<◌, ◌≡◌, refl, Bool, true, false, ◌⊎◌, ◌↔◌, List, [], ◌∷◌, ◌++◌, length, get_or}
+use Rattle.std.specs.Prelude.{ℕ, ◌+◌, ◌*◌, ◌/◌, ◌%◌, ◌^◌, ◌<◌, ◌≡◌, refl, Bool, true, false, ◌↔◌, List, [], ◌∷◌, ◌++◌, length, get_or}
 use Rattle.std.proofs.Common.{ap, sym, ◌∙◌, subst, inl, inr, append_assoc, arith, length-append, get_or-append-add}
 use Rattle.std.proofs.Math.Logic.Iff
 use Rattle.std.proofs.Math.ListN.{get_or-append}
@@ -8,7 +8,7 @@ use Rattle.language.specs.Tree.{Tree, leaf, catenation, union, star}
 use Rattle.language.specs.Language.{Language, Repeated, none, more}
 use Rattle.language.specs.SignedTree.{SignedTree, WellCounted}
 use Rattle.language.proofs.SameTexts.{same_texts}
-use Rattle.tree.specs.Leaf.{Leaf, meaning, Matches}
+use Rattle.tree.specs.Leaf.{meaning, Matches}
 use Rattle.tree.specs.Layout.{class_record_size}
 use Rattle.tree.specs.Cut.{one}
 use Rattle.classes.specs.Class.{Class, class_takes}

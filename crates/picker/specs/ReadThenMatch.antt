@@ -15,7 +15,8 @@ use Rattle.operands.specs.Scanner.{Atom}
 use Rattle.checker.specs.Expanded.{expansion, expanded}
 use Rattle.checker.specs.ExpandedLaws.{expanded_exactly}
 use Rattle.operands.specs.Grammar.{Written}
-use Rattle.operands.specs.Agree.{grammar_unique, written_counted}
+use Rattle.operands.specs.Agree.{written_counted}
+use Rattle.operands.proofs.Agree.{grammar_unique}
 use Rattle.checker.specs.Drawn.{recorded, classes_of, classes_in, MatchesSigns}
 use Rattle.classes.specs.ClassRecord.{encode_classes}
 use Rattle.reader.specs.Answer.{read_numbers, read_answered, records_after}

@@ -1,7 +1,7 @@
 -- Printing into a buffer: bytes one after the other, none, one byte, and the digits of a number.
 use Rattle.std.specs.Prelude.{ℕ, suc, ◌+◌, ◌/◌, ◌%◌, ◌≤◌, ◌<◌, ◌≡◌, refl, set}
 use Rattle.std.proofs.Math.Path.{sym, ap}
-use Rattle.std.proofs.Common.{◌∙◌, add_assoc, add-one, arith, length-append, length-drop, length-set, drop_at, length-take-le}
+use Rattle.std.proofs.Common.{◌∙◌, add_assoc, add-one, arith, length-append, length-set, drop_at, length-take-le}
 use mathlib.Core.List.{List, [], ◌∷◌, ◌++◌, append_assoc}
 use Rattle.std.proofs.Math.ListN.{length, take, drop}
 use Rattle.std.proofs.Math.Seq.{take_at, drop-drop, append_snoc, take-length, paste, paste-zero}

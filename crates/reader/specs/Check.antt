@@ -9,7 +9,7 @@ use Rattle.tree.specs.Limits.{most_pieces, most_labels, longest_expression}
 use Rattle.tree.specs.Cut.{Cut, Fits, pieces}
 use Rattle.tree.specs.Least.{too_many_exactly}
 use Rattle.operands.specs.Grammar.{Written}
-use Rattle.operands.specs.Sound.{no_tree}
+use Rattle.operands.proofs.Sound.{no_tree}
 use Rattle.language.specs.SignedTree.{SignedTree}
 use Rattle.tree.specs.Layout.{record_size, class_record_size}
 use Rattle.tree.specs.Records.{piece_count}

@@ -22,7 +22,7 @@ use Rattle.tree.specs.PlacesLaws.{
 }
 use Rattle.operands.specs.Bytes.{Syntax}
 use Rattle.operands.specs.Scanner.{Atom, no_text, Outcome, tree, scanned}
-use Rattle.operands.specs.PlacesInside.{low_places}
+use Rattle.operands.proofs.PlacesInside.{low_places}
 use Rattle.checker.specs.Expanded.{expansion, expanded}
 use Rattle.checker.specs.ExpandedLaws.{expanded_tree}
 use Rattle.checker.specs.Drawn.{recorded, drawn}

@@ -10,7 +10,7 @@ use Rattle.language.specs.PlacedStandsFor.{placed_stands_for}
 use Rattle.tree.specs.Limits.{most_labels}
 use Rattle.operands.specs.Bytes.{Syntax}
 use Rattle.operands.specs.Scanner.{Atom, no_text, Outcome, tree, refused, scanned}
-use Rattle.operands.specs.Sound.{no_tree}
+use Rattle.operands.proofs.Sound.{no_tree}
 use Rattle.operands.specs.LeavesPlaced.{written_at}
 use Rattle.scanner.specs.Expression.{ExpressionAnswer, PlacesRead, places_read}
 use Rattle.operands.specs.declared.part.Part.{Part}
