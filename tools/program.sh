@@ -1,7 +1,7 @@
 # What the scripts around the programs share: arguments, the file that is read, the program, its exit status. The script sets
 # `name`, `here` (the folder that it stands in), `lines` (what is read, in words, for who types it) and a function `usage`,
-# and calls `main`; or `prepare`, and runs `program` itself. A program in Rattle has no exit status of its own: with `main` it
-# is 1 where the last line that the program says on standard error begins with `refused`, and 2 where it says anything else there.
+# and calls `main`; or `prepare`, and runs `program` itself. The programs end with status 0 themselves: with `main` it is 1
+# where the last line that the program says on standard error begins with `refused`, and 2 where it says anything else there.
 
 # Ends with status 2 and says why.
 fail() {
@@ -81,6 +81,11 @@ main() {
     fi
     case ${said##*$'\n'} in
     '') exit "$status" ;;
+    'standard output: Broken pipe')
+        # Nobody reads its output any more, and it was told so as a failed write: the script ends as by that signal.
+        kill -s PIPE $$
+        fail "$said"
+        ;;
     refused*)
         printf '%s\n' "$said" >&2
         exit 1

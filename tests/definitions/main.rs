@@ -15,8 +15,27 @@ const DECISIONS: &str = "docs/DECISIONS.md";
 const BEGIN: &str = "<!-- made by tests/definitions/run -->\n";
 const END: &str = "<!-- end -->\n";
 
+/// The calls of the outside interface, which are exported under these names.
+const CALLS: [&str; 15] = [
+    "foam_check",
+    "foam_check2",
+    "foam_read",
+    "foam_read2",
+    "foam_match",
+    "foam_search",
+    "foam_start",
+    "foam_step",
+    "foam_steps",
+    "foam_lines",
+    "foam_lines_table",
+    "foam_table",
+    "foam_match_table",
+    "foam_widen",
+    "foam_pick",
+];
+
 /// The functions that make up the product, by their source files.
-const ENTRY_POINTS: [(&str, &[&str]); 14] = [
+const ENTRY_POINTS: [(&str, &[&str]); 15] = [
     ("deciding/src/good.rt", &["decide"]),
     ("widen/src/lib.rt", &["widen"]),
     ("checker/src/lib.rt", &["check", "check_second"]),
@@ -30,32 +49,14 @@ const ENTRY_POINTS: [(&str, &[&str]); 14] = [
     ("picker/src/lib.rt", &["pick"]),
     ("showing/src/lib.rt", &["refusal"]),
     ("explaining/src/lib.rt", &["explain"]),
-    (
-        "foamlattice/src/lib.rt",
-        &[
-            "foam_check",
-            "foam_check2",
-            "foam_read",
-            "foam_read2",
-            "foam_match",
-            "foam_search",
-            "foam_start",
-            "foam_step",
-            "foam_steps",
-            "foam_lines",
-            "foam_lines_table",
-            "foam_table",
-            "foam_match_table",
-            "foam_widen",
-            "foam_pick",
-        ],
-    ),
+    ("foamlattice/src/lib.rt", &CALLS),
+    ("foamlattice_c/src/lib.rt", &CALLS),
 ];
 
 /// The crates, lowest first.
 fn crates() -> Vec<String> {
     let text = fs::read_to_string("crates.txt").expect("crates.txt");
-    text.lines().filter_map(|l| l.split_once(':')).map(|(name, _)| name.to_string()).collect()
+    text.lines().filter(|l| !l.starts_with('#')).filter_map(|l| l.split([' ', ':']).next()).map(str::to_string).collect()
 }
 
 /// The files below a folder in the order in which a file lists them, each followed by those that it lists itself.
@@ -66,9 +67,9 @@ fn listed(list: &str, folder: &str) -> Vec<String> {
     files.flat_map(|f| [vec![format!("{f}.antt")], listed(&format!("{f}.antt"), &f)].concat()).collect()
 }
 
-/// The files of a crate in the order in which its Lib lists them.
+/// The files of a crate in the order in which its two Libs list them.
 fn reading_order(name: &str) -> Vec<String> {
-    listed(&format!("{name}/specs/Lib.antt"), &format!("{name}/specs"))
+    ["specs", "proofs"].map(|part| listed(&format!("{name}/{part}/Lib.antt"), &format!("{name}/{part}"))).concat()
 }
 
 /// What stands in backquotes in the last cell of a row.

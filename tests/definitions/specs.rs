@@ -1,4 +1,5 @@
-//! The files of definitions and lemmas below `crates/*/specs/`, and the contracts in `crates/*/src/`, as far as names go.
+//! The files of definitions and lemmas below `crates/*/specs/` and `crates/*/proofs/`, and the contracts in `crates/*/src/`, as
+//! far as names go.
 
 use std::collections::{BTreeMap, BTreeSet};
 use std::fs;
@@ -27,12 +28,15 @@ fn words(line: &str) -> impl Iterator<Item = &str> {
     line.split(|c: char| c.is_whitespace() || "(){}[],;.".contains(c)).filter(|w| !w.is_empty())
 }
 
-/// The names that `use CRATE.specs.FILE.{a, b as c};` brings in, under the names that they get.
+/// The names that `use Rattle.CRATE.specs.FILE.{a, b as c}`, or the same of proofs, brings in, under the names that they get.
 fn brought(text: &str) -> BTreeMap<String, Name> {
     let mut names = BTreeMap::new();
-    for part in text.split("use Rattle·").skip(1) {
+    for part in text.split("use Rattle.").skip(1) {
         let Some((from, list)) = part.split('}').next().and_then(|p| p.split_once(".{")) else { continue };
-        let path = from.replacen("·specs", "", 1).replacen(".specs.", "/specs/", 1).replace('.', "/") + ".antt";
+        if from.contains(char::is_whitespace) {
+            continue;
+        }
+        let path = from.replace('.', "/") + ".antt";
         for name in list.split(',').map(str::trim).filter(|n| !n.is_empty()) {
             let (here, there) = name.split_once(" as ").map_or((name, name), |(there, here)| (here, there));
             names.insert(here.to_string(), (path.clone(), there.to_string()));
@@ -100,7 +104,7 @@ pub struct Specs(BTreeMap<String, File>);
 impl Specs {
     pub fn load(crates: &[String]) -> Specs {
         let mut files = BTreeMap::new();
-        let mut folders: Vec<String> = crates.iter().map(|c| format!("{c}/specs")).collect();
+        let mut folders: Vec<String> = crates.iter().flat_map(|c| [format!("{c}/specs"), format!("{c}/proofs")]).collect();
         while let Some(folder) = folders.pop() {
             let Ok(entries) = fs::read_dir(format!("crates/{folder}")) else { continue };
             for entry in entries.flatten() {

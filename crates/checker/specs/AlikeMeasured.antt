@@ -6,7 +6,7 @@ use Rattle.std.proofs.lemmas.List.{map-append}
 use Rattle.language.specs.Tree.{Tree, nodes}
 use Rattle.tree.specs.Leaf.{Leaf}
 use Rattle.tree.specs.Cut.{open_size}
-use Rattle.tree.specs.Numbering.{Nodewise, Walker, at_left, at_right, walked}
+use Rattle.tree.specs.Numbering.{Nodewise, Walker, at_left, at_right}
 use Rattle.tree.specs.Records.{labels}
 use Rattle.tree.specs.Postorder.{labels_injective}
 use Rattle.cutting.specs.Seats.{Seat, seats_by, cut_edges}

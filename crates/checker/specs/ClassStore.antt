@@ -1,16 +1,15 @@
 -- Storing the classes: the class labels tell the places, each class's record is written behind those before it, and the
 -- labels are numbered.
 use Rattle.std.specs.Prelude.{ℕ, zero, suc, ◌+◌, ◌*◌, ◌/◌, ◌%◌, ◌≤◌, ◌<◌, ◌≡◌, refl, Bool, true, false, cond, List, [], ◌∷◌, ◌++◌, length, get_or, set, take, drop, eqb}
-use Rattle.std.proofs.Common.{ap, sym, ◌∙◌, subst, append_assoc, append-nil, arith, add-one, length-append, length-drop, take-append-drop, take-suc, drop-cons, drop-drop, take_all, take_at, drop_at, length-take-le, ne_eqb}
+use Rattle.std.proofs.Common.{ap, sym, ◌∙◌, append_assoc, append-nil, arith, add-one, take-append-drop, take-suc, drop-cons, drop-drop, take_all, take_at, drop_at, length-take-le, ne_eqb}
 use Rattle.std.proofs.Math.Seq.{drop-length}
 use Rattle.std.proofs.lemmas.List.{set_at, get_or_at}
 use Rattle.language.specs.Tree.{Tree, leaf, catenation, union, star}
 use Rattle.tree.specs.Leaf.{Leaf, character}
 use Rattle.tree.specs.Layout.{two_bytes_limit, class_kind, class_label, class_record_size}
 use Rattle.tree.specs.Records.{labels}
-use Rattle.classes.specs.Class.{Class}
 use Rattle.classes.specs.ClassRecord.{class_record, encode_classes}
-use Rattle.classes.specs.ClassRecordLaws.{record_length, encode_classes_length, encode_classes_append}
+use Rattle.classes.specs.ClassRecordLaws.{encode_classes_length, encode_classes_append}
 use Rattle.classes.specs.ClassAt.{class_at, ClassHere}
 use Rattle.operands.specs.LeavesPlaced.{LeavesPlaced}
 use Rattle.checker.specs.Relabelled.{
@@ -283,7 +282,7 @@ pub next_stored : {bytes ls before after later : List ℕ} {i k next : ℕ} → 
 next_stored s h (class_label_stored e f) = class_stored s h e f
 next_stored s h (other_label_stored e) = other_stored s h e
 
-pub next_numbered : {ls after later : List ℕ} {i k next : ℕ} → LabelsNumbered ls after i k → i < length ls
+pub next_numbered : {i k next : ℕ} {ls after later : List ℕ} → LabelsNumbered ls after i k → i < length ls
     → LabelNumbered i k after later next → LabelsNumbered ls later (i + 1) next
 next_numbered {i = i} s h (class_label_numbered e) =
     class_numbered s h (ap (λ (l : ℕ). l % 8) (sym (label_there s h)) ∙ e)

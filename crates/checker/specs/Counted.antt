@@ -1,19 +1,19 @@
 -- What counting promises: the records, pieces and classes of the tree whose labels were read, or 8; and with the
 -- reading before it, every refusal that needs no buffer.
 use Rattle.std.specs.Prelude.{ℕ, ◌<◌, ◌≤◌, ◌≡◌, refl, Bool, true, false, cond, List, length, take, ltb}
-use Rattle.std.proofs.Common.{arith, sym, ◌∙◌, lt-ltb, le-ltb, ltb-false}
+use Rattle.std.proofs.Common.{arith, sym, ◌∙◌, lt-ltb, le-ltb}
 use Rattle.std.proofs.Math.Path.{ap}
 use Rattle.language.specs.Tree.{Tree, nodes}
 use Rattle.tree.specs.RefusalNumbers.{too_many_pieces, too_many_nodes}
-use Rattle.tree.specs.Limits.{most_pieces, most_labels, longest_expression}
+use Rattle.tree.specs.Limits.{most_pieces, most_labels}
 use Rattle.tree.specs.Leaf.{Leaf}
 use Rattle.tree.specs.Records.{labels, piece_count}
 use Rattle.tree.specs.Lengths.{length_labels}
 use Rattle.operands.specs.Bytes.{Syntax}
-use Rattle.operands.specs.Scanner.{Atom, Outcome, tree, refused}
+use Rattle.operands.specs.Scanner.{Atom, tree}
 use Rattle.operands.specs.Bytes.{first}
 use Rattle.operands.specs.FirstSyntax.{first_size}
-use Rattle.operands.specs.Agree.{scanned_exactly}
+use Rattle.operands.proofs.Agree.{scanned_exactly}
 use Rattle.checker.specs.Expanded.{expansion, expanded_for, expanded}
 use Rattle.checker.specs.ExpandedLaws.{expanded_small, expanded_large, form_first}
 use Rattle.checker.specs.Drawn.{classes_in, recorded}

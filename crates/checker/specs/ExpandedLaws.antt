@@ -1,6 +1,6 @@
 -- When an expression has a tree, and when it is refused by its bytes alone: exactly by the scanner's faults, and else
 -- by 17 where the tree that its signs stand for has more than 2,047 nodes. In the first syntax 17 is never given.
-use Rattle.std.specs.Prelude.{ℕ, ◌+◌, ◌*◌, ◌≤◌, ◌<◌, ◌≡◌, refl, Bool, true, false, cond, ◌↔◌, ◌⊎◌, List, length, ltb}
+use Rattle.std.specs.Prelude.{ℕ, ◌≤◌, ◌<◌, ◌≡◌, refl, Bool, true, false, cond, ◌↔◌, ◌⊎◌, List, length, ltb}
 use Rattle.std.proofs.Common.{ap, sym, ◌∙◌, inl, inr, ⊎_elim, arith, ltb-true, ltb-false, lt-ltb, le-ltb}
 use Rattle.language.specs.Tree.{Tree, nodes}
 use Rattle.language.specs.SignedTree.{SignedTree}
@@ -9,9 +9,10 @@ use Rattle.tree.specs.RefusalNumbers.{too_many_nodes}
 use Rattle.operands.specs.Bytes.{Syntax, first}
 use Rattle.operands.specs.Scanner.{Atom, Outcome, tree, refused, scanned}
 use Rattle.operands.specs.Grammar.{Written}
-use Rattle.operands.specs.Sound.{no_tree}
+use Rattle.operands.proofs.Sound.{no_tree}
 use Rattle.operands.specs.FirstSyntax.{first_size}
-use Rattle.operands.specs.Agree.{scanned_exactly, scanned_refusal, Refusal}
+use Rattle.operands.specs.Agree.{scanned_refusal, Refusal}
+use Rattle.operands.proofs.Agree.{scanned_exactly}
 use Rattle.checker.specs.Expanded.{expansion, expanded_for, expanded}
 
 -- the bytes are written with signs that stand for t, which has at most 2,047 nodes

@@ -6,7 +6,7 @@ use Rattle.tree.specs.Leaf.{Leaf, character}
 use Rattle.tree.specs.Cut.{cuts, open_size, wanted}
 use Rattle.tree.specs.Records.{piece_count}
 use Rattle.operands.specs.Scanner.{Atom, literal, one_of, no_text}
-use Rattle.checker.specs.Drawn.{classes_in, recorded, recorded_from}
+use Rattle.checker.specs.Drawn.{recorded, recorded_from}
 use Rattle.operands.specs.LeavesPlaced.{written_at}
 
 -- two trees of one shape

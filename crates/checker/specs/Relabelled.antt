@@ -1,13 +1,12 @@
 -- The labels of the records' tree, from those of the tree with places: each class label gets the number that is next.
-use Rattle.std.specs.Prelude.{ℕ, zero, suc, ◌+◌, ◌*◌, ◌/◌, ◌%◌, ◌<◌, ◌≤◌, ◌≡◌, refl, Bool, true, false, cond, List, [], ◌∷◌, ◌++◌, length, get_or, eqb}
-use Rattle.std.proofs.Common.{ap, sym, ◌∙◌, append-nil, arith, length-append}
+use Rattle.std.specs.Prelude.{ℕ, ◌+◌, ◌*◌, ◌/◌, ◌%◌, ◌≤◌, ◌≡◌, refl, Bool, true, false, cond, List, [], ◌∷◌, ◌++◌, length, eqb}
+use Rattle.std.proofs.Common.{ap, ◌∙◌, append-nil, arith}
 use Rattle.language.specs.Tree.{Tree, leaf, catenation, union, star}
 use Rattle.tree.specs.Leaf.{Leaf, character}
 use Rattle.tree.specs.Layout.{class_kind, class_label}
-use Rattle.tree.specs.Records.{labels, class_numbers, class_count, Ranked}
-use Rattle.operands.specs.Scanner.{Atom, literal, one_of}
+use Rattle.tree.specs.Records.{labels}
 use Rattle.classes.specs.Class.{Class}
-use Rattle.checker.specs.Drawn.{classes_of, classes_in, recorded, recorded_from}
+use Rattle.checker.specs.Drawn.{classes_of, classes_in, recorded_from}
 use Rattle.classes.specs.ClassAt.{class_at}
 use Rattle.operands.specs.LeavesPlaced.{written_at}
 

@@ -25,6 +25,7 @@ use Rattle.language.specs.TakenAsOneLaws.{
 takes_or_empty : (classes : List ℕ) (a : Leaf) (b : ℕ) → TakesByte classes a b → has_empty a ≡ true → ⊥
 takes_or_empty classes (character c) b takes has = let z : ◌≡◌ {A = ℕ} 0 1 = cc in omega arith
 takes_or_empty classes (class k) b takes has = let z : ◌≡◌ {A = ℕ} 0 1 = cc in omega arith
+takes_or_empty classes Rattle.tree.specs.Leaf.empty_text b takes has = elim takes [ ]
 
 module _ (classes : List ℕ) (t : Tree Leaf) where
   -- a text leads to the state that it leads to

@@ -3,64 +3,15 @@
 use Rattle.std.specs.Prelude.{ℕ, suc, ◌≤◌, ◌<◌, ◌≡◌, refl, ◌↔◌, ◌⊎◌, Bool, true, false, cond, List, [], ◌∷◌, length, ltb}
 use Rattle.std.proofs.Common.{inl, arith, ltb-true, ltb-false}
 use Rattle.language.specs.SignedTree.{SignedTree, WellCounted}
-use Rattle.tree.specs.RefusalNumbers.{
-  expression_empty,
-  expression_too_long,
-  backslash_before_no_sign,
-  class_faulty,
-  count_faulty,
-}
+use Rattle.tree.specs.RefusalNumbers.{expression_empty, expression_too_long, backslash_before_no_sign, class_faulty, count_faulty}
 use Rattle.tree.specs.Limits.{longest_expression}
 use Rattle.operands.specs.Bytes.{Syntax}
-use Rattle.classes.specs.ClassGrammar.{
-  SpellsByte,
-  bare,
-  slashed,
-  SpellsItem,
-  single,
-  range,
-  SpellsItems,
-  one_item,
-  next_item,
-  SpellsClass,
-  these,
-  all_but_these,
-}
+use Rattle.classes.specs.ClassGrammar.{SpellsByte, bare, slashed, SpellsItem, single, range, SpellsItems, one_item, next_item, SpellsClass, these, all_but_these}
 use Rattle.classes.specs.Class.{Item, Class}
 use Rattle.counts.specs.CountComplete.{count_shorter, count_bounds}
-use Rattle.operands.specs.Scanner.{Atom, Outcome, tree, refused, due, nothing, scan, scanned}
-use Rattle.operands.specs.Grammar.{
-  Level,
-  Spells,
-  Written,
-  itself,
-  escaped,
-  any_but_line_end,
-  bracketed,
-  group,
-  no_sign,
-  one_star,
-  one_or_more,
-  none_or_one,
-  so_many,
-  one_factor,
-  next_factor,
-  one_branch,
-  next_branch,
-}
-use Rattle.operands.specs.Complete.{scanner_gives}
-use Rattle.operands.specs.Sound.{no_tree, scanner_reads}
+use Rattle.operands.specs.Scanner.{Atom, Outcome, refused, due, nothing, scan, scanned}
+use Rattle.operands.specs.Grammar.{Level, Spells, Written, itself, escaped, any_but_line_end, bracketed, group, no_sign, one_star, one_or_more, none_or_one, so_many, one_factor, next_factor, one_branch, next_branch}
 use Rattle.operands.specs.Faults.{highest, seven_given, refused_cases}
-
--- the scanner gives t exactly when the bytes are a written t
-pub scanner_exactly : (syntax : Syntax) (bytes : List ℕ) (t : SignedTree Atom)
-    → (scan syntax bytes 0 due nothing [] ≡ tree t) ↔ Written syntax bytes t
-scanner_exactly syntax bytes t = (scanner_reads syntax bytes t, scanner_gives)
-
--- bytes are written one tree at most: the scanner gives one outcome
-pub grammar_unique : {syntax : Syntax} {bytes : List ℕ} {s t : SignedTree Atom} → Written syntax bytes s
-    → Written syntax bytes t → s ≡ t
-grammar_unique p q = cc (scanner_gives p, scanner_gives q)
 
 -- a class takes two bytes at least
 byte_shorter : {bytes rest : List ℕ} {b : ℕ} → SpellsByte bytes rest b → length rest < length bytes
@@ -136,30 +87,6 @@ cases syntax (b ∷ rest) = go (ltb longest_expression (suc (length rest))) refl
         (b ∷ rest) 0 due nothing []))
     go true e = long (ltb-true longest_expression (suc (length rest)) e)
     go false e = usual (omega arith) (ltb-false longest_expression (suc (length rest)) e)
-
--- an outcome that is a tree comes from a written expression of at most 1,024 bytes
-tree_case : {syntax : Syntax} {bytes : List ℕ} {outcome : Outcome (SignedTree Atom)} {t : SignedTree Atom}
-    → Case syntax bytes outcome
-    → outcome ≡ tree t
-    → (length bytes ≤ longest_expression) × Written syntax bytes t
-tree_case (empty p) e = no_tree e
-tree_case (long h) e = no_tree e
-tree_case {syntax} {bytes} {t = t} (usual h k) e = (k, scanner_reads syntax bytes t e)
-
--- a written expression of at most 1,024 bytes has its tree for an outcome
-written_case : {syntax : Syntax} {bytes : List ℕ} {outcome : Outcome (SignedTree Atom)} {t : SignedTree Atom}
-    → Case syntax bytes outcome
-    → length bytes ≤ longest_expression
-    → Written syntax bytes t → outcome ≡ tree t
-written_case {bytes = bytes} (empty p) h w = let none : length bytes ≡ 0 =
-    rw p in absurd (omega (arith, reads_shorter w))
-written_case (long k) h w = absurd (omega arith)
-written_case (usual k l) h w = scanner_gives w
-
--- an expression is taken with the tree t exactly when it has at most 1,024 bytes and is a written t
-pub scanned_exactly : (syntax : Syntax) (bytes : List ℕ) (t : SignedTree Atom) → (scanned syntax bytes ≡ tree t)
-    ↔ ((length bytes ≤ longest_expression) × Written syntax bytes t)
-scanned_exactly syntax bytes t = (tree_case (cases syntax bytes), λ (h, w). written_case (cases syntax bytes) h w)
 
 -- the number of a refusal tells the case apart, since the scan itself gives none below 3
 module _ {syntax : Syntax} {bytes : List ℕ} {place : ℕ} where

@@ -2,10 +2,10 @@
 pub mod Bytes
 pub mod Scanner
 pub mod Grammar
-mod ScanClass
-mod ScanCount
+pub mod ScanClass
+pub mod ScanCount
 pub mod Signs
-mod Complete
+pub mod Complete
 pub mod Sound
 pub mod Faults
 pub mod Agree

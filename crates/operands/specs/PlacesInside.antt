@@ -1,34 +1,15 @@
 -- Every node of what is written has the place of a byte of the expression: at most 1,023.
-use Rattle.std.specs.Prelude.{ℕ, ◌≤◌, ◌<◌, ◌≡◌, List, length}
+use Rattle.std.specs.Prelude.{ℕ, ◌<◌, List, length}
 use Rattle.std.proofs.Common.{arith}
 use Rattle.language.specs.SignedTree.{SignedTree}
 use Rattle.language.specs.PlacedTree.{places}
 use Rattle.language.specs.PlacedStandsFor.{placed_stands_for}
 use Rattle.language.specs.EachPlace.{Each, EachWritten}
-use Rattle.language.proofs.EachPlace.{each_stands_for, each_also}
-use Rattle.tree.specs.Limits.{most_place}
+use Rattle.language.proofs.EachPlace.{each_stands_for}
 use Rattle.operands.specs.Bytes.{Syntax}
-use Rattle.operands.specs.Scanner.{Atom, no_text, tree, scanned}
-use Rattle.operands.specs.Grammar.{
-  Level,
-  Spells,
-  Written,
-  itself,
-  escaped,
-  any_but_line_end,
-  bracketed,
-  group,
-  no_sign,
-  one_star,
-  one_or_more,
-  none_or_one,
-  so_many,
-  one_factor,
-  next_factor,
-  one_branch,
-  next_branch,
-}
-use Rattle.operands.specs.Agree.{reads_shorter, scanned_exactly}
+use Rattle.operands.specs.Scanner.{Atom, no_text}
+use Rattle.operands.specs.Grammar.{Level, Spells, Written, itself, escaped, any_but_line_end, bracketed, group, no_sign, one_star, one_or_more, none_or_one, so_many, one_factor, next_factor, one_branch, next_branch}
+use Rattle.operands.specs.Agree.{reads_shorter}
 
 -- the places of what is read are below the size of the expression
 spelled_inside : {syntax : Syntax} {size depth : ℕ} {level : Level} {bytes rest : List ℕ} {t : SignedTree Atom}
@@ -53,11 +34,3 @@ pub places_inside : {syntax : Syntax} {bytes : List ℕ} {t : SignedTree Atom} �
     → Each (λ place. place < length bytes) (places (placed_stands_for no_text t))
 places_inside {bytes = bytes} {t = t} w =
     each_stands_for (λ place. place < length bytes) no_text t (spelled_inside w)
-
--- and the places of an expression that is taken are at most 1,023
-pub low_places : (syntax : Syntax) (bytes : List ℕ) (t : SignedTree Atom) → scanned syntax bytes ≡ tree t
-    → Each (λ place. place ≤ most_place) (places (placed_stands_for no_text t))
-low_places syntax bytes t e =
-    let (short, w) = (scanned_exactly syntax bytes t).0 e in
-    each_also (λ place. place < length bytes) (λ place. place ≤ most_place) (λ place h. omega arith)
-    (places (placed_stands_for no_text t)) (places_inside w)

@@ -1,42 +1,23 @@
 -- How a reading goes on: one more sign, operand or branch makes a larger tree, and the labels are those of what it
 -- stands for.
-use Rattle.std.specs.Prelude.{ℕ, ◌+◌, ◌<◌, ◌≤◌, ◌≡◌, Bool, true, List, [], ◌∷◌, length, get_or}
+use Rattle.std.specs.Prelude.{ℕ, ◌+◌, ◌<◌, ◌≤◌, ◌≡◌, Bool, List, [], ◌∷◌, length, get_or}
 use Rattle.std.proofs.Common.{arith}
-use Rattle.language.specs.SignedTree.{leaf, catenation, union, star, one_or_more, optional, counted}
+use Rattle.language.specs.SignedTree.{leaf, union, star, one_or_more, optional, counted}
 use Rattle.language.specs.PlacedStandsFor.{placed_repeated, placed_perhaps, placed_times}
 use Rattle.tree.specs.Limits.{most_groups, slot_count}
 use Rattle.tree.specs.Leaf.{Leaf}
 use Rattle.tree.specs.Records.{leaf_label}
 use Rattle.repeats.specs.Noted.{note}
 use Rattle.repeats.specs.Labelled.{Appended, Relabels, RelabelsFrom}
-use Rattle.repeats.specs.LabelledLaws.{labelled_leaf, labelled_star, labelled_catenation, labelled_union}
+use Rattle.repeats.specs.LabelledLaws.{labelled_leaf, labelled_star, labelled_union}
 use Rattle.counts.specs.CountReading.{CountHere}
 use Rattle.counts.specs.CountRun.{count_at}
-use Rattle.operands.specs.Bytes.{Syntax, second, sign_of}
+use Rattle.operands.specs.Bytes.{Syntax, second}
 use Rattle.operands.specs.LeavesPlaced.{signs_at, LeafPlaced}
 use Rattle.operands.specs.Grammar.{starred, joined, united}
-use Rattle.operands.specs.Stopping.{beginning, closes_united}
-use Rattle.operands.specs.Surroundings.{
-  Leads,
-  leads_star,
-  leads_more,
-  leads_optional,
-  leads_counted,
-  leads_group,
-  leads_joined,
-  leads_united,
-  leads_factor,
-  leads_branch,
-}
-use Rattle.operands.specs.Reading.{
-  ReadUpTo,
-  whole_tree,
-  Whole,
-  PartAnswer,
-  CharacterAnswer,
-  LeafAnswer,
-  SignsAnswer,
-}
+use Rattle.operands.specs.Stopping.{closes_united}
+use Rattle.operands.specs.Surroundings.{Leads, leads_star, leads_more, leads_optional, leads_counted, leads_group, leads_joined, leads_united, leads_branch}
+use Rattle.operands.specs.Reading.{ReadUpTo, whole_tree, Whole, PartAnswer, CharacterAnswer, LeafAnswer, SignsAnswer}
 use Rattle.operands.specs.declared.part.Part.{Part}
 use Rattle.operands.specs.declared.part.Part.TheVariants.{Read, Refused}
 
@@ -197,25 +178,6 @@ module _ {syntax : Syntax} {places : Bool} {bytes : List ℕ} {depth at count : 
   }
 
   module _ {place n : ℕ} {middle : List ℕ} {next sum : ℕ} {last : List ℕ} {total : ℕ} {later : List ℕ} where
-    -- a catenation with one more operand
-    pub went_factor : ReadUpTo syntax places joined bytes depth at count earlier place n middle → place < length bytes
-        → beginning (sign_of syntax (get_or bytes place 0)) ≡ true
-        → Whole syntax places starred bytes depth place n middle next sum last
-        → Appended last sum (note places 2 place ∷ []) total later → ReadUpTo syntax places joined bytes depth at
-        count earlier next
-        total later
-    went_factor w h more r p =
-        record {
-          read = catenation place w.read r.went.read;
-          leads = leads_factor syntax bytes place w.leads h more r.went.leads r.stops;
-          placed = (w.placed, r.went.placed);
-          labelled = labelled_catenation place w.labelled r.went.labelled p;
-          further = omega (arith, w.further, r.went.further);
-          within = r.went.within;
-          grown = omega (arith, p.counted, w.grown, r.went.grown, r.went.few);
-          few = omega (arith, p.counted);
-        }
-
     -- a union with one more branch
     pub went_branch : ReadUpTo syntax places united bytes depth at count earlier place n middle → place < length bytes
         → get_or bytes place 0 ≡ 124 → Whole syntax places joined bytes depth (place + 1) n middle next sum last

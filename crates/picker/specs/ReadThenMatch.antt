@@ -15,15 +15,18 @@ use Rattle.operands.specs.Scanner.{Atom}
 use Rattle.checker.specs.Expanded.{expansion, expanded}
 use Rattle.checker.specs.ExpandedLaws.{expanded_exactly}
 use Rattle.operands.specs.Grammar.{Written}
-use Rattle.operands.specs.Agree.{grammar_unique, written_counted}
+use Rattle.operands.specs.Agree.{written_counted}
+use Rattle.operands.proofs.Agree.{grammar_unique}
 use Rattle.checker.specs.Drawn.{recorded, classes_of, classes_in, MatchesSigns}
 use Rattle.classes.specs.ClassRecord.{encode_classes}
 use Rattle.reader.specs.Answer.{read_numbers, read_answered, records_after}
 use Rattle.checker.specs.Checked.{counted_numbers}
 use Rattle.reader.specs.SecondAnswer.{second_answered, second_records_after, second_classes_after}
 use Rattle.classes.specs.ClassRecordLaws.{encode_classes_length}
-use Rattle.checker.specs.DrawnLaws.{class_count_recorded, first_has_no_class, drawn_tree}
-use Rattle.checker.specs.SameLanguage.{OfBytes, same_as_signs}
+use Rattle.checker.specs.DrawnLaws.{first_has_no_class, drawn_tree}
+use Rattle.checker.proofs.DrawnLaws.{class_count_recorded}
+use Rattle.checker.specs.SameLanguage.{OfBytes}
+use Rattle.checker.proofs.SameLanguage.{same_as_signs}
 use Rattle.reader.specs.Kept.{kept}
 use Rattle.reader.specs.SecondKept.{SecondKept, second_kept}
 use Rattle.reader.specs.declared.answer.ReadAnswer.TheVariants.{Read}

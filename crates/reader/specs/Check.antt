@@ -1,7 +1,7 @@
 -- The check and the write agree: what is written answers as the check does, or 9, or 15 after it, and that exactly
 -- where the check refuses nothing and a buffer is short.
-use Rattle.std.specs.Prelude.{ℕ, ◌*◌, ◌<◌, ◌≤◌, ◌≡◌, refl, Bool, true, false, cond, ◌⊎◌, ◌↔◌, List, [], length, eqb, ltb}
-use Rattle.std.proofs.Common.{arith, ap, sym, ◌∙◌, inl, inr, ⊎_elim, ltb-true, ltb-false, lt-ltb, le-ltb, ne_eqb, eqb-true}
+use Rattle.std.specs.Prelude.{ℕ, ◌*◌, ◌<◌, ◌≤◌, ◌≡◌, refl, Bool, true, false, cond, ◌↔◌, List, length, eqb, ltb}
+use Rattle.std.proofs.Common.{arith, ap, sym, ◌∙◌, ⊎_elim, ltb-true, ltb-false, lt-ltb, ne_eqb, eqb-true}
 use Rattle.std.proofs.Math.Logic.Iff
 use Rattle.language.specs.Tree.{Tree, nodes}
 use Rattle.tree.specs.RefusalNumbers.{too_many_pieces, buffer_too_short, class_buffer_too_short, too_many_nodes}
@@ -9,7 +9,7 @@ use Rattle.tree.specs.Limits.{most_pieces, most_labels, longest_expression}
 use Rattle.tree.specs.Cut.{Cut, Fits, pieces}
 use Rattle.tree.specs.Least.{too_many_exactly}
 use Rattle.operands.specs.Grammar.{Written}
-use Rattle.operands.specs.Sound.{no_tree}
+use Rattle.operands.proofs.Sound.{no_tree}
 use Rattle.language.specs.SignedTree.{SignedTree}
 use Rattle.tree.specs.Layout.{record_size, class_record_size}
 use Rattle.tree.specs.Records.{piece_count}
@@ -25,7 +25,7 @@ use Rattle.checker.specs.ExpandedLaws.{
   expanded_refusal,
   seventeen_exactly,
 }
-use Rattle.checker.specs.Drawn.{classes_of, classes_in, recorded, drawn}
+use Rattle.checker.specs.Drawn.{classes_in, recorded, drawn}
 use Rattle.checker.specs.DrawnLaws.{first_has_no_class}
 use Rattle.reader.specs.Answer.{ReadNumbers, refusing_read, reading, answer_for, read_answered}
 use Rattle.checker.specs.Checked.{

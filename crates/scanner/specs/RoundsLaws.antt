@@ -1,6 +1,6 @@
 -- One more operand makes a larger catenation, and one more branch a larger union; a fault in it is theirs; and where
 -- none is due the whole was read.
-use Rattle.std.specs.Prelude.{ℕ, ◌+◌, ◌<◌, ◌≤◌, ◌≡◌, Bool, true, false, List, length}
+use Rattle.std.specs.Prelude.{ℕ, ◌≤◌, ◌≡◌, Bool, true, false, List, length}
 use Rattle.std.proofs.Common.{arith, sym, ◌∙◌}
 use Rattle.tree.specs.Saying.{true_false}
 use Rattle.operands.specs.Bytes.{Syntax}
@@ -8,7 +8,8 @@ use Rattle.operands.specs.Grammar.{starred, joined, united}
 use Rattle.operands.specs.Stopping.{Stops, begins_next}
 use Rattle.operands.specs.Surroundings.{Fails, fails_joined, fails_factor, fails_united, fails_branch}
 use Rattle.operands.specs.Reading.{Whole}
-use Rattle.operands.specs.ReadingLaws.{went_joined, went_factor, went_united, went_branch}
+use Rattle.operands.specs.ReadingLaws.{went_joined, went_united, went_branch}
+use Rattle.operands.proofs.ReadingLaws.{went_factor}
 use Rattle.scanner.specs.Rounds.{
   Round,
   no_part,

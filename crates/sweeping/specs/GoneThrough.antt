@@ -1,5 +1,5 @@
 -- A child piece once it was gone through: swept, or passed over because it was at rest.
-use Rattle.std.specs.Prelude.{ℕ, zero, suc, ◌+◌, ◌-◌, ◌^◌, ◌<◌, Bool, true, ◌≡◌, refl, ◌⊎◌, List, get_or}
+use Rattle.std.specs.Prelude.{ℕ, zero, suc, ◌+◌, ◌-◌, ◌^◌, ◌<◌, Bool, true, ◌≡◌, refl, List, get_or}
 use Rattle.std.proofs.Common.{arith, sym, ap, ◌∙◌, subst, inl, inr, ⊎_elim}
 use Rattle.language.specs.Automaton.{start}
 use Rattle.language.specs.Nested.{Nested}

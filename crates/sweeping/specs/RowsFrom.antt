@@ -4,7 +4,7 @@ use Rattle.std.proofs.Common.{arith, sym, ap, ◌∙◌, subst, length-drop, get
 use Rattle.language.specs.Nested.{Nested, leaf, catenation, union, star, below}
 use Rattle.tree.specs.Leaf.{Leaf}
 use Rattle.tables.specs.Words.{word_bits, Bit, width, run}
-use Rattle.tables.specs.Plan.{row_words, word_of, stand_of, byte_of, class_of, RowOf, PieceAt, ChildrenAt}
+use Rattle.tables.specs.Plan.{row_words, word_of, byte_of, class_of, RowOf, PieceAt, ChildrenAt}
 use Rattle.sweeping.specs.Swept.{InRows}
 
 -- what is left of the table from the row of the piece a on

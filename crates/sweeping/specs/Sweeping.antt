@@ -10,7 +10,7 @@ use Rattle.tree.specs.Limits.{most_pieces}
 use Rattle.tree.specs.Leaf.{Leaf, byteless}
 use Rattle.tables.specs.Words.{word_bits, Bit, width, run, Holds, Clean}
 use Rattle.tables.specs.Plan.{row_words, run_of, stand_of, top_of, Closes}
-use Rattle.closing.specs.BitsOfWords.Numbers.{width_two, number_onto}
+use Rattle.closing.specs.BitsOfWords.Numbers.{width_two}
 use Rattle.closing.specs.Passes.Laid.{lays}
 use Rattle.closing.specs.Passes.Closing.{ClosesAfter}
 use Rattle.sweeping.specs.Passing.{bit_passed, passed_below}

@@ -9,22 +9,12 @@ use Rattle.tree.specs.Leaf.{Leaf}
 use Rattle.tree.specs.Layout.{record_size, record_of, two_bytes, no_place}
 use Rattle.tree.specs.Places.{bare}
 use Rattle.tree.specs.PlacesLaws.{byte_kept, bare_encode}
-use Rattle.tree.specs.Records.{encode, Good}
+use Rattle.tree.specs.Records.{encode}
 use Rattle.tree.specs.Lengths.{length_encode}
-use Rattle.cutting.specs.Seats.{Seat, seats, seat_at}
+use Rattle.cutting.specs.Seats.{seats, seat_at}
 use Rattle.cutting.specs.SeatRecords.{seat_record}
 use Rattle.lists.specs.Readback.{byte_of_record}
-use Rattle.widen.specs.OldLayout.{
-  old_record_size,
-  old_records,
-  wide_byte,
-  widened,
-  narrow_byte,
-  narrow_bytes,
-  old_encode,
-  GoodOld,
-  OldList,
-}
+use Rattle.widen.specs.OldLayout.{old_record_size, wide_byte, widened, narrow_byte, narrow_bytes, old_encode, GoodOld, OldList}
 use Rattle.widen.specs.OldLayoutLaws.{length_widened, byte_of_widened, wide_places, old_nodes}
 
 -- as many bytes as are asked for

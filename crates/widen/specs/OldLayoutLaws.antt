@@ -1,5 +1,5 @@
 -- Laws of the old layout: the wide list has a record for each old one, with the place 0, and one tree at most.
-use Rattle.std.specs.Prelude.{ℕ, zero, suc, ◌+◌, ◌*◌, ◌/◌, ◌%◌, ◌≤◌, ◌<◌, ◌≡◌, refl, cond, List, [], ◌∷◌, ◌++◌, length, get_or, set, take, drop}
+use Rattle.std.specs.Prelude.{ℕ, zero, suc, ◌+◌, ◌*◌, ◌%◌, ◌≤◌, ◌<◌, ◌≡◌, refl, List, [], ◌∷◌, ◌++◌, length, get_or, set, take, drop}
 use Rattle.std.proofs.Common.{sym, ap, ◌∙◌, arith, add-one, le-ltb, length-append, drop-cons, take_at}
 use Rattle.std.proofs.Math.Decide.{dec_lt}
 use Rattle.std.proofs.Math.ListN.{get_or-append}
@@ -8,7 +8,6 @@ use Rattle.std.proofs.Math.Seq.{append_snoc}
 use Rattle.language.specs.Tree.{Tree, nodes}
 use Rattle.tree.specs.Leaf.{Leaf}
 use Rattle.tree.specs.Layout.{record_size, place_at}
-use Rattle.tree.specs.Records.{Good}
 use Rattle.lists.specs.Readback.{good_unique}
 use Rattle.deciding.specs.DecideLaws.{good_length}
 use Rattle.widen.specs.OldLayout.{old_record_size, old_records, wide_byte, wide_bytes, widened, GoodOld}

@@ -1,6 +1,6 @@
 -- What follows from the promise: the new list has the old one's tree and the place 0 in every record, and the answer is
 -- the only one.
-use Rattle.std.specs.Prelude.{ℕ, ◌+◌, ◌*◌, ◌≤◌, ◌<◌, ◌≡◌, refl, List, ◌++◌, length, take, drop}
+use Rattle.std.specs.Prelude.{ℕ, ◌*◌, ◌<◌, ◌≡◌, refl, List, ◌++◌, take, drop}
 use Rattle.std.proofs.Common.{sym, ap, ◌∙◌, arith, take_at}
 use Rattle.language.specs.Tree.{Tree, nodes}
 use Rattle.tree.specs.Leaf.{Leaf}
@@ -8,9 +8,9 @@ use Rattle.tree.specs.Layout.{record_size, place_at}
 use Rattle.tree.specs.Records.{Good}
 use Rattle.widen.specs.declared.Widened.{Widened}
 use Rattle.widen.specs.declared.Widened.TheVariants.{Written, NotGood, NoRoom}
-use Rattle.widen.specs.OldLayout.{old_records, widened, GoodOld}
+use Rattle.widen.specs.OldLayout.{widened, GoodOld}
 use Rattle.widen.specs.OldLayoutLaws.{length_widened, old_nodes, old_unique, wide_places}
-use Rattle.widen.specs.Promise.{WideWritten, SaysWidened, Widens}
+use Rattle.widen.specs.Promise.{WideWritten, Widens}
 
 -- the part that was written is the wide list
 pub written_part : {old before after : List ℕ} {records : ℕ} → WideWritten old before after records

@@ -5,7 +5,6 @@ use Rattle.tree.specs.Leaf.{character}
 use Rattle.operands.specs.Stopping.{not_special}
 use Rattle.operands.specs.Surroundings.{leads_plain, leads_escaped, fails_escaped, fails_last, fails_special}
 use Rattle.operands.specs.ReadingLaws.{leaf_read}
-use borrow.Author.Rules.{rules}
 use Rattle.operands.proofs.character.character.Goals as goal
 
 pub returns-then-place-expr : goal.returns-then-place-expr

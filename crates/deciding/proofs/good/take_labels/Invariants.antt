@@ -1,0 +1,18 @@
+-- `deciding::good::take_labels` meets its contract. The loop's invariant: the first `i` labels are those that the first
+use Prim.Native.Nat.{◌≤◌, ◌-◌}
+use mathlib.Core.Path.{◌≡◌, refl, ◌∙◌}
+use native.Mathlib.Omega.{arith}
+use lib.ListN.{length, length-set}
+use Rattle.tree.specs.Layout.{class_records}
+use Rattle.deciding.specs.LabelsTaken.{Taken}
+use Rattle.deciding.specs.DecideLaws.{taken_none, taken_more, label_by, classes_more}
+use Rattle.deciding.proofs.good.take_labels.Given as goal
+
+abbrev pub invariant-loop-i : goal.invariant-loop-i
+invariant-loop-i l =
+    (l.i ≤ length l.labels) × (length l.labels ≡ length l.initial.labels) × Taken l.list l.labels l.i × (l.classes ≡ class_records l.list l.i)
+    × (l.classes ≤ l.i)
+
+abbrev pub decreases-loop-i : goal.decreases-loop-i
+decreases-loop-i l =
+    length l.labels - l.i

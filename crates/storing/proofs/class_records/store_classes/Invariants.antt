@@ -1,0 +1,24 @@
+-- `storing::class_records::store_classes` meets its contract. The loop's invariant: the class records of the labels
+use Prim.Native.Nat.{ℕ, ◌-◌, ◌≤◌}
+use mathlib.Core.Path.{◌≡◌, refl, ◌∙◌}
+use native.Mathlib.Omega.{arith}
+use lib.ListN.{length}
+use Rattle.checker.specs.ClassStore.{
+  ClassesStored,
+  no_class_stored,
+  next_stored,
+  class_placed,
+  class_room,
+  stored_few,
+  all_stored,
+}
+use borrow.Author.Rules.{rules}
+use Rattle.storing.proofs.class_records.store_classes.Given as goal
+
+abbrev pub invariant-loop-i : goal.invariant-loop-i
+invariant-loop-i l =
+    (length l.classes ≡ length l.initial.classes) × (l.i ≤ length l.labels) × ClassesStored l.expr l.labels l.initial.classes l.classes l.i l.k
+
+abbrev pub decreases-loop-i : goal.decreases-loop-i
+decreases-loop-i l =
+    length l.labels - l.i
