@@ -23,13 +23,12 @@ put_byte-next-requires c =
     omega (arith, next_room c.args.bytes.now c.loop-i.i (omega arith), c.loop-i.invariant.2, c.loop-i.invariant.1)
 
 pub loop-i-preserved : goal.loop-i-preserved
-loop-i-preserved c =
-    (
-      search rules,
-      search rules,
-      rw (add-one, shown_next c.args.bytes.now c.loop-i.i (omega arith))
-          (prints_join c.loop-i.invariant.2 c.put_byte-next.ensures),
-    )
+loop-i-preserved c = (
+  search rules,
+  search rules,
+  rw (add-one, shown_next c.args.bytes.now c.loop-i.i (omega arith))
+      (prints_join c.loop-i.invariant.2 c.put_byte-next.ensures),
+)
 
 pub returns : goal.returns
 returns c =

@@ -20,12 +20,11 @@ put-next-requires c =
     omega (arith, c.loop-i.invariant.2, spaces_length c.loop-i.i)
 
 pub loop-i-preserved : goal.loop-i-preserved
-loop-i-preserved c =
-    (
-      search rules,
-      search rules,
-      rw (spaces_next c.loop-i.i) (prints_join c.loop-i.invariant.2 c.put-next.ensures),
-    )
+loop-i-preserved c = (
+  search rules,
+  search rules,
+  rw (spaces_next c.loop-i.i) (prints_join c.loop-i.invariant.2 c.put-next.ensures),
+)
 
 pub returns : goal.returns
 returns c =

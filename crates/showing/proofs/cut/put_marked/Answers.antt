@@ -34,13 +34,16 @@ put_before-after_before-requires c =
 
 pub put_from-after_from-requires : goal.put_from-after_from-requires
 put_from-after_from-requires c =
-    record { inside = inside (goal.at.put_from-after_from-requires c).After-caret_place-under; room = omega (
+    record {
+      inside = inside (goal.at.put_from-after_from-requires c).After-caret_place-under;
+      room = omega (
         arith,
         c.requires,
         c.put_before-after_before.ensures.next_place,
         c.put_before-after_before.ensures.kept_length,
         narrow (goal.at.put_from-after_from-requires c).After-caret_place-under,
-      ) }
+      );
+    }
 
 pub put-after_line-requires : goal.put-after_line-requires
 put-after_line-requires c =
