@@ -1,7 +1,7 @@
 -- The check and the write agree: what is written answers as the check does, or 9, or 15 after it, and that exactly
 -- where the check refuses nothing and a buffer is short.
-use Rattle.std.specs.Prelude.{ℕ, ◌*◌, ◌<◌, ◌≤◌, ◌≡◌, refl, Bool, true, false, cond, ◌⊎◌, ◌↔◌, List, [], length, eqb, ltb}
-use Rattle.std.proofs.Common.{arith, ap, sym, ◌∙◌, inl, inr, ⊎_elim, ltb-true, ltb-false, lt-ltb, le-ltb, ne_eqb, eqb-true}
+use Rattle.std.specs.Prelude.{ℕ, ◌*◌, ◌<◌, ◌≤◌, ◌≡◌, refl, Bool, true, false, cond, ◌↔◌, List, length, eqb, ltb}
+use Rattle.std.proofs.Common.{arith, ap, sym, ◌∙◌, ⊎_elim, ltb-true, ltb-false, lt-ltb, ne_eqb, eqb-true}
 use Rattle.std.proofs.Math.Logic.Iff
 use Rattle.language.specs.Tree.{Tree, nodes}
 use Rattle.tree.specs.RefusalNumbers.{too_many_pieces, buffer_too_short, class_buffer_too_short, too_many_nodes}
@@ -25,7 +25,7 @@ use Rattle.checker.specs.ExpandedLaws.{
   expanded_refusal,
   seventeen_exactly,
 }
-use Rattle.checker.specs.Drawn.{classes_of, classes_in, recorded, drawn}
+use Rattle.checker.specs.Drawn.{classes_in, recorded, drawn}
 use Rattle.checker.specs.DrawnLaws.{first_has_no_class}
 use Rattle.reader.specs.Answer.{ReadNumbers, refusing_read, reading, answer_for, read_answered}
 use Rattle.checker.specs.Checked.{

@@ -1,6 +1,6 @@
 -- What storing the tree of some labels does: it refuses by 8, 9 or 15, or writes the records and the class records; and
 -- what the readers then answer.
-use Rattle.std.specs.Prelude.{ℕ, ◌*◌, ◌<◌, ◌≤◌, ◌≡◌, refl, List, [], ◌++◌, length, take, drop}
+use Rattle.std.specs.Prelude.{ℕ, ◌*◌, ◌<◌, ◌≤◌, ◌≡◌, refl, List, ◌++◌, length, take, drop}
 use Rattle.std.proofs.Common.{arith, ap, sym, ◌∙◌, length-take-le}
 use Rattle.language.specs.Tree.{Tree}
 use Rattle.tree.specs.RefusalNumbers.{buffer_too_short, class_buffer_too_short}
@@ -15,7 +15,7 @@ use Rattle.classes.specs.ClassRecord.{encode_classes}
 use Rattle.operands.specs.Bytes.{Syntax, first, second}
 use Rattle.operands.specs.LeavesPlaced.{LeavesPlaced, written_at}
 use Rattle.scanner.specs.Expression.{LabelsRead}
-use Rattle.checker.specs.Drawn.{classes_of, recorded}
+use Rattle.checker.specs.Drawn.{recorded}
 use Rattle.checker.specs.DrawnLaws.{first_has_no_class}
 use Rattle.checker.specs.ExpandedLaws.{expanded_exactly}
 use Rattle.checker.specs.AlikeMeasured.{measured_numbered}

@@ -1,18 +1,17 @@
 -- An expression has one place for each node, at most 1,023 each: so records with its places are a good list.
-use Rattle.std.specs.Prelude.{ℕ, ◌*◌, ◌+◌, ◌≤◌, ◌<◌, ◌≡◌, refl, List, ◌++◌, length, get_or, take}
+use Rattle.std.specs.Prelude.{ℕ, ◌*◌, ◌≤◌, ◌<◌, ◌≡◌, List, ◌++◌, length, get_or}
 use Rattle.std.proofs.Common.{ap, sym, ◌∙◌, arith}
 use Rattle.language.specs.Tree.{Tree, nodes}
-use Rattle.language.specs.SignedTree.{SignedTree}
 use Rattle.language.specs.PlacedTree.{places}
 use Rattle.language.specs.PlacedStandsFor.{placed_stands_for}
 use Rattle.language.proofs.PlacedLaws.{unplaced_stands_for, length_places}
 use Rattle.language.proofs.EachPlace.{each_at}
-use Rattle.tree.specs.Limits.{most_place, most_labels, most_pieces}
+use Rattle.tree.specs.Limits.{most_place, most_pieces}
 use Rattle.tree.specs.Leaf.{Leaf}
 use Rattle.tree.specs.Layout.{record_size, place_at}
 use Rattle.tree.specs.Records.{encode, piece_count, Ranked, Good}
 use Rattle.tree.specs.Lengths.{length_encode}
-use Rattle.tree.specs.Places.{with_places, LowPlaces}
+use Rattle.tree.specs.Places.{with_places}
 use Rattle.tree.specs.PlacesLaws.{
   bare_with_places,
   length_with_places,
@@ -21,9 +20,9 @@ use Rattle.tree.specs.PlacesLaws.{
   bare_encode,
 }
 use Rattle.operands.specs.Bytes.{Syntax}
-use Rattle.operands.specs.Scanner.{Atom, no_text, Outcome, tree, scanned}
+use Rattle.operands.specs.Scanner.{Atom, no_text, tree, scanned}
 use Rattle.operands.proofs.PlacesInside.{low_places}
-use Rattle.checker.specs.Expanded.{expansion, expanded}
+use Rattle.checker.specs.Expanded.{expanded}
 use Rattle.checker.specs.ExpandedLaws.{expanded_tree}
 use Rattle.checker.specs.Drawn.{recorded, drawn}
 use Rattle.checker.specs.OneShape.{nodes_recorded}

@@ -1,15 +1,13 @@
 -- Reading an expression once more, for its places: they stand in the scratch, one for each record.
-use Rattle.std.specs.Prelude.{ℕ, ◌≤◌, ◌≡◌, refl, true, List, length}
+use Rattle.std.specs.Prelude.{ℕ, ◌≤◌, ◌≡◌, true, List}
 use Rattle.std.proofs.Math.Path.{ap, sym}
 use Rattle.std.proofs.Common.{◌∙◌, arith}
 use Rattle.std.proofs.Math.ListN.{take}
 use Rattle.language.specs.Tree.{Tree, nodes}
 use Rattle.language.specs.SignedTree.{SignedTree}
-use Rattle.language.specs.PlacedTree.{places}
-use Rattle.language.specs.PlacedStandsFor.{placed_stands_for}
 use Rattle.tree.specs.Limits.{most_labels}
 use Rattle.operands.specs.Bytes.{Syntax}
-use Rattle.operands.specs.Scanner.{Atom, no_text, Outcome, tree, refused, scanned}
+use Rattle.operands.specs.Scanner.{Atom, tree, scanned}
 use Rattle.operands.proofs.Sound.{no_tree}
 use Rattle.operands.specs.LeavesPlaced.{written_at}
 use Rattle.scanner.specs.Expression.{ExpressionAnswer, PlacesRead, places_read}

@@ -1,5 +1,5 @@
 -- What `read_second` answers and what it leaves in the two buffers, by the table of refusals.
-use Rattle.std.specs.Prelude.{ℕ, ◌*◌, Bool, true, false, cond, List, ◌++◌, length, drop, ltb}
+use Rattle.std.specs.Prelude.{ℕ, ◌*◌, Bool, cond, List, ◌++◌, length, drop, ltb}
 use Rattle.language.specs.Tree.{Tree, nodes}
 use Rattle.tree.specs.RefusalNumbers.{too_many_pieces, buffer_too_short, class_buffer_too_short}
 use Rattle.tree.specs.Layout.{record_size, class_record_size}

@@ -1,7 +1,7 @@
 -- What follows from the promise of `read_second`: its answer is one alone; where it says that the records were written
 -- they are a good list of the expression's tree with its class records, and where it refuses no byte of a buffer
 -- differs.
-use Rattle.std.specs.Prelude.{ℕ, ◌*◌, ◌≤◌, ◌≡◌, refl, Bool, true, false, List, ◌++◌, length, take, drop, ltb}
+use Rattle.std.specs.Prelude.{ℕ, ◌*◌, ◌≤◌, ◌≡◌, refl, Bool, true, false, List, ◌++◌, length, take, drop}
 use Rattle.std.proofs.Common.{arith, ap, sym, ◌∙◌, take_at, drop_at, ltb-false}
 use Rattle.language.specs.Tree.{Tree, nodes}
 use Rattle.tree.specs.Limits.{most_pieces}
@@ -15,7 +15,7 @@ use Rattle.checker.specs.Expanded.{expanded}
 use Rattle.checker.specs.ExpandedLaws.{expanded_refusal}
 use Rattle.checker.specs.Drawn.{classes_of, classes_in, recorded}
 use Rattle.classes.specs.ClassRecord.{encode_classes}
-use Rattle.checker.specs.DrawnLaws.{ranked_recorded}
+use Rattle.checker.proofs.DrawnLaws.{ranked_recorded}
 use Rattle.reader.specs.PlacesIn.{places_in}
 use Rattle.reader.specs.PlacesInLaws.{recorded_places, placed_length, placed_good}
 use Rattle.checker.specs.Checked.{CountedNumbers, refusing_counts, counting, counted_numbers, too_many}

@@ -4,10 +4,9 @@ use Rattle.std.specs.Prelude.{ℕ, ◌+◌, ◌*◌, ◌<◌, ◌≤◌, ◌≡�
 use Rattle.std.proofs.Common.{arith, ap, sym, ◌∙◌, lt-ltb, le-ltb}
 use Rattle.language.specs.Tree.{Tree, leaf, catenation, union, star, nodes}
 use Rattle.tree.specs.RefusalNumbers.{too_many_pieces, buffer_too_short, class_buffer_too_short}
-use Rattle.tree.specs.Limits.{most_pieces}
 use Rattle.tree.specs.Layout.{record_size, class_record_size}
 use Rattle.tree.specs.Leaf.{Leaf, character}
-use Rattle.tree.specs.Records.{labels, encode, piece_count}
+use Rattle.tree.specs.Records.{labels}
 use Rattle.tree.specs.Places.{with_places}
 use Rattle.lists.specs.Recording.{Recorded}
 use Rattle.operands.specs.Bytes.{first, second}
@@ -27,17 +26,8 @@ use Rattle.checker.specs.Relabelled.{
   classes_labelled,
   labels_numbered,
 }
-use Rattle.checker.specs.Counted.{ReadingCounted, ReadingRefused, CountsAre, counts_are}
-use Rattle.reader.specs.Answer.{
-  ReadNumbers,
-  refusing_read,
-  reading,
-  read_numbers,
-  answer_for,
-  buffer_for,
-  read_answered,
-  records_after,
-}
+use Rattle.checker.specs.Counted.{ReadingCounted, ReadingRefused, counts_are}
+use Rattle.reader.specs.Answer.{refusing_read, read_numbers, answer_for, buffer_for, read_answered, records_after}
 use Rattle.tree.specs.Lengths.{nodes_positive}
 use Rattle.checker.specs.Checked.{CountedNumbers, refusing_counts, counting, counted_numbers, too_many, checked_for}
 use Rattle.reader.specs.SecondAnswer.{
