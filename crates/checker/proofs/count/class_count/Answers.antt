@@ -1,17 +1,6 @@
--- `checker::count::class_count` meets its contract. The loop's invariant: the class labels before `i` are counted.
-use Prim.Native.Nat.{ℕ, ◌-◌, ◌≤◌}
-use mathlib.Core.Path.{◌≡◌, refl, ap, sym, ◌∙◌}
+-- `checker::count::class_count` meets its contract.
 use native.Mathlib.Omega.{arith}
-use lib.ListN.{length, take}
-use lib.Seq.{take_all}
-use Rattle.checker.specs.Relabelled.{class_labels}
-use Rattle.checker.specs.ClassStore.{
-  ClassLabelsCounted,
-  no_label_counted,
-  next_label_counted,
-  all_labels_counted,
-}
-use borrow.Author.Rules.{rules}
+use Rattle.checker.specs.ClassStore.{no_label_counted, next_label_counted, all_labels_counted}
 use Rattle.checker.proofs.count.class_count.Goals as goal
 
 pub loop-i-init : goal.loop-i-init

@@ -1,6 +1,6 @@
 -- `checker::count::count_second` meets its contract: the labels of the tree that the signs stand for stand in the
 -- scratch, and are counted; or it has too many nodes, or the refusal is handed on.
-use Rattle.std.proofs.Common.{◌≤◌, length, refl, arith}
+use Rattle.std.proofs.Common.{refl, arith}
 use Rattle.std.proofs.Math.Seq.{length-take-le}
 use Rattle.operands.specs.Bytes.{second}
 use Rattle.scanner.specs.Expression.{LabelsRead, labels_read}
