@@ -17,7 +17,6 @@ use Rattle.tree.specs.Pieces.{cut_up, stated}
 use Rattle.tables.specs.Words.{Holds, SetOf}
 use Rattle.tables.specs.Tables.{Holding, Answered}
 use Rattle.marks.specs.Answer.{marking}
-use Rattle.stepping.specs.Hold.{Hold}
 use Rattle.marks.specs.Promise.{Classed, Starts, started, Steps, stepped}
 use Rattle.closing.specs.BitsOfWords.Zero.{AllZero}
 use Rattle.stepping.specs.Inner.{some_started, holding_marks}

@@ -1,5 +1,5 @@
 -- An empty text is in a language exactly when a part of it is: it has no other part than itself.
-use Rattle.std.specs.Prelude.{ℕ, ◌≡◌, refl, true, false, ◌↔◌, List, [], ◌∷◌, length}
+use Rattle.std.specs.Prelude.{ℕ, ◌≡◌, refl, true, ◌↔◌, List, [], ◌∷◌, length}
 use Rattle.std.proofs.Common.{sym, subst, ◌∙◌, arith}
 use Rattle.std.proofs.lemmas.Bool.{false≢true}
 use Rattle.matching.specs.Found.{part, Answers}

@@ -9,24 +9,7 @@ use Rattle.tree.specs.Records.{Good}
 use Rattle.tree.specs.Places.{bare, LowPlaces}
 use Rattle.tree.specs.PlacesLaws.{same_but_places}
 use Rattle.marks.specs.Answer.{MarksNumbers}
-use Rattle.marks.specs.Promise.{
-  RefusedUnchanged,
-  MarksMade,
-  IsNotGood,
-  HasTooFewClasses,
-  Starts,
-  start_not_good,
-  start_too_few_classes,
-  start_too_few,
-  started,
-  MovesOn,
-  Steps,
-  step_not_good,
-  step_too_few_classes,
-  step_too_few,
-  step_not_marks,
-  stepped,
-}
+use Rattle.marks.specs.Promise.{RefusedUnchanged, MarksMade, IsNotGood, HasTooFewClasses, Starts, start_not_good, start_too_few_classes, start_too_few, started, Steps, step_not_good, step_too_few_classes, step_too_few, step_not_marks, stepped}
 use Rattle.marks.specs.Unique.{starts_unique, steps_unique}
 
 -- the two lists are the same but for their places, and no place is above 1,023

@@ -1,7 +1,7 @@
 -- Where nothing is left, nothing comes back: words that are 0 stay 0 on every later byte and on every later text, and
 -- no text that begins so is in the language.
-use Rattle.std.specs.Prelude.{ℕ, suc, ◌+◌, ◌≡◌, true, List, [], ◌∷◌, ◌++◌, length}
-use Rattle.std.proofs.Common.{arith, ap, subst, ◌∙◌, sym}
+use Rattle.std.specs.Prelude.{ℕ, suc, ◌+◌, ◌≡◌, true, List, [], ◌∷◌, ◌++◌}
+use Rattle.std.proofs.Common.{arith, ap, subst, sym}
 use Rattle.language.specs.Tree.{Tree}
 use Rattle.tree.specs.Leaf.{Leaf, Matches}
 use Rattle.tree.specs.Records.{Good, piece_count}

@@ -1,5 +1,5 @@
 -- What a caller may rely on: how many states a piece has, and what the flag of a start or a step says.
-use Rattle.std.specs.Prelude.{ℕ, suc, ◌-◌, ◌≤◌, ◌≡◌, Bool, true, false, ◌↔◌, List, get_or}
+use Rattle.std.specs.Prelude.{ℕ, suc, ◌-◌, ◌≤◌, ◌≡◌, true, ◌↔◌, List, get_or}
 use Rattle.std.proofs.Common.{arith, ap, subst}
 use Rattle.std.proofs.Math.Logic.Iff
 use Rattle.language.specs.Tree.{Tree}

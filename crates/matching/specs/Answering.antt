@@ -5,7 +5,7 @@ use Rattle.std.proofs.Common.{arith}
 use Rattle.language.specs.Tree.{Tree}
 use Rattle.tree.specs.Leaf.{Leaf, Matches}
 use Rattle.tables.specs.Tables.{Holding, Answered}
-use Rattle.matching.specs.Found.{part, PartInLanguage}
+use Rattle.matching.specs.Found.{part}
 use Rattle.matching.specs.PartLaws.{part_empty, part_next, part_join}
 use Rattle.matching.specs.Progress.{
   better,

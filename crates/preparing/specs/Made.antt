@@ -1,9 +1,9 @@
 -- What deciding on a list and making its rows promises: the rows are those of the list's tree, where it is good.
 use Rattle.std.specs.Prelude.{ℕ, ◌+◌, ◌*◌, ◌/◌, ◌≤◌, ◌<◌, ◌≡◌, List, length}
 use Rattle.std.proofs.Common.{subst, arith}
-use Rattle.language.specs.Tree.{Tree, nodes}
+use Rattle.language.specs.Tree.{Tree}
 use Rattle.tree.specs.Leaf.{Leaf}
-use Rattle.tree.specs.Limits.{few_slots, some_slots, most_pieces}
+use Rattle.tree.specs.Limits.{few_slots, some_slots}
 use Rattle.tree.specs.Layout.{record_size}
 use Rattle.tree.specs.Records.{piece_count, Good}
 use Rattle.tree.specs.Bounds

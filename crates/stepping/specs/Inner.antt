@@ -6,7 +6,7 @@ use Rattle.std.proofs.lemmas.List.{set_at}
 use Rattle.std.proofs.Math.Seq.{append_snoc}
 use Rattle.language.specs.Tree.{Tree}
 use Rattle.language.specs.Automaton.{State, States, accepting, start, Started, Stepped, After, here}
-use Rattle.language.specs.Nested.{Nested, leaf, catenation, union, star, below, whole, origin, Models, Has, Sweep}
+use Rattle.language.specs.Nested.{Nested, whole, origin, Models, Has, Sweep}
 use Rattle.language.specs.Same.{Agree}
 use Rattle.language.proofs.Same.{models_same}
 use Rattle.language.specs.Simulation.{◌⊆◌, stepped_more}

@@ -1,0 +1,34 @@
+-- `stepping::inner::advance` meets its contract: the words are moved along the byte; where no mark is left they are
+-- closed as they are, else they are closed, which is a step of the plain simulation.
+use native.Mathlib.Omega.{arith}
+use Rattle.stepping.specs.Inner.{moved_closable, first_row, top_low, advanced_none, advanced}
+use Rattle.stepping.proofs.inner.advance.Goals as goal
+
+pub returns-then-span-eq0 : goal.returns-then-span-eq0
+returns-then-span-eq0 c =
+    λ t prepared marks.
+    advanced_none prepared marks c.move_all-span.ensures.moved_closed c.move_all-span.ensures.spans
+    (omega (arith, c.if-span-eq0.true))
+
+pub close_moved-nothing-requires : goal.close_moved-nothing-requires
+close_moved-nothing-requires c =
+    record { closable = moved_closable c.requires c.move_all-span.ensures.moved_closed c.move_all-span.ensures.spans; spans = (c.move_all-span.ensures.spans, omega (arith, c.if-span-eq0.false)) }
+
+pub top_of-requires : goal.top_of-requires
+top_of-requires c =
+    first_row c.requires.ready
+
+pub has_bit-requires : goal.has_bit-requires
+has_bit-requires c =
+    omega (
+      arith,
+      c.top_of.ensures,
+      top_low c.requires.ready.of_tree.1,
+    )
+
+pub returns : goal.returns
+returns c =
+    λ t prepared marks.
+    advanced prepared _ _ _ _ _ _ marks c.move_all-span.ensures.moved_closed c.close_moved-nothing.ensures.closed_moved
+    c.close_moved-nothing.auto.words _ c.top_of.ensures c.has_bit.ensures
+    c.close_moved-nothing.ensures.tells
