@@ -8,7 +8,8 @@ use lib.Seq.{length-take-le}
 use Rattle.tree.specs.Limits.{most_records}
 use Rattle.tree.specs.Layout.{record_size, class_record_size}
 use Rattle.checker.specs.Checked.{counted_numbers}
-use Rattle.reader.specs.SecondKept.{SecondKept, second_kept}
+use Rattle.reader.specs.SecondKept.{SecondKept}
+use Rattle.reader.proofs.SecondKept.{second_kept}
 use Rattle.showing.specs.Refusal.{refusal_lines}
 use Rattle.explaining.specs.Explained.{explained_rule}
 use Rattle.explaining.specs.Rule.{told_refusal, read_rule, lent_long}
