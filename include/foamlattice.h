@@ -8,8 +8,8 @@
  *
  * What a caller must see to, since it cannot be checked: no pointer is null, also where its length is 0; each points to
  * as many bytes, entries or words as its length says, words aligned as uint64_t and entries as uint16_t; what is written
- * through overlaps nothing else that is lent to the same call. The archive libfoamlattice.a is for x86-64 (Linux, System
- * V calling convention).
+ * through overlaps nothing else that is lent to the same call. The archive libfoamlattice.a is for x86-64 of level v2
+ * (Linux, System V calling convention).
  *
  * Each function answers one number:
  *   bits  0 to  7  the refusal's number, 0 where nothing is refused

@@ -1,8 +1,7 @@
 -- The level of a record and the table after it told its children, by the tests that the code makes.
-use Rattle.std.specs.Prelude.{ℕ, ◌+◌, ◌≤◌, ◌<◌, ◌≡◌, List, length, get_or, set, replicate, ltb, eqb}
+use Rattle.std.specs.Prelude.{ℕ, ◌+◌, ◌≤◌, ◌<◌, ◌≡◌, List, get_or, set, replicate}
 use Rattle.std.proofs.Math.Path.{refl}
-use Rattle.std.proofs.Common.{ap, ◌∙◌, length-set, lt-ltb, le-ltb, eq-eqb, ne_eqb}
-use Rattle.std.proofs.lemmas.List.{length-replicate}
+use Rattle.std.proofs.Common.{ap, ◌∙◌, lt-ltb, le-ltb, eq-eqb, ne_eqb}
 use Rattle.tree.specs.Layout.{class_kind, kind_at, left_at, right_at}
 use Rattle.tree.specs.Limits.{most_records}
 use Rattle.record_line.specs.Depth.{most_level, untold, level, told_children}

@@ -1,14 +1,12 @@
 -- The lines of the records, one after the other.
-use Rattle.std.specs.Prelude.{ℕ, zero, suc, ◌+◌, ◌*◌, ◌≤◌, ◌<◌, ◌≡◌, refl, Bool, true, false, cond, List, [], ◌++◌, length, eqb}
-use Rattle.std.proofs.Common.{sym, ap, ◌∙◌, append_assoc, append-nil, arith, length-append}
+use Rattle.std.specs.Prelude.{ℕ, suc, ◌≤◌, ◌≡◌, refl, Bool, true, false, cond, List, [], ◌++◌, length, eqb}
+use Rattle.std.proofs.Common.{sym, ap, ◌∙◌, append_assoc, append-nil, arith}
 use Rattle.tree.specs.Layout.{piece_at}
-use Rattle.tree.specs.Limits.{most_records}
 use Rattle.operands.specs.Text.{bytes}
 use Rattle.printing.specs.Printing.{Prints}
 use Rattle.printing.specs.PrintingLaws.{prints_join, prints_none}
 use Rattle.record_line.specs.Depth.{untold, level, told_children}
-use Rattle.record_line.specs.Node.{record_line, most_line}
-use Rattle.record_line.specs.NodeLaws.{AllBytes, line_length}
+use Rattle.record_line.specs.Node.{record_line}
 use Rattle.drawing.specs.Drawing.{gap, lines_below, record_lines}
 
 -- no line for no records

@@ -14,7 +14,7 @@ use Rattle.operands.specs.Scanner.{Atom, Outcome, tree, refused}
 use Rattle.checker.specs.Expanded.{expanded}
 use Rattle.checker.specs.ExpandedLaws.{expanded_exactly}
 use Rattle.checker.specs.Drawn.{classes_in, recorded}
-use Rattle.checker.specs.DrawnLaws.{class_count_recorded}
+use Rattle.checker.proofs.DrawnLaws.{class_count_recorded}
 use Rattle.checker.specs.Checked.{CountedNumbers, refusing_counts, counting, too_many}
 use Rattle.reader.specs.SecondAnswer.{too_short, too_few_classes, pick_stored, second_answer_for, second_answered}
 use Rattle.reader.specs.SecondKept.{SecondKept}

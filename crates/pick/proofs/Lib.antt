@@ -1,2 +1,2 @@
--- What a check's answer says, by its cases.
+-- What is printed, by another name.
 pub mod Told

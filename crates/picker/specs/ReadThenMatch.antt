@@ -23,8 +23,10 @@ use Rattle.reader.specs.Answer.{read_numbers, read_answered, records_after}
 use Rattle.checker.specs.Checked.{counted_numbers}
 use Rattle.reader.specs.SecondAnswer.{second_answered, second_records_after, second_classes_after}
 use Rattle.classes.specs.ClassRecordLaws.{encode_classes_length}
-use Rattle.checker.specs.DrawnLaws.{class_count_recorded, first_has_no_class, drawn_tree}
-use Rattle.checker.specs.SameLanguage.{OfBytes, same_as_signs}
+use Rattle.checker.specs.DrawnLaws.{first_has_no_class, drawn_tree}
+use Rattle.checker.proofs.DrawnLaws.{class_count_recorded}
+use Rattle.checker.specs.SameLanguage.{OfBytes}
+use Rattle.checker.proofs.SameLanguage.{same_as_signs}
 use Rattle.reader.specs.Kept.{kept}
 use Rattle.reader.specs.SecondKept.{SecondKept, second_kept}
 use Rattle.reader.specs.declared.answer.ReadAnswer.TheVariants.{Read}

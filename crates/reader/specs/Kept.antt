@@ -14,7 +14,8 @@ use Rattle.operands.specs.Bytes.{first}
 use Rattle.operands.specs.Scanner.{Outcome, tree, refused}
 use Rattle.checker.specs.Expanded.{expanded}
 use Rattle.checker.specs.Drawn.{drawn}
-use Rattle.checker.specs.DrawnLaws.{drawn_tree, drawn_refusal, ranked_recorded}
+use Rattle.checker.specs.DrawnLaws.{drawn_tree, drawn_refusal}
+use Rattle.checker.proofs.DrawnLaws.{ranked_recorded}
 use Rattle.reader.specs.PlacesIn.{places_in}
 use Rattle.reader.specs.PlacesInLaws.{drawn_places, placed_length, placed_good}
 use Rattle.reader.specs.Answer.{

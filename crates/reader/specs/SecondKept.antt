@@ -15,7 +15,7 @@ use Rattle.checker.specs.Expanded.{expanded}
 use Rattle.checker.specs.ExpandedLaws.{expanded_refusal}
 use Rattle.checker.specs.Drawn.{classes_of, classes_in, recorded}
 use Rattle.classes.specs.ClassRecord.{encode_classes}
-use Rattle.checker.specs.DrawnLaws.{ranked_recorded}
+use Rattle.checker.proofs.DrawnLaws.{ranked_recorded}
 use Rattle.reader.specs.PlacesIn.{places_in}
 use Rattle.reader.specs.PlacesInLaws.{recorded_places, placed_length, placed_good}
 use Rattle.checker.specs.Checked.{CountedNumbers, refusing_counts, counting, counted_numbers, too_many}

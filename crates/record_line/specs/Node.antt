@@ -1,5 +1,5 @@
 -- The line of a record: its number, its piece, its place, and, indented by its level, what it is and what it holds.
-use Rattle.std.specs.Prelude.{ℕ, ◌+◌, ◌*◌, ◌-◌, cond, List, [], ◌++◌, length, ltb}
+use Rattle.std.specs.Prelude.{ℕ, ◌*◌, ◌-◌, cond, List, [], ◌++◌, length, ltb}
 use Rattle.tree.specs.Layout.{kind_at, character_at, left_at, right_at, piece_at, place_at}
 use Rattle.operands.specs.Text.{bytes}
 use Rattle.printing.specs.Digits.{digits}

@@ -1,6 +1,6 @@
 -- How long the parts of a record's line can be.
-use Rattle.std.specs.Prelude.{ℕ, ◌+◌, ◌*◌, ◌-◌, ◌≤◌, ◌<◌, ◌≡◌, refl, Bool, true, false, cond, List, [], ◌∷◌, ◌++◌, length, get_or, ltb}
-use Rattle.std.proofs.Common.{ap, ◌∙◌, arith, length-append}
+use Rattle.std.specs.Prelude.{ℕ, ◌+◌, ◌*◌, ◌-◌, ◌≤◌, ◌<◌, ◌≡◌, refl, Bool, true, false, cond, List, [], ◌∷◌, length, get_or, ltb}
+use Rattle.std.proofs.Common.{ap, arith, length-append}
 use Rattle.tree.specs.Layout.{number_at, kind_at, character_at, left_at, right_at, piece_at, place_at}
 use Rattle.tree.specs.Limits.{most_records}
 use Rattle.operands.specs.Text.{bytes}

@@ -1,10 +1,9 @@
 -- What fits before and after a place: step by step, and how many columns it takes.
 use Prim.Native.Nat.{ℕ, zero, suc, ◌+◌, ◌-◌, ◌≤◌, ◌<◌}
-use Rattle.std.specs.Prelude.{◌≡◌, Bool, true, false, cond, get_or, drop, ltb, eqb}
+use Rattle.std.specs.Prelude.{◌≡◌, Bool, true, false, cond, get_or, drop, ltb}
 use Rattle.std.proofs.Math.Path.{refl, ap}
-use Rattle.std.proofs.Common.{sym, ◌∙◌, add-one, drop_of_length-le, take-append-drop, take-suc, drop-cons, length-take-le, take_all, take-add, drop_at}
+use Rattle.std.proofs.Common.{sym, ◌∙◌, drop_of_length-le, take-append-drop, take-suc, drop-cons, length-take-le}
 use mathlib.Core.List.{List, [], ◌∷◌, ◌++◌, append-nil}
-use Rattle.std.proofs.Math.Decide.{dec_lt}
 use native.Mathlib.Omega.{arith}
 use Rattle.std.proofs.Math.ListN.{length, take, length-append, length-drop}
 use Rattle.std.proofs.lemmas.List.{drop-append-le}

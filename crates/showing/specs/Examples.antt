@@ -1,5 +1,5 @@
 -- Refusals as they are shown.
-use Rattle.std.specs.Prelude.{◌≡◌, refl, [], ◌∷◌, ◌++◌, replicate}
+use Rattle.std.specs.Prelude.{◌≡◌, refl, ◌∷◌, ◌++◌, replicate}
 use Rattle.operands.specs.Text.{bytes}
 use Rattle.printing.specs.Digits.{digits_within, digits}
 use Rattle.showing.specs.Shown.{shown_byte, shown, spaces}

@@ -1,5 +1,5 @@
 -- How long the words of a refusal can be.
-use Rattle.std.specs.Prelude.{ℕ, zero, suc, ◌≤◌, ◌<◌, ◌^◌, ◌≡◌, refl, List, [], ◌∷◌, length, get_or, T, leb, Bool, true, ◌&&◌}
+use Rattle.std.specs.Prelude.{ℕ, zero, suc, ◌≤◌, ◌<◌, ◌^◌, ◌≡◌, List, [], ◌∷◌, length, get_or, T, leb, Bool, true, ◌&&◌}
 use Rattle.std.proofs.Common.{arith, length-append, leb→le}
 use Rattle.std.proofs.Math.Decide.{dec_lt}
 use Rattle.std.proofs.Math.ListN.{get_or-eq_default}
@@ -14,6 +14,7 @@ all_short most (row ∷ rows) = leb (length row) most && all_short most rows
 -- both of two tests
 both : (a b : Bool) → T (a && b) → T a × T b
 both true b h = (tt, h)
+both mathlib.Core.Bool.false b h = elim h [ ]
 
 -- then so has the row of each number
 short_row : (most : ℕ) (rows : List (List ℕ)) (other : List ℕ) → length other ≤ most → T (all_short most rows)

@@ -1,0 +1,2 @@
+pub mod DrawnLaws
+pub mod SameLanguage

@@ -1,0 +1,53 @@
+-- `writing::write_accepting` meets its contract: the bits of the first texts are written, at last the 0 before them.
+-- The measure is how many texts are left.
+use Prim.Native.Nat.{◌+◌, ◌*◌, ◌/◌, ◌%◌, ◌^◌, ◌-◌, ◌≤◌, ◌<◌}
+use mathlib.Core.Path.{◌≡◌, refl, ◌∙◌}
+use native.Mathlib.Omega.{arith}
+use borrow.Author.Rules.{rules}
+use lib.ListN.{length, get_or, length-set}
+use Rattle.writing.specs.Filled.{Filled}
+use Rattle.writing.specs.FilledLaws.{filled_none, filled_next, filled_first}
+use Rattle.writing.proofs.write_accepting.Goals as goal
+use Rattle.writing.proofs.write_accepting.Goals.{In-loop-i}
+
+-- there is a word for text i
+told : (c : In-loop-i) → let args = c.args in let i = c.loop-i.i in
+    args.from + args.step * i < length args.room.now
+told c = c.requires.by_index c.loop-i.i (omega arith)
+
+pub loop-i-init : goal.loop-i-init
+loop-i-init c =
+    (omega arith, filled_none)
+
+pub overflow_mul-table : goal.overflow_mul-table
+overflow_mul-table c =
+    omega (arith, told c)
+
+pub overflow_add-table : goal.overflow_add-table
+overflow_add-table c =
+    omega (arith, told c)
+
+pub offset_bounds-room-from : goal.offset_bounds-room-from
+offset_bounds-room-from c =
+    omega (arith, told c)
+
+pub bounds-room-from : goal.bounds-room-from
+bounds-room-from c =
+    told (goal.at.bounds-room-from c).In-loop-i
+
+pub bounds-table-at : goal.bounds-table-at
+bounds-table-at c =
+    omega (arith, c.loop-i.invariant.1.same_length)
+
+pub loop-i-preserved : goal.loop-i-preserved
+loop-i-preserved c =
+    (omega arith, filled_next _ _ c.loop-i.invariant.1 refl (omega arith) refl)
+
+pub bounds-table-at-2 : goal.bounds-table-at-2
+bounds-table-at-2 c =
+    omega (arith, c.loop-i.invariant.1.same_length)
+
+pub returns : goal.returns
+returns c =
+    let all : c.loop-i.i ≡ c.args.texts = omega arith in
+    filled_first (rw all at c.loop-i.invariant.1) (omega arith)

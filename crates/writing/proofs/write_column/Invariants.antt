@@ -1,0 +1,19 @@
+-- `writing::write_column` meets its contract: the values of the first texts are written, at last the 0 before them. The
+use Prim.Native.Nat.{◌+◌, ◌*◌, ◌-◌, ◌≤◌, ◌<◌}
+use mathlib.Core.Path.{◌≡◌, refl, ◌∙◌}
+use native.Mathlib.Omega.{arith}
+use borrow.Author.Rules.{rules}
+use lib.ListN.{length, get_or, length-set}
+use Rattle.machines.specs.TableOf.{most_entries}
+use Rattle.writing.specs.Filled.{Filled}
+use Rattle.writing.specs.FilledLaws.{filled_none, filled_next, filled_first}
+use Rattle.writing.proofs.write_column.Given as goal
+
+abbrev pub invariant-loop-i : goal.invariant-loop-i
+invariant-loop-i l =
+    (l.i ≤ l.texts)
+    × Filled (l.at + 1) l.i (λ k. get_or l.room (l.from + l.step * k) 0) l.initial.table l.table
+
+abbrev pub decreases-loop-i : goal.decreases-loop-i
+decreases-loop-i l =
+    l.texts - l.i
