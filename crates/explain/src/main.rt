@@ -6,6 +6,7 @@ ghost use Rattle.explain.specs.Space.{ExplainSpace};
 use explaining::{Explained, MOST_EXPLAINED};
 use std::alloc::Global;
 use std::io::Read;
+use std::process::ExitCode;
 use streams::{Input, fail, read_input};
 
 // Writes the output for an input, by way of a buffer that is long enough for every output.
@@ -15,14 +16,15 @@ fn write_output(
     alloc: Global,
     input: &[u8],
     output: &mut [u8],
-) {
+) -> ExitCode {
     let explained = explaining::explain(input, output);
     let Explained::Written { length } = explained else {
-        return;
+        return ExitCode::SUCCESS;
     };
     if let Err(error) = stdout.write_all(&output[..length]) {
-        let _ = fail(stderr, alloc, "standard output", error);
+        return fail(stderr, alloc, "standard output", error);
     }
+    ExitCode::SUCCESS
 }
 
 // Reads the input, and writes the output for it; a read or a write that fails is told on standard error.
@@ -33,19 +35,17 @@ fn run(
     alloc: Global,
     input: &mut [u8],
     output: &mut [u8; MOST_EXPLAINED],
-)
+) -> ExitCode
     requires space { ExplainSpace input.old }
 {
     match read_input(stdin, input) {
         Input::Read { count } => write_output(stdout, stderr, alloc, &input[..count], output),
-        Input::Failed { error } => {
-            let _ = fail(stderr, alloc, "standard input", error);
-        }
+        Input::Failed { error } => fail(stderr, alloc, "standard input", error),
     }
 }
 
 // The input buffer has a byte more than an input may have, so that a longer one is seen.
-fn main(rt: HostRuntime) {
+fn main(rt: HostRuntime) -> ExitCode {
     let mut input = [0u8; 65537];
     let mut output = [0u8; MOST_EXPLAINED];
     let mut stdin = rt.stdin();
@@ -58,5 +58,5 @@ fn main(rt: HostRuntime) {
         rt.alloc(),
         &mut input,
         &mut output,
-    );
+    )
 }

@@ -5,12 +5,9 @@ pub mod Explored
 pub mod TableOf
 pub mod Leading
 pub mod OneStateLaws
-pub mod ColumnsUnique
 pub mod ExploredFacts
 pub mod ExploredLaws
 pub mod AllFoundLaws
-pub mod TableRuns
 pub mod TableUnique
-pub mod MadeOnce
 pub mod TableFitsLaws
 pub mod Example

@@ -15,6 +15,7 @@ use printing::print::put;
 use showing::{MOST_SHOWN, refusal};
 use std::alloc::Global;
 use std::io::Read;
+use std::process::ExitCode;
 use streams::{Input, fail, read_input};
 
 // Puts what is said of an expression into a buffer: where and why it is refused, nothing where it is not.
@@ -55,16 +56,16 @@ fn write_output(
     alloc: Global,
     input: &[u8],
     output: &mut [u8],
-) {
+) -> ExitCode {
     let picked = picker::pick(input, output);
     let Picked::Written { length } = picked else {
-        return;
+        return ExitCode::SUCCESS;
     };
     if let Err(error) = stdout.write_all(&output[..length]) {
-        let _ = fail(stderr, alloc, "standard output", error);
-        return;
+        return fail(stderr, alloc, "standard output", error);
     }
     tell_refusal(stderr, input);
+    ExitCode::SUCCESS
 }
 
 // Reads the input, and writes the output for it; a read or a write that fails is told on standard error.
@@ -75,19 +76,17 @@ fn run(
     alloc: Global,
     input: &mut [u8],
     output: &mut [u8; MOST_OUTPUT],
-)
+) -> ExitCode
     requires space { Space input.old }
 {
     match read_input(stdin, input) {
         Input::Read { count } => write_output(stdout, stderr, alloc, &input[..count], output),
-        Input::Failed { error } => {
-            let _ = fail(stderr, alloc, "standard input", error);
-        }
+        Input::Failed { error } => fail(stderr, alloc, "standard input", error),
     }
 }
 
 // The input buffer has a byte more than an input may have, so that a longer one is seen.
-fn main(rt: HostRuntime) {
+fn main(rt: HostRuntime) -> ExitCode {
     let mut input = [0u8; 65537];
     let mut output = [0u8; MOST_OUTPUT];
     let mut stdin = rt.stdin();
@@ -100,5 +99,5 @@ fn main(rt: HostRuntime) {
         rt.alloc(),
         &mut input,
         &mut output,
-    );
+    )
 }

@@ -28,7 +28,8 @@ use Rattle.checker.proofs.DrawnLaws.{class_count_recorded}
 use Rattle.checker.specs.SameLanguage.{OfBytes}
 use Rattle.checker.proofs.SameLanguage.{same_as_signs}
 use Rattle.reader.specs.Kept.{kept}
-use Rattle.reader.specs.SecondKept.{SecondKept, second_kept}
+use Rattle.reader.specs.SecondKept.{SecondKept}
+use Rattle.reader.proofs.SecondKept.{second_kept}
 use Rattle.reader.specs.declared.answer.ReadAnswer.TheVariants.{Read}
 use Rattle.checker.specs.declared.answer.CountedAnswer.TheVariants.{Counted}
 use Rattle.marks.specs.Promise.{Classed}

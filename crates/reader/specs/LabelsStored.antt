@@ -25,18 +25,7 @@ use Rattle.checker.specs.declared.answer.CountedAnswer.{CountedAnswer}
 use Rattle.checker.specs.declared.answer.CountedAnswer.TheVariants.{Counted, Refused}
 use Rattle.reader.specs.PlacesIn.{places_in}
 use Rattle.reader.specs.Placing.{PlacesDue, due_counted}
-use Rattle.reader.specs.Store.{
-  ReadsAnswer,
-  read_short,
-  read_whole,
-  refused_read,
-  first_same,
-  SecondAnswer,
-  second_short,
-  second_few,
-  second_whole,
-  refused_second,
-}
+use Rattle.reader.specs.Store.{ReadsAnswer, read_short, read_whole, refused_read, first_same, SecondAnswer, second_whole}
 use Rattle.reader.specs.declared.answer.ReadAnswer.TheVariants.{Read, Refused as Read-refused}
 
 -- the labels are those of a tree whose classes stand in the expression where its leaves say, and there are not too many
@@ -127,15 +116,6 @@ module _ {syntax : Syntax} {bytes later : List ℕ} {total : ℕ} (w : LabelsRea
 
 module _ {bytes later : List ℕ} {total : ℕ} (w : LabelsRead second bytes later total) (few : total ≤ most_labels)
     (fits : total ≤ length later) {records classes : List ℕ} where
-  -- what `read_second` answers where nothing is stored
-  pub second_not_stored : {number place : ℕ} → NotStored (take total later) records classes number place
-      → SecondAnswer bytes records classes records classes (Refused number place)
-  second_not_stored {number} {place} (many_pieces c) =
-      refused_second
-      (read_counted (Refused number place) w few (take total later) refl (length-take-le total later fits) c)
-  second_not_stored (no_room c h e f) = rw (e, f) (second_short (counted_of w few fits c) records classes h)
-  second_not_stored (no_class_room c r h e f) = rw (e, f) (second_few (counted_of w few fits c) records classes r h)
-
   -- and where all is, with the places
   pub second_stored : {records' classes' placed : List ℕ} {count pieces class_count : ℕ}
       → AllStored bytes (take total later) records classes records' classes' count pieces class_count

@@ -8,6 +8,7 @@ ghost use Rattle.streams.specs.ReadWithin.{ReadWithin};
 use std::alloc::Global;
 use std::io;
 use std::io::{ErrorKind, Read};
+use std::process::ExitCode;
 
 // What reading the input comes to.
 #[derive(Drop)]
@@ -72,8 +73,20 @@ fn reason(said: &str) -> &str {
 }
 
 // Says on standard error, which is lent, what failed and why.
-pub fn fail(stderr: &impl Print, alloc: Global, what: &str, error: io::Error) -> io::Result<()> {
+fn tell(stderr: &impl Print, alloc: Global, what: &str, error: io::Error) -> io::Result<()> {
     let said = format!(in alloc; "{error}")?;
     let words = reason(&said);
     println!(stderr; "{what}: {words}")
+}
+
+// The exit status where nobody reads the output any more: a shell's for a program that the signal for it ends.
+const NOBODY_READS: u8 = 141;
+
+// Says on standard error what failed and why, but not that nobody reads the output any more; answers the exit status.
+pub fn fail(stderr: &impl Print, alloc: Global, what: &str, error: io::Error) -> ExitCode {
+    if error.kind() == ErrorKind::BrokenPipe {
+        return ExitCode::from(NOBODY_READS);
+    }
+    let _ = tell(stderr, alloc, what, error);
+    ExitCode::SUCCESS
 }

@@ -15,12 +15,12 @@ use Rattle.running.specs.Runs.{runs}
 use Rattle.machines.specs.Columns.{byte_count, Columned}
 use Rattle.machines.specs.Explored.{FoundAllStates}
 use Rattle.machines.specs.TableOf.{entry_count, TableFits, TableOf, most_texts}
-use Rattle.machines.specs.TableRuns.{table_runs}
+use Rattle.machines.proofs.TableRuns.{table_runs}
 use Rattle.machines.specs.TableFitsLaws.{fits_most}
 use Rattle.machines.specs.ExploredFacts.{first_text, entry_within}
 use Rattle.machines.specs.AllFoundLaws.{all_found_most}
-use Rattle.machines.specs.ColumnsUnique.{columned_once}
-use Rattle.machines.specs.MadeOnce.{states_once, made_once}
+use Rattle.machines.proofs.ColumnsUnique.{columned_once}
+use Rattle.machines.proofs.MadeOnce.{states_once, made_once}
 use Rattle.exploring.specs.Room.{FoundKept, FoundAll, TooMany, marks_of, entries_from}
 use Rattle.writing.specs.Written.{Writable, TableWritten}
 use Rattle.writing.specs.declared.Places.{Places}

@@ -5,7 +5,8 @@ use Rattle.operands.specs.Bytes.{second}
 use Rattle.scanner.specs.Expression.{LabelsRead, labels_read}
 use Rattle.checker.specs.Counted.{too_large_read, refused_before}
 use Rattle.reader.specs.Store.{refused_second}
-use Rattle.reader.specs.LabelsStored.{ready, due_stored, second_not_stored, second_stored}
+use Rattle.reader.specs.LabelsStored.{ready, due_stored, second_stored}
+use Rattle.reader.proofs.LabelsStored.{second_not_stored}
 use Rattle.reader.proofs.read_second.Goals as goal
 use Rattle.reader.proofs.read_second.Goals.{Else-count-gt-MOST_LABELS, In-Read}
 

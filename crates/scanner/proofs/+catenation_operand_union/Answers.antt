@@ -1,19 +1,9 @@
 -- The cycle of the readers of an operand, a catenation and a union, which call each other. An operand is a `(` with the
 -- union in it, or a single operand, and then the signs.
-use Rattle.std.proofs.Common.{ℕ, ◌+◌, ◌∙◌, arith}
-use Rattle.operands.specs.Bytes.{syntax_of}
-use Rattle.operands.specs.Grammar.{starred, united, joined}
+use Rattle.std.proofs.Common.{◌∙◌, arith}
 use Rattle.operands.specs.Surroundings.{fails_end, fails_deep, fails_group, fails_open}
-use Rattle.operands.specs.Reading.{Whole, ReadUpTo}
 use Rattle.operands.specs.ReadingLaws.{went_group, then_signs}
-use Rattle.scanner.specs.RoundsLaws.{
-  operand_more,
-  operand_fails,
-  begin_after,
-  branch_more,
-  branch_fails,
-  no_sign_stops,
-}
+use Rattle.scanner.specs.RoundsLaws.{operand_more, operand_fails, begin_after, branch_more, branch_fails}
 use Rattle.scanner.proofs.+catenation_operand_union.Goals as goal
 
 pub catenation::catenation-returns-in_default : goal.catenation::catenation-returns-in_default

@@ -1,7 +1,7 @@
 -- The measures of the cycle of readers: the bytes left fall, three for each, and one more for a catenation, two more for
 -- a union, since these read their first part at the same place. The loops' invariants: a round begins, no further than
 -- the end of the expression.
-use Rattle.std.proofs.Common.{◌≤◌, length, ◌≡◌, ℕ, ◌+◌, ◌-◌, ◌*◌}
+use Rattle.std.proofs.Common.{◌≤◌, length, ◌≡◌, ◌+◌, ◌-◌, ◌*◌}
 use Rattle.tree.specs.Limits.{slot_count}
 use Rattle.operands.specs.Bytes.{syntax_of}
 use Rattle.operands.specs.Grammar.{starred, joined, united}

@@ -1,4 +1,4 @@
--- `checker::count::class_count` meets its contract. The loop's invariant: the class labels before `i` are counted.
+-- `checker::count::class_count` meets its contract.
 use native.Mathlib.Omega.{arith}
 use Rattle.checker.specs.ClassStore.{no_label_counted, next_label_counted, all_labels_counted}
 use Rattle.checker.proofs.count.class_count.Goals as goal

@@ -1,4 +1,4 @@
--- `checker::count::class_count` meets its contract. The loop's invariant: the class labels before `i` are counted.
+-- The loop's invariant: the class labels before `i` are counted.
 use Prim.Native.Nat.{◌-◌, ◌≤◌}
 use lib.ListN.{length}
 use Rattle.checker.specs.ClassStore.{ClassLabelsCounted}

@@ -2,7 +2,6 @@
 use mathlib.Core.Path.{sym, ◌∙◌}
 use native.Mathlib.Omega.{arith}
 use Rattle.classes.specs.ClassReading.{found_bare, found_slashed, bad_end, bad_bare, bad_last, bad_slash}
-use borrow.Author.Rules.{rules}
 use Rattle.classes.proofs.class.class_byte.Goals as goal
 
 pub returns-then-at-expr : goal.returns-then-at-expr

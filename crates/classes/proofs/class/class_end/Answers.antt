@@ -1,7 +1,6 @@
 -- `classes::class::class_end` meets its contract: with a `^` or without one, its items are passed.
 use native.Mathlib.Omega.{arith}
 use Rattle.classes.specs.ClassItems.{end_but, end_only}
-use borrow.Author.Rules.{rules}
 use Rattle.classes.proofs.class.class_end.Goals as goal
 
 pub overflow_add-at-then-stands_at : goal.overflow_add-at-then-stands_at

@@ -4,7 +4,6 @@ use mathlib.Core.Bool.{true, false}
 use native.Mathlib.Omega.{arith}
 use Rattle.classes.specs.Members.{filled_members}
 use Rattle.classes.specs.ClassItems.{class_but, class_only}
-use borrow.Author.Rules.{rules}
 use Rattle.classes.proofs.class.class_members.Goals as goal
 
 pub overflow_add-at-then-stands_at : goal.overflow_add-at-then-stands_at

@@ -15,7 +15,6 @@ use Prim.Native.Nat.{ℕ, ◌+◌, ◌<◌}
 use mathlib.Core.Path.{◌≡◌}
 use mathlib.Core.List.{List}
 use lib.ListN.{length, get_or}
-use borrow.Author.Rules.{rules}
 use Rattle.classes.proofs.class.item.Goals as goal
 use Rattle.classes.proofs.class.item.Goals.{In-Read}
 

@@ -1,21 +1,8 @@
--- `classes::class::items` meets its contract. The loop's invariant: the items from `at` up to `place` are read, and
--- `members` tells their values.
-use Prim.Native.Nat.{◌-◌}
+-- `classes::class::items` meets its contract.
 use mathlib.Core.Path.{sym, ◌∙◌}
 use native.Mathlib.Omega.{arith}
-use lib.ListN.{length}
 use Rattle.classes.specs.ClassReading.{ItemHere}
-use Rattle.classes.specs.Members.{item_value}
-use Rattle.classes.specs.ClassItems.{
-  ItemsSoFar,
-  no_items,
-  one_more_item,
-  items_ended,
-  items_unfit,
-  items_broken,
-  items_cut,
-}
-use borrow.Author.Rules.{rules}
+use Rattle.classes.specs.ClassItems.{no_items, one_more_item, items_ended, items_unfit, items_broken, items_cut}
 use Rattle.classes.proofs.class.items.Goals as goal
 use Rattle.classes.proofs.class.items.Goals.{In-Read}
 

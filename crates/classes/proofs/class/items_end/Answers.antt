@@ -1,19 +1,8 @@
--- `classes::class::items_end` meets its contract. The loop's invariant: the items from `at` up to `place` are passed.
-use Prim.Native.Nat.{◌-◌}
+-- `classes::class::items_end` meets its contract.
 use mathlib.Core.Path.{sym, ◌∙◌}
 use native.Mathlib.Omega.{arith}
-use lib.ListN.{length}
 use Rattle.classes.specs.ClassReading.{ItemHere}
-use Rattle.classes.specs.ClassItems.{
-  ItemsPassed,
-  none_passed,
-  one_more_passed,
-  passed_ended,
-  passed_unfit,
-  passed_broken,
-  passed_cut,
-}
-use borrow.Author.Rules.{rules}
+use Rattle.classes.specs.ClassItems.{none_passed, one_more_passed, passed_ended, passed_unfit, passed_broken, passed_cut}
 use Rattle.classes.proofs.class.items_end.Goals as goal
 use Rattle.classes.proofs.class.items_end.Goals.{In-Read}
 

@@ -2,7 +2,6 @@
 use mathlib.Core.Path.{refl}
 use native.Mathlib.Omega.{arith}
 use Rattle.classes.specs.ClassReading.{ByteHere, last_on, above_bad, bad_byte_range}
-use borrow.Author.Rules.{rules}
 use Rattle.classes.proofs.class.range.Goals as goal
 use Rattle.classes.proofs.class.range.Goals.{In-Read}
 

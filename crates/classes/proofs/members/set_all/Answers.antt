@@ -1,10 +1,8 @@
--- `classes::members::set_all` meets its contract. The loop's invariant: the values before `i` have the number.
-use Prim.Native.Nat.{◌-◌, ◌≤◌}
-use mathlib.Core.Path.{◌≡◌, refl}
+-- `classes::members::set_all` meets its contract.
+use mathlib.Core.Path.{refl}
 use native.Mathlib.Omega.{arith}
-use lib.ListN.{length, length-set}
-use Rattle.classes.specs.Members.{FilledUpTo, filled_more}
-use borrow.Author.Rules.{rules}
+use lib.ListN.{length-set}
+use Rattle.classes.specs.Members.{filled_more}
 use Rattle.classes.proofs.members.set_all.Goals as goal
 
 pub loop-i-init : goal.loop-i-init

@@ -1,10 +1,8 @@
--- `classes::members::set_all` meets its contract. The loop's invariant: the values before `i` have the number.
+-- The loop's invariant: the values before `i` have the number.
 use Prim.Native.Nat.{◌-◌, ◌≤◌}
-use mathlib.Core.Path.{◌≡◌, refl}
-use native.Mathlib.Omega.{arith}
-use lib.ListN.{length, length-set}
-use Rattle.classes.specs.Members.{FilledUpTo, filled_more}
-use borrow.Author.Rules.{rules}
+use mathlib.Core.Path.{◌≡◌}
+use lib.ListN.{length}
+use Rattle.classes.specs.Members.{FilledUpTo}
 use Rattle.classes.proofs.members.set_all.Given as goal
 
 abbrev pub invariant-loop-i : goal.invariant-loop-i

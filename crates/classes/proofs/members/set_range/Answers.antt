@@ -1,10 +1,9 @@
--- `classes::members::set_range` meets its contract. The loop's invariant: the values before `v` are put.
-use Prim.Native.Nat.{◌+◌, ◌-◌, ◌≤◌}
+-- `classes::members::set_range` meets its contract.
+use Prim.Native.Nat.{◌+◌}
 use mathlib.Core.Path.{◌≡◌, refl}
 use native.Mathlib.Omega.{arith}
-use lib.ListN.{length, length-set}
-use Rattle.classes.specs.Members.{Put, put_none, put_more}
-use borrow.Author.Rules.{rules}
+use lib.ListN.{length-set}
+use Rattle.classes.specs.Members.{put_none, put_more}
 use Rattle.classes.proofs.members.set_range.Goals as goal
 
 pub loop-v-init : goal.loop-v-init

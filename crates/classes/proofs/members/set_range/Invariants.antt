@@ -1,10 +1,8 @@
--- `classes::members::set_range` meets its contract. The loop's invariant: the values before `v` are put.
+-- The loop's invariant: the values before `v` are put.
 use Prim.Native.Nat.{◌+◌, ◌-◌, ◌≤◌}
-use mathlib.Core.Path.{◌≡◌, refl}
-use native.Mathlib.Omega.{arith}
-use lib.ListN.{length, length-set}
-use Rattle.classes.specs.Members.{Put, put_none, put_more}
-use borrow.Author.Rules.{rules}
+use mathlib.Core.Path.{◌≡◌}
+use lib.ListN.{length}
+use Rattle.classes.specs.Members.{Put}
 use Rattle.classes.proofs.members.set_range.Given as goal
 
 abbrev pub invariant-loop-v : goal.invariant-loop-v

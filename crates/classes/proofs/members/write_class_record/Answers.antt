@@ -1,10 +1,8 @@
--- `classes::members::write_class_record` meets its contract. The loop's invariant: the bytes before `i` are written.
-use Prim.Native.Nat.{◌-◌, ◌≤◌}
+-- `classes::members::write_class_record` meets its contract.
 use mathlib.Core.Path.{◌≡◌, refl}
 use native.Mathlib.Omega.{arith}
-use lib.ListN.{length, length-set}
-use Rattle.classes.specs.Members.{RecordedUpTo, recorded_none, recorded_more}
-use borrow.Author.Rules.{rules}
+use lib.ListN.{length-set}
+use Rattle.classes.specs.Members.{recorded_none, recorded_more}
 use Rattle.classes.proofs.members.write_class_record.Goals as goal
 
 pub loop-i-init : goal.loop-i-init

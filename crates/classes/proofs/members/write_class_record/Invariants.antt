@@ -1,10 +1,8 @@
--- `classes::members::write_class_record` meets its contract. The loop's invariant: the bytes before `i` are written.
+-- The loop's invariant: the bytes before `i` are written.
 use Prim.Native.Nat.{◌-◌, ◌≤◌}
-use mathlib.Core.Path.{◌≡◌, refl}
-use native.Mathlib.Omega.{arith}
-use lib.ListN.{length, length-set}
-use Rattle.classes.specs.Members.{RecordedUpTo, recorded_none, recorded_more}
-use borrow.Author.Rules.{rules}
+use mathlib.Core.Path.{◌≡◌}
+use lib.ListN.{length}
+use Rattle.classes.specs.Members.{RecordedUpTo}
 use Rattle.classes.proofs.members.write_class_record.Given as goal
 
 abbrev pub invariant-loop-i : goal.invariant-loop-i

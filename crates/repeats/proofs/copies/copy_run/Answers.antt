@@ -1,15 +1,6 @@
--- `repeats::copies::copy_run` meets its contract. The loop's invariant: the first `i` labels of the run are copied. The
--- measure is what is left of the run.
-use Prim.Native.Nat.{◌-◌}
+-- `repeats::copies::copy_run` meets its contract.
 use native.Mathlib.Omega.{arith}
-use Rattle.repeats.specs.LabelledLaws.{
-  CopiedUpTo,
-  copied_none,
-  copied_more,
-  copied_all,
-  copied_not,
-}
-use borrow.Author.Rules.{rules}
+use Rattle.repeats.specs.LabelledLaws.{copied_none, copied_more, copied_all, copied_not}
 use Rattle.repeats.proofs.copies.copy_run.Goals as goal
 
 pub returns-then-count-size-gt-MOST_LABELS : goal.returns-then-count-size-gt-MOST_LABELS

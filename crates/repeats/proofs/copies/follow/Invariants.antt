@@ -1,17 +1,10 @@
--- `repeats::copies::follow` meets its contract. The loop's invariant: `i` copies follow. The measure is what is left of
+-- The loop's invariant: `i` copies follow. The measure is what is left of the copies.
 use Prim.Native.Nat.{◌-◌, ◌≤◌}
-use mathlib.Core.Path.{◌≡◌, refl}
+use mathlib.Core.Path.{◌≡◌}
 use mathlib.Core.List.{◌++◌}
-use native.Mathlib.Omega.{arith}
 use lib.ListN.{length}
 use Rattle.repeats.specs.Labelled.{Copies, copy_end, copied}
-use Rattle.repeats.specs.LabelledLaws.{
-  CountedOn,
-  copies_counted,
-  appended_counted,
-  follows_none,
-  follows_more,
-}
+use Rattle.repeats.specs.LabelledLaws.{CountedOn}
 use Rattle.repeats.proofs.copies.follow.Given as goal
 
 abbrev pub invariant-loop-i : goal.invariant-loop-i

@@ -1,7 +1,6 @@
 -- `repeats::copies::more` meets its contract: a copy, what is noted of the star and of the catenation.
 use native.Mathlib.Omega.{arith}
 use Rattle.repeats.specs.LabelledLaws.{copies_counted, more_relabels}
-use borrow.Author.Rules.{rules}
 use Rattle.repeats.proofs.copies.more.Goals as goal
 
 pub put_two-requires : goal.put_two-requires

@@ -1,7 +1,6 @@
 -- `repeats::copies::times` meets its contract: with no copy that must be there, and with at least one.
 use native.Mathlib.Omega.{arith}
 use Rattle.repeats.specs.LabelledLaws.{copies_counted, none_relabels, some_relabels}
-use borrow.Author.Rules.{rules}
 use Rattle.repeats.proofs.copies.times.Goals as goal
 
 pub returns-then-fewest-eq0 : goal.returns-then-fewest-eq0

@@ -1,7 +1,6 @@
 -- `signs::signs::counted` meets its contract: the count that is found makes an operand of what was read, and where
 -- none is found the refusal is at its `{`.
 use native.Mathlib.Omega.{arith}
-use borrow.Author.Rules.{rules}
 use Rattle.counts.specs.CountRun.{count_at}
 use Rattle.counts.specs.CountReading.{CountHere}
 use Rattle.signs.specs.OneSign.{bad_count, count_sign}

@@ -1,7 +1,6 @@
 -- `signs::signs::second_sign` meets its contract: a `+`, a `?` or a count makes an operand of what was read, and
 -- every other byte ends it.
 use native.Mathlib.Omega.{arith}
-use borrow.Author.Rules.{rules}
 use Rattle.signs.specs.OneSign.{no_second_sign, plus_sign, question_sign}
 use Rattle.signs.proofs.signs.second_sign.Goals as goal
 

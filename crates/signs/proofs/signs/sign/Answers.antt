@@ -1,6 +1,5 @@
 -- `signs::signs::sign` meets its contract: a `*` in both syntaxes, and the second syntax has its own signs.
 use native.Mathlib.Omega.{arith}
-use borrow.Author.Rules.{rules}
 use Rattle.signs.specs.OneSign.{no_first_sign, star_sign}
 use Rattle.signs.proofs.signs.sign.Goals as goal
 

@@ -1,15 +1,12 @@
--- `signs::signs::signs` meets its contract. The loop's invariant: what was read where the loop begins is read on up
+-- The loop's invariant: what was read where the loop begins is read on up to `place`. The measure is what is left of
+-- the expression.
 use Prim.Native.Nat.{ℕ, ◌-◌, ◌≤◌}
-use mathlib.Core.Path.{◌≡◌, refl, ◌∙◌}
-use native.Mathlib.Omega.{arith}
-use borrow.Author.Rules.{rules}
+use mathlib.Core.Path.{◌≡◌}
 use lib.ListN.{length}
 use Rattle.tree.specs.Limits.{slot_count}
 use Rattle.operands.specs.Bytes.{syntax_of}
 use Rattle.operands.specs.Grammar.{starred}
-use Rattle.operands.specs.Stopping.{at_end}
-use Rattle.operands.specs.Reading.{Carries, OneSign}
-use Rattle.signs.specs.OneSign.{breaks_there, all_read, one_more, found}
+use Rattle.operands.specs.Reading.{Carries}
 use Rattle.signs.proofs.signs.signs.Given as goal
 
 abbrev pub invariant-loop-place : goal.invariant-loop-place

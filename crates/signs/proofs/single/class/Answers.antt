@@ -6,7 +6,6 @@ use Rattle.operands.specs.Surroundings.{fails_class}
 use Rattle.classes.specs.ClassItems.{ClassEnded}
 use Rattle.signs.specs.ClassLeads.{class_leads}
 use Rattle.operands.specs.ReadingLaws.{leaf_read}
-use borrow.Author.Rules.{rules}
 use Rattle.signs.proofs.single.class.Goals as goal
 use Rattle.signs.proofs.single.class.Goals.{In-Read}
 

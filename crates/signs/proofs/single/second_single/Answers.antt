@@ -5,7 +5,6 @@ use Rattle.classes.specs.ClassAt.{dot_here}
 use Rattle.operands.specs.Surroundings.{fails_end_bracket, fails_end_brace}
 use Rattle.signs.specs.ClassLeads.{dot_leads, no_class_begins}
 use Rattle.operands.specs.ReadingLaws.{leaf_read}
-use borrow.Author.Rules.{rules}
 use Rattle.signs.proofs.single.second_single.Goals as goal
 
 pub leaf-requires : goal.leaf-requires

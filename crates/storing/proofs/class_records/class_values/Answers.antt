@@ -2,7 +2,6 @@
 use mathlib.Core.Path.{◌∙◌}
 use native.Mathlib.Omega.{arith}
 use Rattle.classes.specs.ClassItems.{dot_at, dot_members, members_at, inside_at}
-use borrow.Author.Rules.{rules}
 use Rattle.storing.proofs.class_records.class_values.Goals as goal
 
 pub bounds-expr-at : goal.bounds-expr-at

@@ -1,11 +1,7 @@
--- `storing::class_records::number_classes` meets its contract. The loop's invariant: the labels before `i` are
--- numbered.
-use Prim.Native.Nat.{ℕ, ◌-◌, ◌≤◌}
-use mathlib.Core.Path.{◌≡◌, refl, ◌∙◌}
+-- `storing::class_records::number_classes` meets its contract.
+use mathlib.Core.Path.{refl, ◌∙◌}
 use native.Mathlib.Omega.{arith}
-use lib.ListN.{length}
-use Rattle.checker.specs.ClassStore.{LabelsNumbered, none_numbered, next_numbered, number_le, all_numbered}
-use borrow.Author.Rules.{rules}
+use Rattle.checker.specs.ClassStore.{none_numbered, next_numbered, number_le, all_numbered}
 use Rattle.storing.proofs.class_records.number_classes.Goals as goal
 
 pub loop-i-init : goal.loop-i-init

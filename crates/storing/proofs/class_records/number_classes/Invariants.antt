@@ -1,10 +1,8 @@
--- `storing::class_records::number_classes` meets its contract. The loop's invariant: the labels before `i` are
-use Prim.Native.Nat.{ℕ, ◌-◌, ◌≤◌}
-use mathlib.Core.Path.{◌≡◌, refl, ◌∙◌}
-use native.Mathlib.Omega.{arith}
+-- The loop's invariant: the labels before `i` are numbered.
+use Prim.Native.Nat.{◌-◌, ◌≤◌}
+use mathlib.Core.Path.{◌≡◌}
 use lib.ListN.{length}
-use Rattle.checker.specs.ClassStore.{LabelsNumbered, none_numbered, next_numbered, number_le, all_numbered}
-use borrow.Author.Rules.{rules}
+use Rattle.checker.specs.ClassStore.{LabelsNumbered}
 use Rattle.storing.proofs.class_records.number_classes.Given as goal
 
 abbrev pub invariant-loop-i : goal.invariant-loop-i

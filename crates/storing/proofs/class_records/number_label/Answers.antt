@@ -1,7 +1,5 @@
 -- `storing::class_records::number_label` meets its contract: a class label gets the number, another label stays.
-use native.Mathlib.Omega.{arith}
 use Rattle.checker.specs.ClassStore.{class_label_numbered, other_label_numbered}
-use borrow.Author.Rules.{rules}
 use Rattle.storing.proofs.class_records.number_label.Goals as goal
 
 pub returns-then-labels-i-eq-CLASS_LABEL : goal.returns-then-labels-i-eq-CLASS_LABEL

@@ -6,7 +6,6 @@ use native.Mathlib.Omega.{arith}
 use lib.ListN.{length, take, drop, length-drop}
 use lib.Seq.{length-take-le}
 use Rattle.classes.specs.Members.{members_binary, recorded_whole}
-use borrow.Author.Rules.{rules}
 use Rattle.storing.proofs.class_records.store_class.Goals as goal
 
 -- the part that is lent has 32 bytes

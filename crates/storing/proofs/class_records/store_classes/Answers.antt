@@ -1,19 +1,7 @@
--- `storing::class_records::store_classes` meets its contract. The loop's invariant: the class records of the labels
--- before `i` are stored.
-use Prim.Native.Nat.{ℕ, ◌-◌, ◌≤◌}
-use mathlib.Core.Path.{◌≡◌, refl, ◌∙◌}
+-- `storing::class_records::store_classes` meets its contract.
+use mathlib.Core.Path.{refl, ◌∙◌}
 use native.Mathlib.Omega.{arith}
-use lib.ListN.{length}
-use Rattle.checker.specs.ClassStore.{
-  ClassesStored,
-  no_class_stored,
-  next_stored,
-  class_placed,
-  class_room,
-  stored_few,
-  all_stored,
-}
-use borrow.Author.Rules.{rules}
+use Rattle.checker.specs.ClassStore.{no_class_stored, next_stored, class_placed, class_room, stored_few, all_stored}
 use Rattle.storing.proofs.class_records.store_classes.Goals as goal
 
 pub loop-i-init : goal.loop-i-init

@@ -1,18 +1,8 @@
--- `storing::class_records::store_classes` meets its contract. The loop's invariant: the class records of the labels
-use Prim.Native.Nat.{ℕ, ◌-◌, ◌≤◌}
-use mathlib.Core.Path.{◌≡◌, refl, ◌∙◌}
-use native.Mathlib.Omega.{arith}
+-- The loop's invariant: the class records of the labels before `i` are stored.
+use Prim.Native.Nat.{◌-◌, ◌≤◌}
+use mathlib.Core.Path.{◌≡◌}
 use lib.ListN.{length}
-use Rattle.checker.specs.ClassStore.{
-  ClassesStored,
-  no_class_stored,
-  next_stored,
-  class_placed,
-  class_room,
-  stored_few,
-  all_stored,
-}
-use borrow.Author.Rules.{rules}
+use Rattle.checker.specs.ClassStore.{ClassesStored}
 use Rattle.storing.proofs.class_records.store_classes.Given as goal
 
 abbrev pub invariant-loop-i : goal.invariant-loop-i

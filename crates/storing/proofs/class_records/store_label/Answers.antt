@@ -1,7 +1,6 @@
 -- `storing::class_records::store_label` meets its contract: a class label's record is stored, of another label none.
 use native.Mathlib.Omega.{arith}
 use Rattle.checker.specs.ClassStore.{class_label_stored, other_label_stored}
-use borrow.Author.Rules.{rules}
 use Rattle.storing.proofs.class_records.store_label.Goals as goal
 
 pub store_class-requires : goal.store_class-requires

@@ -5,7 +5,7 @@ use Rattle.tree.specs.Leaf.{Leaf}
 use Rattle.machines.specs.Columns.{Columned}
 use Rattle.machines.specs.Explored.{FoundAllStates}
 use Rattle.machines.specs.TableOf.{TableOf}
-use Rattle.machines.specs.ColumnsUnique.{columned_once}
+use Rattle.machines.proofs.ColumnsUnique.{columned_once}
 use Rattle.machines.specs.AllFoundLaws.{all_found_once}
 use Rattle.machines.specs.TableUnique.{table_once}
 

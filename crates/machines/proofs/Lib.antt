@@ -1,0 +1,3 @@
+pub mod TableRuns
+pub mod ColumnsUnique
+pub mod MadeOnce

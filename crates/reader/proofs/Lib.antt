@@ -1,0 +1,3 @@
+pub mod SecondKept
+pub mod Check
+pub mod LabelsStored
