@@ -4,7 +4,6 @@ use Rattle.language.specs.Tree.{Tree}
 use Rattle.tree.specs.Leaf.{Leaf}
 use Rattle.tree.specs.Limits.{most_pieces}
 use Rattle.tables.specs.Tables.{Holding, Ready}
-use Rattle.stepping.specs.Texts.{all_words}
 use Rattle.machines.specs.Explored.{Explored, NothingAfter}
 use Rattle.exploring.specs.Keys.{Keys, SameUnder}
 use Rattle.exploring.specs.Room.{marks_of, FoundKept, StatesNumbered}

@@ -1,6 +1,6 @@
 -- What of a state's marks counts: the starts of leaves, and the root's accepting state; and the number by which a state
 -- is found again, made of these.
-use Rattle.std.specs.Prelude.{ℕ, zero, suc, ◌+◌, ◌*◌, ◌/◌, ◌%◌, ◌^◌, ◌<◌, ◌≡◌, List, get_or}
+use Rattle.std.specs.Prelude.{ℕ, zero, suc, ◌*◌, ◌/◌, ◌%◌, ◌^◌, ◌<◌, ◌≡◌, List, get_or}
 use Rattle.std.specs.Int.Bits.{bit_or, bit_and, bit_xor}
 use Rattle.tables.specs.Plan.{leaves_mask, top_of}
 

@@ -2,7 +2,7 @@
 use Rattle.std.specs.Prelude.{ℕ, ◌+◌, ◌-◌, ◌*◌, ◌≤◌, ◌<◌, ◌≡◌, ◌↔◌, List, ◌∷◌, [], ◌++◌, get_or, drop, length, take}
 use Rattle.std.proofs.Common.{sym, subst, arith}
 use Rattle.std.proofs.Math.Logic.Iff
-use Rattle.language.specs.Nested.{whole, origin}
+use Rattle.language.specs.Nested.{origin}
 use Rattle.language.specs.Tree.{Tree}
 use Rattle.language.proofs.Same.{models_same}
 use Rattle.tree.specs.Leaf.{Leaf}

@@ -1,6 +1,6 @@
 -- The starts of leaves in the pieces: which states of the cut automaton they are, and that the masks of the leaves,
 -- taken as words, mark just these.
-use Rattle.std.specs.Prelude.{ℕ, ◌+◌, ◌*◌, ◌<◌, ◌≡◌, refl, true, ◌↔◌, List, get_or, drop}
+use Rattle.std.specs.Prelude.{ℕ, ◌+◌, ◌<◌, ◌≡◌, refl, true, ◌↔◌, List, get_or, drop}
 use Rattle.std.proofs.Common.{sym, ap, ◌∙◌, subst, arith, get_or-drop}
 use Rattle.std.proofs.lemmas.Bool.{false≢true}
 use Rattle.std.proofs.Math.Logic.Iff
@@ -47,6 +47,19 @@ leaf_has (union x y) (left q) at = leaf_has x q at
 leaf_has (union x y) (right q) at = leaf_has y q at
 leaf_has (star x) (left q) at = leaf_has x q at
 leaf_has (below x) (left q) at = leaf_has x q at
+leaf_has (leaf a) accepting at = elim at [ ]
+leaf_has (leaf a) (left q) at = elim at [ ]
+leaf_has (leaf a) (right q) at = elim at [ ]
+leaf_has (catenation x y) start at = elim at [ ]
+leaf_has (catenation x y) accepting at = elim at [ ]
+leaf_has (union x y) start at = elim at [ ]
+leaf_has (union x y) accepting at = elim at [ ]
+leaf_has (star x) start at = elim at [ ]
+leaf_has (star x) accepting at = elim at [ ]
+leaf_has (star x) (right q) at = elim at [ ]
+leaf_has (below x) start at = elim at [ ]
+leaf_has (below x) accepting at = elim at [ ]
+leaf_has (below x) (right q) at = elim at [ ]
 
 module _ (classes : List ℕ) where
   -- it is one of the uncut tree
@@ -58,6 +71,19 @@ module _ (classes : List ℕ) where
   leaf_origin (union x y) (right q) at = leaf_origin y q at
   leaf_origin (star x) (left q) at = leaf_origin x q at
   leaf_origin (below x) (left q) at = leaf_origin x q at
+  leaf_origin (leaf a) accepting at = elim at [ ]
+  leaf_origin (leaf a) (left q) at = elim at [ ]
+  leaf_origin (leaf a) (right q) at = elim at [ ]
+  leaf_origin (catenation x y) start at = elim at [ ]
+  leaf_origin (catenation x y) accepting at = elim at [ ]
+  leaf_origin (union x y) start at = elim at [ ]
+  leaf_origin (union x y) accepting at = elim at [ ]
+  leaf_origin (star x) start at = elim at [ ]
+  leaf_origin (star x) accepting at = elim at [ ]
+  leaf_origin (star x) (right q) at = elim at [ ]
+  leaf_origin (below x) start at = elim at [ ]
+  leaf_origin (below x) accepting at = elim at [ ]
+  leaf_origin (below x) (right q) at = elim at [ ]
 
   -- each of the uncut tree is one
   abbrev FromLeaf : Nested Leaf → State → Type 0
@@ -71,6 +97,16 @@ module _ (classes : List ℕ) where
   origin_leaf (union x y) (right p) at = let (q, here, e) = origin_leaf y p at in (right q, here, ap right e)
   origin_leaf (star x) (left p) at = let (q, here, e) = origin_leaf x p at in (left q, here, ap left e)
   origin_leaf (below x) p at = let (q, here, e) = origin_leaf x p at in (left q, here, e)
+  origin_leaf (leaf a) accepting at = elim at [ ]
+  origin_leaf (leaf a) (left p) at = elim at [ ]
+  origin_leaf (leaf a) (right p) at = elim at [ ]
+  origin_leaf (catenation x y) start at = elim at [ ]
+  origin_leaf (catenation x y) accepting at = elim at [ ]
+  origin_leaf (union x y) start at = elim at [ ]
+  origin_leaf (union x y) accepting at = elim at [ ]
+  origin_leaf (star x) start at = elim at [ ]
+  origin_leaf (star x) accepting at = elim at [ ]
+  origin_leaf (star x) (right p) at = elim at [ ]
 
 -- a code says that a leaf starts there exactly where P
 abbrev SaysLeaf : ℕ → Type 0 → Type 0
@@ -121,6 +157,11 @@ code_says (star x) i exit none (left p) o =
     says_at (inside_code _ exit x _ _ p o) (code_says x (i + 1) _ (both_says (i + 1)) p o)
 code_says (below x) i exit none start o = zero_says
 code_says (below x) i exit none accepting o = none
+code_says (leaf a) i exit none (left p) o = elim o [ ]
+code_says (leaf a) i exit none (right p) o = elim o [ ]
+code_says (star x) i exit none (right p) o = elim o [ ]
+code_says (below x) i exit none (left p) o = elim o [ ]
+code_says (below x) i exit none (right p) o = elim o [ ]
 
 module _ (rows : List ℕ) where
   -- it has the bits of the starts of the piece's leaves
@@ -174,6 +215,10 @@ module _ (rows : List ℕ) where
       (Iff.trans (bit_of (number x p) first) (own_mask x new lays.0 p o)))
       lays.1
       (λ o l. get_or-drop 1 ws o 0 ∙ masks (1 + o) (omega arith) ∙ ap (leaves_mask rows) (omega arith)) q has
+  marked_leaf (leaf a) w i ws new top lays masks (left q) has = elim has [ ]
+  marked_leaf (leaf a) w i ws new top lays masks (right q) has = elim has [ ]
+  marked_leaf (star x) w i ws new top lays masks (right q) has = elim has [ ]
+  marked_leaf (below x) w i ws new top lays masks (right q) has = elim has [ ]
 
   -- the masks of all pieces, taken as words, mark the starts of the leaves
   pub masks_hold : (x : Nested Leaf) (masks : List ℕ) → LaysEach rows x

@@ -3,7 +3,6 @@ use Rattle.std.specs.Prelude.{ℕ, ◌+◌, ◌*◌, ◌≤◌, ◌<◌, ◌≡�
 use Rattle.std.proofs.Math.Seq.{paste}
 use Rattle.language.specs.Tree.{Tree}
 use Rattle.tree.specs.Leaf.{Leaf}
-use Rattle.tables.specs.Words.{number}
 use Rattle.tables.specs.Tables.{Holding}
 use Rattle.machines.specs.Explored.{Explored, FoundAllStates}
 use Rattle.exploring.specs.declared.explore.ExploringAnswer.{ExploringAnswer as Answer}

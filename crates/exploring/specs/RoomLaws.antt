@@ -5,7 +5,6 @@ use Rattle.std.proofs.Math.Decide.{ℕ_discrete}
 use Rattle.std.proofs.Math.ListN.{get_or-append}
 use Rattle.std.proofs.Math.Seq.{paste}
 use Rattle.std.proofs.lemmas.List.Edits.{take-paste, drop-paste}
-use Rattle.language.specs.Nested.{whole}
 use Rattle.tables.specs.Words.{number}
 use Rattle.exploring.specs.Keys.{SameUnder, number_under}
 use Rattle.exploring.specs.KeysLaws.{same_number}

@@ -5,7 +5,6 @@ use Rattle.std.proofs.Math.Decide.{dec_lt}
 use Rattle.language.specs.Tree.{Tree}
 use Rattle.tree.specs.Leaf.{Leaf}
 use Rattle.tables.specs.Tables.{Prepared, Holding}
-use Rattle.stepping.specs.Texts.{all_words}
 use Rattle.machines.specs.Explored.{OneState, Explored, NothingAfter, tried, at_start, to_nothing, to_known, to_new}
 use Rattle.exploring.specs.Keys.{Keys}
 use Rattle.exploring.specs.MaskedWords.{one_state, same_under}

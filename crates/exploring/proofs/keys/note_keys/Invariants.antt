@@ -1,0 +1,19 @@
+-- `exploring::keys::note_keys` meets its contract: the masks of the leaves of the first k pieces are noted. The measure
+use Prim.Native.Nat.{ℕ, ◌-◌, ◌^◌, ◌≤◌}
+use mathlib.Core.Path.{◌≡◌, refl, ap, ◌∙◌}
+use native.Mathlib.Omega.{arith}
+use borrow.Author.Rules.{rules}
+use lib.ListN.{get_or}
+use lib.Bits.{bit_or}
+use Rattle.tables.specs.Plan.{leaves_mask}
+use Rattle.closing.specs.BitsOfWords.MadeAnew.{MadeAnew, anew_none, anew_set_at}
+use Rattle.exploring.specs.KeysLaws.{keys_noted}
+use Rattle.exploring.proofs.keys.note_keys.Given as goal
+
+abbrev pub invariant-loop-k : goal.invariant-loop-k
+invariant-loop-k l =
+    (l.k ≤ l.count) × MadeAnew (λ j v. v ≡ leaves_mask l.rows j) l.initial.masks l.masks 0 l.k
+
+abbrev pub decreases-loop-k : goal.decreases-loop-k
+decreases-loop-k l =
+    l.count - l.k

@@ -1,0 +1,21 @@
+-- `exploring::keys::number_of` meets its contract: the number is that of the first k words. The measure is how many are
+-- left.
+use Prim.Native.Nat.{◌-◌, ◌≤◌}
+use mathlib.Core.Path.{◌≡◌, sym, ap, ◌∙◌}
+use native.Mathlib.Omega.{arith}
+use borrow.Author.Rules.{rules}
+use Rattle.exploring.specs.Keys.{number_under}
+use Rattle.exploring.specs.KeysLaws.{number_none, number_next}
+use Rattle.exploring.proofs.keys.number_of.Goals as goal
+
+pub loop-k-init : goal.loop-k-init
+loop-k-init c =
+    (omega arith, sym (number_none _ _))
+
+pub loop-k-preserved : goal.loop-k-preserved
+loop-k-preserved c =
+    (search rules, number_next _ _ _ c.loop-k.invariant.1)
+
+pub returns : goal.returns
+returns c =
+    c.loop-k.invariant.1 ∙ ap (number_under _ _) (omega arith)

@@ -1,0 +1,16 @@
+-- `exploring::keys::same_under` meets its contract: the first k words agree. The measure is how many are left.
+use Prim.Native.Nat.{◌-◌, ◌≤◌}
+use native.Mathlib.Omega.{arith}
+use borrow.Author.Rules.{rules}
+use Rattle.closing.specs.BitsOfWords.Bits.{told_yes, told_no}
+use Rattle.exploring.specs.Keys.{SameUnder}
+use Rattle.exploring.specs.KeysLaws.{same_none, same_next}
+use Rattle.exploring.proofs.keys.same_under.Given as goal
+
+abbrev pub invariant-loop-k : goal.invariant-loop-k
+invariant-loop-k l =
+    (l.k ≤ l.count) × SameUnder l.masks l.k l.kept l.words
+
+abbrev pub decreases-loop-k : goal.decreases-loop-k
+decreases-loop-k l =
+    l.count - l.k
