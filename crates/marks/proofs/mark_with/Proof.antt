@@ -22,13 +22,8 @@ use Rattle.marks.specs.Promise.{
   start_too_few,
   started,
 }
-use Rattle.marks.specs.Along.{
-  Steppable,
-  each_not_good,
-  each_too_few_classes,
-  each_too_few,
-  each_not_marks,
-}
+use Rattle.marks.specs.Along.{Steppable}
+use Rattle.marks.proofs.AlongLaws.{each_not_good, each_too_few_classes, each_too_few, each_not_marks}
 use Rattle.marks.proofs.Told.{told_classed, told_too_few_classes}
 use Rattle.marks.proofs.mark_with.Statement.{statement}
 use Rattle.marks.proofs.mark_with.Tie as tie

@@ -1,7 +1,7 @@
 -- `marks::step` meets its contract: it is `mark`'s for steps, along a single byte.
 use mathlib.Core.Path.{refl}
 use borrow.Author.Rules.{rules}
-use Rattle.marks.specs.Along.{each_single}
+use Rattle.marks.proofs.AlongLaws.{each_single}
 use Rattle.marks.proofs.step.Statement.{statement}
 use Rattle.marks.proofs.step.Tie as tie
 

@@ -9,17 +9,8 @@ use lib.ListN.{length, take}
 use Rattle.language.specs.Tree.{Tree}
 use Rattle.tree.specs.Leaf.{Leaf}
 use Rattle.tables.specs.Tables.{Prepared}
-use Rattle.marks.specs.Along.{
-  Steppable,
-  Walkable,
-  walkable_runs,
-  walkable_next,
-  WentAlong,
-  went_none,
-  went_further,
-  went_rest,
-  went_all,
-}
+use Rattle.marks.specs.Along.{Steppable, Walkable, WentAlong}
+use Rattle.marks.proofs.AlongLaws.{walkable_runs, walkable_next, went_none, went_further, went_rest, went_all}
 use Rattle.marks.proofs.along.advance_along.Statement.{statement}
 use Rattle.marks.proofs.along.advance_along.Tie as tie
 use Rattle.marks.proofs.along.advance_along.Reads as reads
