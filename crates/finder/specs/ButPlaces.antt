@@ -2,7 +2,8 @@
 use Rattle.std.specs.Prelude.{ℕ, ◌≡◌, List}
 use Rattle.language.specs.Tree.{Tree}
 use Rattle.tree.specs.Leaf.{Leaf}
-use Rattle.marks.specs.ButPlaces.{SameButPlaces, good_there, not_good_there, few_classes_there}
+use Rattle.marks.specs.ButPlaces.{SameButPlaces}
+use Rattle.marks.proofs.ButPlaces.{good_there, not_good_there, few_classes_there}
 use Rattle.finder.specs.Promise.{
   OfGood,
   Refuses,

@@ -2,8 +2,8 @@
 -- `foam_read2` promise are equations.
 use Rattle.std.specs.Prelude.{ℕ, ◌≡◌, List}
 use Rattle.std.proofs.Common.{ap, sym, ◌∙◌}
-use Rattle.marks.specs.Unique.{starts_unique, steps_unique}
-use Rattle.marks.specs.StepsEachLaws.{steps_each_unique}
+use Rattle.marks.proofs.Unique.{starts_unique, steps_unique}
+use Rattle.marks.proofs.StepsEachLaws.{steps_each_unique}
 use Rattle.finder.specs.Unique.{match_unique, search_unique_numbers}
 use Rattle.picker.specs.Unique.{picks_unique}
 use Rattle.foamlattice.specs.Promise.{

@@ -5,7 +5,6 @@ pub mod Promise
 pub mod Chain
 -- a step for each byte
 pub mod StepsEach
-pub mod Unique
 -- lists that differ only in places
 pub mod ButPlaces
 pub mod ChainFollows
@@ -14,4 +13,3 @@ pub mod States
 pub mod NothingLeft
 -- steps along many bytes
 pub mod Along
-pub mod StepsEachLaws

@@ -1,5 +1,5 @@
 -- The layer inside: the marks of a start and of a step over the rows of a list, which are made once.
-use Rattle.std.specs.Prelude.{ℕ, zero, suc, ◌+◌, ◌*◌, ◌-◌, ◌≤◌, ◌<◌, ◌≡◌, refl, Bool, true, false, ◌↔◌, List, [], ◌∷◌, ◌++◌, length, get_or, take, drop, set, replicate}
+use Rattle.std.specs.Prelude.{ℕ, suc, ◌+◌, ◌*◌, ◌-◌, ◌≤◌, ◌<◌, ◌≡◌, refl, Bool, true, false, ◌↔◌, List, [], ◌∷◌, ◌++◌, length, get_or, take, drop, set, replicate}
 use Rattle.std.proofs.Common.{arith, sym, ap, ◌∙◌, subst, ⊎_elim, add-one, length-append, length-drop, length-set, get_or-take, get_or-drop, ext_get_or, length-take-le, take_at, drop_at, drop-cons, take-suc}
 use Rattle.std.proofs.Math.Logic.Iff
 use Rattle.std.proofs.lemmas.List.{set_at}
@@ -34,27 +34,9 @@ use Rattle.planning.specs.Given.{small_narrow}
 use Rattle.closing.specs.Passes.Laid.{LaysEach, NarrowBelow, lays_each}
 use Rattle.stepping.specs.SharedStates.Low.{checkable}
 use Rattle.stepping.specs.SharedStates.WordsChecked.{Checkable}
-use Rattle.moving.specs.WordsMovedClosed.{
-  MovedClosed,
-  moved_length,
-  moved_others,
-  moved_keeps,
-  moved_within,
-  moved_each_closed,
-  moved_clean,
-}
+use Rattle.moving.specs.WordsMovedClosed.{MovedClosed, moved_length, moved_others, moved_keeps, moved_within, moved_each_closed, moved_clean}
 use Rattle.sweeping.specs.Twice.{RunOf, Closable, SweptTwice, ClosedTwice, swept_alone, front_holds, front_clean}
-use Rattle.sweeping.specs.Simulated.{
-  laid_whole,
-  StartMarked,
-  start_holds,
-  start_clean,
-  start_nearly,
-  start_closed,
-  closed_start,
-  closed_step,
-  accepting_bit,
-}
+use Rattle.sweeping.specs.Simulated.{laid_whole, closed_step, accepting_bit}
 use Rattle.stepping.specs.Texts.{all_words, holding_first, holding_next, accepting_answer}
 use Rattle.sweeping.specs.Visiting.{accepting_holds}
 
@@ -83,7 +65,7 @@ same_clean : (x : Nested Leaf) (n : ℕ) (v w : List ℕ) → n ≡ 1 + run x �
 same_clean x n v w e same clean = (front_clean x n v e).0 (subst (Clean x) (sym same) ((front_clean x n w e).1 clean))
 
 -- lists that agree from n on
-ext_drop : (n : ℕ) (v w : List ℕ) → length v ≡ length w → ((k : ℕ) → n ≤ k → get_or v k 0 ≡ get_or w k 0)
+pub ext_drop : (n : ℕ) (v w : List ℕ) → length v ≡ length w → ((k : ℕ) → n ≤ k → get_or v k 0 ≡ get_or w k 0)
     → drop n v ≡ drop n w
 ext_drop n v w long same =
     ext_get_or 0 (drop n v) (drop n w) (simp length-drop (omega arith))
@@ -99,18 +81,6 @@ narrow t = small_narrow (cut_up t) (stated t).every_small.0
 -- 128 words of zero, then the root's start marked
 abbrev pub start_words : List ℕ
 start_words = set (replicate most_pieces 0) 0 1
-
-zeros : (n o : ℕ) → ◌≡◌ {A = ℕ} (get_or (replicate n 0) o 0) 0
-zeros zero o = refl
-zeros (suc n) zero = refl
-zeros (suc n) (suc o) = zeros n o
-
-begins_zero : (o : ℕ) → 0 < o → get_or start_words o 0 ≡ 0
-begins_zero zero l = absurd (omega arith)
-begins_zero (suc o) l = zeros 127 o
-
-pub begins_marked : (x : Nested Leaf) → StartMarked x start_words
-begins_marked x = record { first = refl; others = λ o inside. zeros 127 o }
 
 -- the start is among the marks to start with, so that their words are not all 0
 pub some_started : (classes : List ℕ) (t : Tree Leaf) (after : List ℕ)
@@ -247,34 +217,6 @@ module _ {t : Tree Leaf} {rows : List ℕ} {count : ℕ}
       → ((x : Nested Leaf) → Planned rows x → 1 + run x ≡ count → Tells (Clean x words × Agreeing x words) answer)
       → Tells (Clean (cut_up t) words × Agreeing (cut_up t) words) answer
   prepared_told words tells = tells (cut_up t) prepared.planned (sym prepared_count)
-
-  -- from 128 words of zero, with the root's start alone marked, closed twice
-  pub begun : (classes words after : List ℕ) (yes' : Bool) → words ≡ replicate most_pieces 0
-      → ClosedTwice rows count (set words 0 1) after → length after ≡ length words
-      → (top : ℕ) → top ≡ top_of rows 0 → Tells (Bit (get_or after 0 0) top) yes' → Begun classes t words after yes'
-  begun classes words after yes' zero_words closed long top top-is told =
-      let x = cut_up t in
-      let starts = begins_marked x in
-      let twice = subst (λ (l : List ℕ). ClosedTwice rows count (set l 0 1) after) zero_words closed in
-      let swept = twice.swept x
-      (prepared_run (start_clean x start_words starts) (start_nearly x start_words starts)
-      (start_closed x start_words starts)) in
-      let models : Models x (Holds x after) (Started (meaning classes) t) =
-      subst (λ (s : Tree Leaf). Models x (Holds x after) (Started (meaning classes) s)) (stated t).same_tree
-      (closed_start x start_words after swept classes (start_holds x start_words starts)) in
-      let past : drop count start_words ≡ drop count (replicate most_pieces 0) = ext_drop count start_words _ refl
-      (λ k h. begins_zero k (omega (arith, prepared_count)) ∙ sym (zeros most_pieces k)) in
-      record {
-        hold = record {
-          marks = models;
-          clean = swept.clean;
-          others = subst (λ (n : ℕ). drop n after ≡ drop n words) prepared.counted
-              (twice.others ∙ past ∙ ap (drop count) (sym zero_words));
-          same_length = long;
-        };
-        answer = answer_told after (Started (meaning classes) t) yes' models top top-is told;
-        some = some_started classes t after models;
-      }
 
   -- and the first of them put into the lent words
   pub begun_copy : {classes words marks lent after : List ℕ} {yes' : Bool} → Begun classes t words marks yes'
@@ -444,19 +386,6 @@ moved_closable {count = count} {moved = moved} running went spans =
     (λ o l h out. let inside : o < count = omega (arith, length-take-le count moved enough) in
     get_or-take count moved o 0 inside
     ∙ ⊎_elim (λ g. spans.none_before o (omega arith)) (λ g. spans.none_after o (omega arith) inside) out)
-
--- words with the root's start alone marked can be closed
-pub start_closable : {rows : List ℕ} {count : ℕ} → Ready rows count
-    → Closable rows count 0 0 start_words
-start_closable {count = count} ready =
-    let x = cut_up ready.of_tree.0 in
-    let prepared = ready.of_tree.1 in
-    let enough : count ≤ most_pieces = omega (arith, prepared.counted, prepared.few) in
-    prepared_closable prepared ready.roomy enough
-    (prepared_run prepared (start_clean x start_words (begins_marked x)) (start_nearly x start_words (begins_marked x))
-    (start_closed x start_words (begins_marked x)))
-    (λ o l h out. get_or-take count start_words o 0 (omega (arith, length-take-le count start_words enough))
-    ∙ begins_zero o l)
 
 -- the first i of `count` words are put in the place of the old ones
 pub record Copying (from old : List ℕ) (count : ℕ) (new : List ℕ) (i : ℕ) : Type 0 where

@@ -3,7 +3,8 @@
 use mathlib.Core.Path.{ap, ◌∙◌}
 use native.Mathlib.Omega.{arith}
 use lib.ListN.{length, length-set}
-use Rattle.stepping.specs.Inner.{start_closable, first_row, top_low, begun}
+use Rattle.stepping.specs.Inner.{first_row, top_low}
+use Rattle.stepping.proofs.Starting.{start_closable, begun}
 use borrow.Author.Rules.{rules}
 use Rattle.stepping.proofs.inner.begin_in.Goals as goal
 

@@ -16,7 +16,7 @@ use Rattle.marks.specs.Promise.{
 }
 use Rattle.marks.specs.Chain.{Chain, further}
 use Rattle.marks.specs.NothingLeft.{numbered}
-use Rattle.marks.specs.Unique.{stays_unique, steps_unique, steps_taken}
+use Rattle.marks.proofs.Unique.{stays_unique, steps_unique, steps_taken}
 use Rattle.marks.specs.StepsEach.{
   stay_not_good,
   stay_too_few_classes,
@@ -27,7 +27,8 @@ use Rattle.marks.specs.StepsEach.{
   no_byte,
   one_more,
 }
-use Rattle.marks.specs.Along.{Steppable, hold_marks, last_same}
+use Rattle.marks.specs.Along.{Steppable}
+use Rattle.marks.proofs.AlongLaws.{hold_marks, last_same}
 
 -- a step that is refused changes nothing
 step_kept : {list classes words after : List ℕ} {n : MarksNumbers} {byte : ℕ} → Steps list classes byte words after n
