@@ -1,4 +1,5 @@
 -- `widen::write_wide` meets its contract. The loop's invariant: the first `j` bytes are those of the wide list, the
+-- rest is as it was. The measure is what is left of the wide list.
 use Prim.Native.Nat.{◌-◌, ◌≤◌}
 use mathlib.Core.Path.{◌≡◌}
 use mathlib.Core.List.{◌++◌}

@@ -1,4 +1,5 @@
 -- `writing::write_accepting` meets its contract: the bits of the first texts are written, at last the 0 before them.
+-- The measure is how many texts are left.
 use Prim.Native.Nat.{◌+◌, ◌*◌, ◌/◌, ◌%◌, ◌^◌, ◌-◌, ◌≤◌}
 use lib.ListN.{get_or}
 use Rattle.writing.specs.Filled.{Filled}

@@ -1,4 +1,5 @@
 -- `writing::write_begins` meets its contract: the begins of the first bytes are written. The measure is how many bytes
+-- are left.
 use Prim.Native.Nat.{◌-◌, ◌≤◌}
 use lib.ListN.{get_or}
 use Rattle.machines.specs.Columns.{byte_count}

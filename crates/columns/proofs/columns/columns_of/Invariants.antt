@@ -1,4 +1,5 @@
 -- `columns::columns::columns_of` meets its contract. The loop's invariant: each byte has the least that the leaves
+-- before this entry take alike, and only their numbers are noted. The measure is how many entries are left.
 use Prim.Native.Nat.{◌-◌, ◌*◌, ◌≤◌}
 use Rattle.tree.specs.Limits.{most_states}
 use Rattle.columns.specs.Parting.{PartedSoFar}

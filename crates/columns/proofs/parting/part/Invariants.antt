@@ -1,4 +1,5 @@
 -- `columns::parting::part` meets its contract. The loop's invariant: the bytes before this one have come to their
+-- places, and each has the first of its place. The measure is how many are left.
 use Prim.Native.Nat.{◌-◌}
 use Rattle.machines.specs.Columns.{byte_count}
 use Rattle.columns.specs.Parting.{Parting}

@@ -1,4 +1,5 @@
 -- `deciding::good::compare` meets its contract. The loop's invariant: the first `i` records are those of the tree with
+-- these labels. A record that differs is the reason for no. The measure is what is left of the labels.
 use Prim.Native.Nat.{◌≤◌, ◌-◌}
 use lib.ListN.{length}
 use Rattle.deciding.specs.LabelsTaken.{Agrees}

@@ -1,4 +1,5 @@
 -- `deciding::good::take_labels` meets its contract. The loop's invariant: the first `i` labels are those that the first
+-- `i` records ask for, and `classes` of these are class leaves'. The measure is what is left of the labels.
 use Prim.Native.Nat.{◌≤◌, ◌-◌}
 use mathlib.Core.Path.{◌≡◌}
 use lib.ListN.{length}

@@ -1,4 +1,5 @@
 -- `exploring::explore::explore_on` meets its contract: the room holds the states that were found and p entries. The
+-- measure is how many entries there is still room for.
 use Prim.Native.Nat.{◌-◌, ◌*◌}
 use mathlib.Core.Path.{◌≡◌}
 use lib.ListN.{length, take}

@@ -1,4 +1,5 @@
 -- `exploring::keys::note_keys` meets its contract: the masks of the leaves of the first k pieces are noted. The measure
+-- is how many are left.
 use Prim.Native.Nat.{◌-◌, ◌≤◌}
 use mathlib.Core.Path.{◌≡◌}
 use Rattle.tables.specs.Plan.{leaves_mask}

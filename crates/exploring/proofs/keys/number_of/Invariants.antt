@@ -1,4 +1,5 @@
 -- `exploring::keys::number_of` meets its contract: the number is that of the first k words. The measure is how many are
+-- left.
 use Prim.Native.Nat.{◌-◌, ◌≤◌}
 use mathlib.Core.Path.{◌≡◌}
 use Rattle.exploring.specs.Keys.{number_under}

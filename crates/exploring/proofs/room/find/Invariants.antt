@@ -1,4 +1,5 @@
 -- `exploring::room::find` meets its contract: none of the first i states has the number and agrees. The measure is how
+-- many states are left.
 use Prim.Native.Nat.{◌-◌, ◌≤◌}
 use mathlib.Core.Path.{◌≡◌}
 use Rattle.exploring.specs.Keys.{number_under}

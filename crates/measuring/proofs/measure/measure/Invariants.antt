@@ -1,4 +1,6 @@
 -- `measuring::measure::measure` meets its contract. The loop's invariant: the records below `i` are measured. A turn
+-- reads the children's slots, which the invariant speaks of, and the laws of the specs gather the record's own numbers
+-- from theirs; that a tree has these labels bounds them all. The measure is what is left of the labels.
 use Prim.Native.Nat.{◌≤◌, ◌-◌}
 use mathlib.Core.Path.{◌≡◌}
 use lib.ListN.{length}

@@ -1,4 +1,5 @@
 -- `ordering::order::one_tree` meets its contract. The loop's invariant: the machine that reads a tree from its labels
+-- has read the first `i`, and its stack is `depth` deep. The measure is what is left of the labels.
 use Prim.Native.Nat.{◌≤◌, ◌-◌}
 use lib.ListN.{length}
 use Rattle.ordering.specs.Depth.{TreesWaiting}
