@@ -1,12 +1,12 @@
 -- What follows of a table that was made: it runs as the language, two results that fit the promise are equal; and how
 -- it comes from what was found and written.
-use Rattle.std.specs.Prelude.{ℕ, ◌+◌, ◌*◌, ◌-◌, ◌/◌, ◌%◌, ◌^◌, ◌≤◌, ◌<◌, ◌≡◌, refl, true, ◌⊎◌, ◌↔◌, List, [], length, get_or, drop, replicate}
+use Rattle.std.specs.Prelude.{ℕ, ◌+◌, ◌*◌, ◌/◌, ◌%◌, ◌^◌, ◌≤◌, ◌<◌, ◌≡◌, refl, true, ◌⊎◌, ◌↔◌, List, [], length, get_or, drop, replicate}
 use Rattle.std.proofs.Common.{arith, mul-le-mul_right, mul-le-mul_left, sym, ap, ap₂, ◌∙◌, inl, inr, get_or-take, get_or-drop}
 use Rattle.std.proofs.Math.Decide.{dec_lt}
 use Rattle.language.specs.Tree.{Tree}
 use Rattle.tree.specs.Leaf.{Leaf, Matches}
 use Rattle.tree.specs.Records.{piece_count}
-use Rattle.tables.specs.Words.{Bit, width}
+use Rattle.tables.specs.Words.{Bit}
 use Rattle.tables.specs.Plan.{top_of}
 use Rattle.tables.specs.Tables.{Prepared}
 use Rattle.stepping.specs.Texts.{all_words, accepting_answer}

@@ -1,0 +1,9 @@
+-- `preparing::prepare_by` meets its contract: a list that is decided to be good has room in the rows, and they are
+-- made.
+use Rattle.preparing.specs.Made.{told_good}
+use Rattle.preparing.proofs.prepare_by.Goals as goal
+
+pub prepare-requires-clause-decided_good : goal.prepare-requires-clause-decided_good
+prepare-requires-clause-decided_good c =
+    told_good c.in-Good.is (c.decide_with-decided.ensures.judged, c.decide_with-decided.ensures.counts_below)
+    c.requires.room_to_decide c.decide_with-decided.auto.cuts
