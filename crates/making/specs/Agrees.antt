@@ -34,6 +34,7 @@ module _ {list classes table after room cleared : List ℕ} {states entries : �
       let one = good_unique list told.t of.t told.good of.good in
       same_test (runs after text) matched
       (Iff.trans runs_as_language (Iff.symm (rw one at told.holds)))
+  same_as_match (Rattle.finder.specs.Promise.match_refused x3) = elim x3 [ ]
 
   -- the numbers of the match by table say so
   pub answered_as_match : {matched : Bool} → MatchAnswers list classes text (answering_match matched)
