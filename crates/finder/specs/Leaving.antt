@@ -6,7 +6,7 @@ use Rattle.std.proofs.lemmas.Bool.{false≢true}
 use Rattle.std.proofs.Math.Logic.Iff
 use Rattle.language.specs.Tree.{Tree}
 use Rattle.language.specs.Automaton.{State, States, accepting, Started, Stepped, After}
-use Rattle.language.specs.Nested.{Nested, whole, origin}
+use Rattle.language.specs.Nested.{Nested, origin}
 use Rattle.language.proofs.Acceptance.{accepts_exactly}
 use Rattle.language.proofs.AlongText.{after_step, reached_state}
 use Rattle.language.specs.Models.{StateOf, models_origins}

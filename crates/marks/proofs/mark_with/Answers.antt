@@ -7,7 +7,8 @@ use Rattle.deciding.specs.Judged.{Judged}
 use Rattle.stepping.specs.Inner.{prepared_checkable, prepared_told}
 use Rattle.preparing.specs.Made.{told_tree, told_prepared, told_ready}
 use Rattle.marks.specs.Promise.{TooFew, started}
-use Rattle.marks.specs.Along.{Steppable, each_not_good, each_too_few_classes, each_too_few, each_not_marks}
+use Rattle.marks.specs.Along.{Steppable}
+use Rattle.marks.proofs.AlongLaws.{each_not_good, each_too_few_classes, each_too_few, each_not_marks}
 use Rattle.marks.proofs.Told.{told_classed, told_too_few_classes}
 use Rattle.marks.proofs.mark_with.Goals as goal
 

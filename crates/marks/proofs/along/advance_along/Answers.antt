@@ -3,7 +3,7 @@
 use mathlib.Core.Path.{refl}
 use native.Mathlib.Omega.{arith}
 use borrow.Author.Rules.{rules}
-use Rattle.marks.specs.Along.{walkable_runs, walkable_next, went_none, went_further, went_rest, went_all}
+use Rattle.marks.proofs.AlongLaws.{walkable_runs, walkable_next, went_none, went_further, went_rest, went_all}
 use Rattle.marks.proofs.along.advance_along.Goals as goal
 
 pub told_of-told-requires : goal.told_of-told-requires

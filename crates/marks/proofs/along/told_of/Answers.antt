@@ -3,7 +3,7 @@
 use native.Mathlib.Omega.{arith}
 use Rattle.stepping.specs.Texts.{all_words}
 use Rattle.stepping.specs.Inner.{first_row, top_low}
-use Rattle.marks.specs.Along.{told_by}
+use Rattle.marks.proofs.AlongLaws.{told_by}
 use Rattle.marks.proofs.along.told_of.Goals as goal
 
 pub bounds-words-0 : goal.bounds-words-0

@@ -1,2 +1,0 @@
--- What the answer of a search tells, by its cases.
-mod Told
