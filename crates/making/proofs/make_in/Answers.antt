@@ -10,7 +10,6 @@ use Rattle.marks.specs.Promise.{Classed}
 use Rattle.marks.proofs.Told.{told_classed, told_too_few_classes}
 use Rattle.making.specs.Promise.{refused, table_made, does_not_fit, not_good, too_few_classes}
 use Rattle.making.proofs.Told.{told_made, told_unfit}
-use borrow.Author.Rules.{rules}
 use Rattle.making.proofs.make_in.Goals as goal
 use Rattle.making.proofs.make_in.Goals.{Else-classes-leaves}
 
