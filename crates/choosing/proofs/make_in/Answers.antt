@@ -1,6 +1,5 @@
 -- `choosing::make_in` meets its contract: what was made is the table of the language.
 use mathlib.Core.Bool.{false≢true}
-use borrow.Author.Rules.{rules}
 use Rattle.choosing.proofs.Told.{told_made}
 use Rattle.choosing.proofs.make_in.Goals as goal
 

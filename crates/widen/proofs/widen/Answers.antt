@@ -1,7 +1,6 @@
 -- `widen::widen` meets its contract: each refusal has its reason, and nothing is written before the last of them.
-use mathlib.Core.Path.{refl, ◌∙◌}
+use mathlib.Core.Path.{refl}
 use native.Mathlib.Omega.{arith}
-use borrow.Author.Rules.{rules}
 use Rattle.tree.specs.Pieces.{good_small}
 use Rattle.widen.specs.OldLayout.{widened}
 use Rattle.widen.specs.OldLayoutLaws.{old_nodes}

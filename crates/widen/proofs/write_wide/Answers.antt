@@ -1,12 +1,9 @@
 -- `widen::write_wide` meets its contract. The loop's invariant: the first `j` bytes are those of the wide list, the
 -- rest is as it was. The measure is what is left of the wide list.
-use Prim.Native.Nat.{◌-◌, ◌≤◌}
-use mathlib.Core.Path.{◌≡◌, refl, ◌∙◌}
-use mathlib.Core.List.{◌++◌}
+use mathlib.Core.Path.{refl}
 use native.Mathlib.Omega.{arith}
-use lib.ListN.{length, drop, length-set}
 use borrow.Author.Rules.{rules}
-use Rattle.widen.specs.OldLayout.{wide_bytes}
+use lib.ListN.{length-set}
 use Rattle.widen.specs.OldLayoutLaws.{one_more_byte, all_bytes}
 use Rattle.widen.proofs.write_wide.Goals as goal
 
@@ -18,8 +15,8 @@ pub loop-j-preserved : goal.loop-j-preserved
 loop-j-preserved c = (
   omega arith,
   simp length-set c.loop-j.invariant.1,
-  one_more_byte c.args.old.now c.args.out.now c.loop-j.out c.loop-j.j c.wide_byte.result
-      (omega arith) c.wide_byte.ensures c.loop-j.invariant.2,
+  one_more_byte c.args.old.now c.args.out.now c.loop-j.out c.loop-j.j _ (omega arith) (search rules)
+      c.loop-j.invariant.2,
 )
 
 pub returns : goal.returns

@@ -1,12 +1,10 @@
 -- `widen::write_wide` meets its contract. The loop's invariant: the first `j` bytes are those of the wide list, the
+-- rest is as it was. The measure is what is left of the wide list.
 use Prim.Native.Nat.{◌-◌, ◌≤◌}
-use mathlib.Core.Path.{◌≡◌, refl, ◌∙◌}
+use mathlib.Core.Path.{◌≡◌}
 use mathlib.Core.List.{◌++◌}
-use native.Mathlib.Omega.{arith}
-use lib.ListN.{length, drop, length-set}
-use borrow.Author.Rules.{rules}
+use lib.ListN.{length, drop}
 use Rattle.widen.specs.OldLayout.{wide_bytes}
-use Rattle.widen.specs.OldLayoutLaws.{one_more_byte, all_bytes}
 use Rattle.widen.proofs.write_wide.Given as goal
 
 abbrev pub invariant-loop-j : goal.invariant-loop-j

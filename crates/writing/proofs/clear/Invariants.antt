@@ -1,11 +1,7 @@
 -- `writing::clear` meets its contract: the first i words are 0. The measure is how many words are left.
 use Prim.Native.Nat.{◌-◌, ◌≤◌}
-use mathlib.Core.Path.{refl}
-use native.Mathlib.Omega.{arith}
-use borrow.Author.Rules.{rules}
 use lib.ListN.{length}
 use Rattle.writing.specs.Filled.{Filled}
-use Rattle.writing.specs.FilledLaws.{filled_none, filled_next, all_cleared}
 use Rattle.writing.proofs.clear.Given as goal
 
 abbrev pub invariant-loop-i : goal.invariant-loop-i

@@ -1,11 +1,9 @@
 -- `writing::write_accepting` meets its contract: the bits of the first texts are written, at last the 0 before them.
 -- The measure is how many texts are left.
-use Prim.Native.Nat.{◌+◌, ◌*◌, ◌/◌, ◌%◌, ◌^◌, ◌-◌, ◌≤◌, ◌<◌}
-use mathlib.Core.Path.{◌≡◌, refl, ◌∙◌}
+use Prim.Native.Nat.{◌+◌, ◌*◌, ◌<◌}
+use mathlib.Core.Path.{◌≡◌, refl}
 use native.Mathlib.Omega.{arith}
-use borrow.Author.Rules.{rules}
-use lib.ListN.{length, get_or, length-set}
-use Rattle.writing.specs.Filled.{Filled}
+use lib.ListN.{length}
 use Rattle.writing.specs.FilledLaws.{filled_none, filled_next, filled_first}
 use Rattle.writing.proofs.write_accepting.Goals as goal
 use Rattle.writing.proofs.write_accepting.Goals.{In-loop-i}

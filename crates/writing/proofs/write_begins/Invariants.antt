@@ -1,14 +1,10 @@
 -- `writing::write_begins` meets its contract: the begins of the first bytes are written. The measure is how many bytes
-use Prim.Native.Nat.{◌-◌, ◌≤◌, ◌<◌}
-use mathlib.Core.Path.{◌≡◌}
-use native.Mathlib.Omega.{arith}
-use borrow.Author.Rules.{rules}
+-- are left.
+use Prim.Native.Nat.{◌-◌, ◌≤◌}
 use lib.ListN.{get_or}
 use Rattle.machines.specs.Columns.{byte_count}
-use Rattle.machines.specs.TableOf.{most_entries}
 use Rattle.writing.specs.Filled.{Filled}
 use Rattle.writing.specs.Written.{begin_of}
-use Rattle.writing.specs.FilledLaws.{filled_none, filled_next}
 use Rattle.writing.proofs.write_begins.Given as goal
 
 abbrev pub invariant-loop-byte : goal.invariant-loop-byte

@@ -1,12 +1,8 @@
 -- `writing::write_column` meets its contract: the values of the first texts are written, at last the 0 before them. The
-use Prim.Native.Nat.{◌+◌, ◌*◌, ◌-◌, ◌≤◌, ◌<◌}
-use mathlib.Core.Path.{◌≡◌, refl, ◌∙◌}
-use native.Mathlib.Omega.{arith}
-use borrow.Author.Rules.{rules}
-use lib.ListN.{length, get_or, length-set}
-use Rattle.machines.specs.TableOf.{most_entries}
+-- measure is how many texts are left.
+use Prim.Native.Nat.{◌+◌, ◌*◌, ◌-◌, ◌≤◌}
+use lib.ListN.{get_or}
 use Rattle.writing.specs.Filled.{Filled}
-use Rattle.writing.specs.FilledLaws.{filled_none, filled_next, filled_first}
 use Rattle.writing.proofs.write_column.Given as goal
 
 abbrev pub invariant-loop-i : goal.invariant-loop-i

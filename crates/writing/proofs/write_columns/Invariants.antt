@@ -1,13 +1,8 @@
 -- `writing::write_columns` meets its contract: the first columns are written. The measure is how many are left.
-use Prim.Native.Nat.{ℕ, ◌+◌, ◌*◌, ◌-◌, ◌≤◌, ◌<◌}
-use mathlib.Core.Path.{◌≡◌}
-use native.Mathlib.Omega.{arith}
-use lib.ListN.{length, get_or}
-use Rattle.machines.specs.TableOf.{heading, most_entries}
+use Prim.Native.Nat.{◌+◌, ◌*◌, ◌-◌, ◌≤◌}
+use lib.ListN.{get_or}
+use Rattle.machines.specs.TableOf.{heading}
 use Rattle.writing.specs.Filled.{RowsFilled, after_zero}
-use Rattle.writing.specs.Written.{begin_of}
-use Rattle.writing.specs.FilledLaws.{rows_none, rows_next}
-use Rattle.writing.specs.WrittenLaws.{before_last, value_there}
 use Rattle.writing.proofs.write_columns.Given as goal
 
 abbrev pub invariant-loop-column : goal.invariant-loop-column

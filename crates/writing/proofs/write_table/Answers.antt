@@ -1,7 +1,6 @@
 -- `writing::write_table` meets its contract: the four parts, one after the other, make the table.
 use mathlib.Core.Path.{refl}
 use native.Mathlib.Omega.{arith}
-use borrow.Author.Rules.{rules}
 use Prim.Native.Nat.{◌+◌}
 use lib.ListN.{set}
 use Rattle.running.specs.Runs.{accepting_column}

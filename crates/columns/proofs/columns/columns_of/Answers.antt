@@ -1,10 +1,7 @@
 -- `columns::columns::columns_of` meets its contract. The loop's invariant: each byte has the least that the leaves
 -- before this entry take alike, and only their numbers are noted. The measure is how many entries are left.
-use Prim.Native.Nat.{◌-◌, ◌*◌, ◌≤◌}
 use native.Mathlib.Omega.{arith}
-use borrow.Author.Rules.{rules}
-use Rattle.tree.specs.Limits.{most_states}
-use Rattle.columns.specs.Parting.{known_count, PartedSoFar}
+use Rattle.columns.specs.Parting.{known_count}
 use Rattle.columns.specs.PartingLaws.{looking_none, looking_as, looking_past, looking_next, looking_all}
 use Rattle.columns.specs.ColumnNumberingLaws.{least_grouped, some_group, columned}
 use Rattle.columns.proofs.columns.columns_of.Goals as goal

@@ -1,10 +1,6 @@
 -- `columns::columns::number_groups` meets its contract. The loop's invariant: the groups of the bytes before this one
 -- are numbered. The measure is how many bytes are left.
-use Prim.Native.Nat.{◌-◌}
 use native.Mathlib.Omega.{arith}
-use borrow.Author.Rules.{rules}
-use Rattle.machines.specs.Columns.{byte_count}
-use Rattle.columns.specs.ColumnNumbering.{ColumnsNumbered}
 use Rattle.columns.specs.ColumnNumberingLaws.{
   numbered_none,
   numbered_new,

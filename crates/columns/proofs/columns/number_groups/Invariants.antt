@@ -1,17 +1,8 @@
 -- `columns::columns::number_groups` meets its contract. The loop's invariant: the groups of the bytes before this one
+-- are numbered. The measure is how many bytes are left.
 use Prim.Native.Nat.{◌-◌}
-use mathlib.Core.Logic.{⊎_elim}
-use native.Mathlib.Omega.{arith}
-use borrow.Author.Rules.{rules}
 use Rattle.machines.specs.Columns.{byte_count}
 use Rattle.columns.specs.ColumnNumbering.{ColumnsNumbered}
-use Rattle.columns.specs.ColumnNumberingLaws.{
-  numbered_none,
-  numbered_new,
-  numbered_same,
-  numbered_as,
-  numbered_all,
-}
 use Rattle.columns.proofs.columns.number_groups.Given as goal
 
 abbrev pub invariant-loop-byte : goal.invariant-loop-byte

@@ -1,12 +1,9 @@
 -- `columns::parting::part` meets its contract. The loop's invariant: the bytes before this one have come to their
 -- places, and each has the first of its place. The measure is how many are left.
-use Prim.Native.Nat.{◌-◌}
 use mathlib.Core.Path.{refl}
 use native.Mathlib.Omega.{arith}
-use borrow.Author.Rules.{rules}
 use lib.ListN.{get_or-replicate}
-use Rattle.machines.specs.Columns.{byte_count}
-use Rattle.columns.specs.Parting.{place_count, none, Parting}
+use Rattle.columns.specs.Parting.{place_count, none}
 use Rattle.columns.specs.PartingLaws.{parting_none, parting_next, parting_all, place_by, held_byte}
 use Rattle.columns.proofs.parting.part.Goals as goal
 

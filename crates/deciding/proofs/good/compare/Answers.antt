@@ -1,6 +1,6 @@
 -- `deciding::good::compare` meets its contract. The loop's invariant: the first `i` records are those of the tree with
 -- these labels. A record that differs is the reason for no. The measure is what is left of the labels.
-use Prim.Native.Nat.{◌+◌, ◌≤◌, ◌-◌}
+use Prim.Native.Nat.{◌+◌}
 use mathlib.Core.Path.{◌≡◌, refl}
 use native.Mathlib.Omega.{arith}
 use borrow.Author.Tests.{not-true, not-false}
@@ -10,7 +10,6 @@ use Rattle.tree.specs.Leaf.{Leaf}
 use Rattle.tree.specs.Records.{labels}
 use Rattle.cutting.specs.Seats.{seats, seat_at}
 use Rattle.cutting.specs.MeasuredLaws.{Slots, right_size_le, holds_less, slots, in_tree}
-use Rattle.deciding.specs.LabelsTaken.{Agrees}
 use Rattle.deciding.specs.DecideLaws.{agrees_none, agrees_more, compared_no, compared_all}
 use Rattle.deciding.proofs.good.compare.Goals as goal
 use Rattle.deciding.proofs.good.compare.Goals.{After-is_record}

@@ -12,7 +12,6 @@ use Rattle.deciding.specs.DecideLaws.{
   counts_below,
   counts_nothing,
 }
-use borrow.Author.Rules.{rules}
 use Rattle.deciding.proofs.good.decide_by.Goals as goal
 
 pub returns-then-not-one_tree : goal.returns-then-not-one_tree

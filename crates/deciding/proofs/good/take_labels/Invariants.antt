@@ -1,11 +1,10 @@
 -- `deciding::good::take_labels` meets its contract. The loop's invariant: the first `i` labels are those that the first
+-- `i` records ask for, and `classes` of these are class leaves'. The measure is what is left of the labels.
 use Prim.Native.Nat.{◌≤◌, ◌-◌}
-use mathlib.Core.Path.{◌≡◌, refl, ◌∙◌}
-use native.Mathlib.Omega.{arith}
-use lib.ListN.{length, length-set}
+use mathlib.Core.Path.{◌≡◌}
+use lib.ListN.{length}
 use Rattle.tree.specs.Layout.{class_records}
 use Rattle.deciding.specs.LabelsTaken.{Taken}
-use Rattle.deciding.specs.DecideLaws.{taken_none, taken_more, label_by, classes_more}
 use Rattle.deciding.proofs.good.take_labels.Given as goal
 
 abbrev pub invariant-loop-i : goal.invariant-loop-i

@@ -1,15 +1,10 @@
 -- `exploring::explore::explore_on` meets its contract: the room holds the states that were found and p entries. The
 -- measure is how many entries there is still room for.
-use Prim.Native.Nat.{◌-◌, ◌*◌, ◌^◌, ◌<◌}
-use mathlib.Core.Path.{◌≡◌, ◌∙◌}
+use Prim.Native.Nat.{◌*◌, ◌^◌, ◌<◌}
+use mathlib.Core.Path.{◌∙◌}
 use native.Mathlib.Nat.{mod-lt}
 use native.Mathlib.Omega.{arith}
 use borrow.Author.Rules.{rules}
-use lib.ListN.{length, take}
-use Rattle.language.specs.Tree.{Tree}
-use Rattle.tree.specs.Leaf.{Leaf}
-use Rattle.tables.specs.Tables.{Prepared}
-use Rattle.exploring.specs.FindingStates.{Progress, Exploring}
 use Rattle.exploring.specs.Steps.{
   states_fit,
   entries_fit,

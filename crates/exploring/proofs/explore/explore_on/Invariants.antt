@@ -1,27 +1,12 @@
 -- `exploring::explore::explore_on` meets its contract: the room holds the states that were found and p entries. The
-use Prim.Native.Nat.{◌-◌, ◌*◌, ◌^◌, ◌<◌}
-use mathlib.Core.Path.{◌≡◌, ◌∙◌}
-use native.Mathlib.Nat.{mod-lt}
-use native.Mathlib.Omega.{arith}
-use borrow.Author.Rules.{rules}
+-- measure is how many entries there is still room for.
+use Prim.Native.Nat.{◌-◌, ◌*◌}
+use mathlib.Core.Path.{◌≡◌}
 use lib.ListN.{length, take}
 use Rattle.language.specs.Tree.{Tree}
 use Rattle.tree.specs.Leaf.{Leaf}
 use Rattle.tables.specs.Tables.{Prepared}
 use Rattle.exploring.specs.FindingStates.{Progress, Exploring}
-use Rattle.exploring.specs.Steps.{
-  states_fit,
-  entries_fit,
-  words_fit,
-  entry_fits,
-  entry_inside,
-  state_there,
-  state_held,
-  exploring_next,
-  progress_next,
-  too_many,
-  found_all,
-}
 use Rattle.exploring.proofs.explore.explore_on.Given as goal
 
 abbrev pub invariant-loop-p : goal.invariant-loop-p

@@ -1,13 +1,12 @@
 -- `exploring::keys::note_keys` meets its contract: the masks of the leaves of the first k pieces are noted. The measure
 -- is how many are left.
-use Prim.Native.Nat.{ℕ, ◌-◌, ◌^◌, ◌≤◌}
-use mathlib.Core.Path.{◌≡◌, refl, ap, ◌∙◌}
+use Prim.Native.Nat.{ℕ, ◌^◌}
+use mathlib.Core.Path.{refl, ap, ◌∙◌}
 use native.Mathlib.Omega.{arith}
 use borrow.Author.Rules.{rules}
 use lib.ListN.{get_or}
 use lib.Bits.{bit_or}
-use Rattle.tables.specs.Plan.{leaves_mask}
-use Rattle.closing.specs.BitsOfWords.MadeAnew.{MadeAnew, anew_none, anew_set_at}
+use Rattle.closing.specs.BitsOfWords.MadeAnew.{anew_none, anew_set_at}
 use Rattle.exploring.specs.KeysLaws.{keys_noted}
 use Rattle.exploring.proofs.keys.note_keys.Goals as goal
 

@@ -1,7 +1,6 @@
 -- `exploring::keys::number_of` meets its contract: the number is that of the first k words. The measure is how many are
 -- left.
-use Prim.Native.Nat.{◌-◌, ◌≤◌}
-use mathlib.Core.Path.{◌≡◌, sym, ap, ◌∙◌}
+use mathlib.Core.Path.{sym, ap, ◌∙◌}
 use native.Mathlib.Omega.{arith}
 use borrow.Author.Rules.{rules}
 use Rattle.exploring.specs.Keys.{number_under}

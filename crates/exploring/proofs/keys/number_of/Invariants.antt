@@ -1,10 +1,8 @@
 -- `exploring::keys::number_of` meets its contract: the number is that of the first k words. The measure is how many are
+-- left.
 use Prim.Native.Nat.{◌-◌, ◌≤◌}
-use mathlib.Core.Path.{◌≡◌, sym, ap, ◌∙◌}
-use native.Mathlib.Omega.{arith}
-use borrow.Author.Rules.{rules}
+use mathlib.Core.Path.{◌≡◌}
 use Rattle.exploring.specs.Keys.{number_under}
-use Rattle.exploring.specs.KeysLaws.{number_none, number_next}
 use Rattle.exploring.proofs.keys.number_of.Given as goal
 
 abbrev pub invariant-loop-k : goal.invariant-loop-k

@@ -1,9 +1,7 @@
 -- `exploring::keys::same_under` meets its contract: the first k words agree. The measure is how many are left.
-use Prim.Native.Nat.{◌-◌, ◌≤◌}
 use native.Mathlib.Omega.{arith}
 use borrow.Author.Rules.{rules}
 use Rattle.closing.specs.BitsOfWords.Bits.{told_yes, told_no}
-use Rattle.exploring.specs.Keys.{SameUnder}
 use Rattle.exploring.specs.KeysLaws.{same_none, same_next}
 use Rattle.exploring.proofs.keys.same_under.Goals as goal
 

@@ -1,14 +1,13 @@
 -- `exploring::room::find` meets its contract: none of the first i states has the number and agrees. The measure is how
 -- many states are left.
 use Prim.Native.Nat.{ℕ, ◌+◌, ◌-◌, ◌*◌, ◌≤◌}
-use mathlib.Core.Path.{◌≡◌}
 use mathlib.Core.Logic.{◌↔◌}
 use mathlib.Core.List.{List}
 use native.Mathlib.Omega.{arith}
 use borrow.Author.Rules.{rules}
 use lib.ListN.{take, drop}
-use Rattle.exploring.specs.Keys.{number_under, SameUnder}
-use Rattle.exploring.specs.Room.{marks_of, Passed}
+use Rattle.exploring.specs.Keys.{SameUnder}
+use Rattle.exploring.specs.Room.{marks_of}
 use Rattle.exploring.specs.RoomLaws.{same_part, marks_inside, passed_none, passed_next, sought_here, sought_none}
 use Rattle.exploring.proofs.room.find.Goals as goal
 use Rattle.exploring.proofs.room.find.Goals.{At-loop-i, Then-room-i, then-room-i+else-same_under, else-room-i}

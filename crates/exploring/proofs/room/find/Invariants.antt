@@ -1,14 +1,9 @@
 -- `exploring::room::find` meets its contract: none of the first i states has the number and agrees. The measure is how
-use Prim.Native.Nat.{ℕ, ◌+◌, ◌-◌, ◌*◌, ◌≤◌}
+-- many states are left.
+use Prim.Native.Nat.{◌-◌, ◌≤◌}
 use mathlib.Core.Path.{◌≡◌}
-use mathlib.Core.Logic.{◌↔◌, ⊎_elim}
-use mathlib.Core.List.{List}
-use native.Mathlib.Omega.{arith}
-use borrow.Author.Rules.{rules}
-use lib.ListN.{take, drop}
-use Rattle.exploring.specs.Keys.{number_under, SameUnder}
-use Rattle.exploring.specs.Room.{marks_of, Passed}
-use Rattle.exploring.specs.RoomLaws.{same_part, marks_inside, passed_none, passed_next, sought_here, sought_none}
+use Rattle.exploring.specs.Keys.{number_under}
+use Rattle.exploring.specs.Room.{Passed}
 use Rattle.exploring.proofs.room.find.Given as goal
 
 abbrev pub invariant-loop-i : goal.invariant-loop-i

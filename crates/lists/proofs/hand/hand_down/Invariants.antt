@@ -1,4 +1,7 @@
 -- `lists::hand::hand_down` meets its contract. The loop's invariant: the records from `i` on have handed their numbers
+-- to their children.
+-- A turn hands on those of record `i - 1`, which its own slot holds; that a tree has these labels bounds them all. The
+-- measure is `i`.
 use Prim.Native.Nat.{◌≤◌, ◌<◌}
 use mathlib.Core.Path.{◌≡◌}
 use lib.ListN.{length}

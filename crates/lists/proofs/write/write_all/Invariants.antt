@@ -1,4 +1,6 @@
 -- `lists::write::write_all` meets its contract. The loop's invariant: the first `i` records are written, and nothing
+-- past them. A turn puts in record `i`, whose four numbers the label, the children's slots and the piece give. The
+-- measure is what is left of the labels.
 use Prim.Native.Nat.{◌≤◌, ◌-◌}
 use mathlib.Core.Path.{◌≡◌}
 use lib.ListN.{length}

@@ -1,14 +1,13 @@
 -- `measuring::measure::measure` meets its contract. The loop's invariant: the records below `i` are measured. A turn
 -- reads the children's slots, which the invariant speaks of, and the laws of the specs gather the record's own numbers
 -- from theirs; that a tree has these labels bounds them all. The measure is what is left of the labels.
-use Prim.Native.Nat.{◌+◌, ◌≤◌, ◌-◌}
+use Prim.Native.Nat.{◌+◌}
 use mathlib.Core.Path.{◌≡◌, refl, ◌∙◌}
 use native.Mathlib.Omega.{arith}
 use lib.ListN.{length, get_or, length-set}
 use Rattle.language.specs.Tree.{Tree}
 use Rattle.tree.specs.Leaf.{Leaf}
 use Rattle.tree.specs.Records.{labels}
-use Rattle.cutting.specs.Measured.{RoomToMeasure, Measured}
 use Rattle.cutting.specs.MeasuredLaws.{
   Gathered,
   gathered,
@@ -18,12 +17,6 @@ use Rattle.cutting.specs.MeasuredLaws.{
   measured_none,
   measured_more,
 }
-use Rattle.measuring.proofs.measure.measure.Reads as reads
-use Rattle.measuring.proofs.measure.measure.Lts as lts
-use Rattle.cutting.proofs.cut.cut_count.Reads as cut-count-reads
-use Rattle.cutting.proofs.cut.open_size.Reads as open-size-reads
-use Rattle.cutting.proofs.slots.left_slot.Reads as left-slot-reads
-use Rattle.cutting.proofs.slots.right_slot.Reads as right-slot-reads
 use Rattle.measuring.proofs.measure.measure.Goals as goal
 use Rattle.measuring.proofs.measure.measure.Goals.{After-left_slot-left}
 

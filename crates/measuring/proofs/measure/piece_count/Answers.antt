@@ -2,7 +2,6 @@
 -- than there are labels.
 use native.Mathlib.Omega.{arith}
 use Rattle.cutting.specs.MeasuredLaws.{counted_all, root_cuts_lt}
-use borrow.Author.Rules.{rules}
 use Rattle.measuring.proofs.measure.piece_count.Goals as goal
 
 pub overflow_add-result : goal.overflow_add-result

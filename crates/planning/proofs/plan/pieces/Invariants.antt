@@ -1,4 +1,5 @@
 -- `planning::plan::pieces` meets its contract. The invariant: the pieces up to k have been made. The measure is what is
+-- left of them.
 use Prim.Native.Nat.{◌≤◌, ◌-◌}
 use mathlib.Core.Path.{◌≡◌}
 use lib.ListN.{length}
