@@ -10,7 +10,7 @@ use Rattle.tree.specs.Leaf.{Leaf, Matches}
 use Rattle.tree.specs.Records.{Good, piece_count}
 use Rattle.marks.specs.declared.numbers.MarksNumbers.{MarksNumbers}
 use Rattle.marks.specs.Promise.{Classed}
-use Rattle.marks.specs.Chain.{Chain, begun, further, Follows}
+use Rattle.marks.specs.Chain.{Chain, begun, further}
 use Rattle.marks.specs.ChainFollows.{chain_follows}
 use Rattle.marks.specs.NothingLeft.{nothing_follows}
 use Rattle.one_number.specs.Packed.{x_in, number_in, flag_in, Unpacks}

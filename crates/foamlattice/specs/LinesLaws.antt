@@ -11,7 +11,7 @@ use Rattle.lines.specs.Promise.{LinesAnswers, lines_refused, lines_no_room, line
 use Rattle.lines.specs.Unique.{each_yes, lines_unique}
 use Rattle.table_lines.specs.Promise.{TableLinesAnswers, table_short, text_long, no_room, answered}
 use Rattle.table_lines.specs.Unique.{table_lines_unique}
-use Rattle.one_number.specs.Packed.{packed, Unpacks}
+use Rattle.one_number.specs.Packed.{Unpacks}
 use Rattle.foamlattice.specs.PackedBounds.{unpacks}
 use Rattle.foamlattice.specs.Promise.{lines_packed, AnsweringLines, AnsweringByTable}
 

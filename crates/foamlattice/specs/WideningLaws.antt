@@ -9,7 +9,7 @@ use Rattle.widen.specs.declared.Widened.TheVariants.{Written, NotGood, NoRoom}
 use Rattle.widen.specs.Promise.{Widens, widen_refusal}
 use Rattle.widen.specs.OldLayout.{widened}
 use Rattle.widen.specs.PromiseLaws.{widened_unique}
-use Rattle.one_number.specs.Packed.{packed, Unpacks}
+use Rattle.one_number.specs.Packed.{Unpacks}
 use Rattle.foamlattice.specs.PackedBounds.{unpacks}
 use Rattle.foamlattice.specs.Promise.{widen_count, widen_packed, Widening}
 

@@ -1,2 +1,0 @@
--- What the answers behind the outside interface tell.
-pub mod Told
