@@ -1,7 +1,8 @@
 # What the scripts around the programs share: arguments, the file that is read, the program, its exit status. The script sets
 # `name`, `here` (the folder that it stands in), `lines` (what is read, in words, for who types it) and a function `usage`,
-# and calls `main`; or `prepare`, and runs `program` itself. The programs end with status 0 themselves: with `main` it is 1
-# where the last line that the program says on standard error begins with `refused`, and 2 where it says anything else there.
+# and calls `main`; or `prepare`, and runs `program` itself. The programs end with status 0 themselves, or with 141 where
+# nobody reads their output any more: with `main` it is 1 where the last line that the program says on standard error begins
+# with `refused`, and 2 where it says anything else there.
 
 # Ends with status 2 and says why.
 fail() {
@@ -76,16 +77,13 @@ main() {
     prepare "$@"
     run_program
     if [ "$status" -gt 128 ]; then
-        # It was ended by a signal, as where nobody reads its output any more: so does this script.
+        # It was ended by a signal, or ends so because nobody reads its output any more: so does this script.
         kill -s $((status - 128)) $$
+        # Who called it lets that signal pass: then it is a write that failed.
+        [ "$status" -ne 141 ] || fail 'standard output: Broken pipe'
     fi
     case ${said##*$'\n'} in
     '') exit "$status" ;;
-    'standard output: Broken pipe')
-        # Nobody reads its output any more, and it was told so as a failed write: the script ends as by that signal.
-        kill -s PIPE $$
-        fail "$said"
-        ;;
     refused*)
         printf '%s\n' "$said" >&2
         exit 1
