@@ -1,6 +1,8 @@
 // The refusals, by the names of specs/RefusalNumbers.antt, and where one stands.
-ghost use Rattle.std.specs.Prelude.{◌≡◌};
+ghost use Rattle.std.specs.Prelude.{◌≡◌, ◌++◌, Some, codes, decimal};
 ghost use Rattle.tree.specs.Refusing.{refusal_number};
+
+use std::fmt;
 
 // What is refused: the rows of the table of refusals, each with its number.
 #[derive(Clone, Copy, Debug, PartialEq, Eq)]
@@ -52,9 +54,30 @@ impl Refusal {
     }
 }
 
+// A refusal is told by its number.
+impl fmt::Display for Refusal {
+    ghost output = { λ refusal. Some (decimal (refusal_number refusal)) };
+
+    fn fmt<W: fmt::Write>(&self, f: &mut fmt::Formatter<W>) -> fmt::Result {
+        let number = self.number();
+        write!(f, "{number}")
+    }
+}
+
 // A refusal of an expression: what is refused, and the place.
 #[derive(Clone, Copy, Debug, PartialEq, Eq)]
 pub struct Refused {
     pub refusal: Refusal,
     pub place: usize,
+}
+
+impl fmt::Display for Refused {
+    ghost output = { λ refused. Some (codes "refused " ++ decimal (refusal_number refused.refusal) ++ codes " at "
+        ++ decimal refused.place) };
+
+    fn fmt<W: fmt::Write>(&self, f: &mut fmt::Formatter<W>) -> fmt::Result {
+        let refusal = self.refusal;
+        let place = self.place;
+        write!(f, "refused {refusal} at {place}")
+    }
 }
