@@ -1,9 +1,9 @@
 -- The numbers that a match by table gives back: for each case of its answer, and for each table and text.
-use Rattle.std.specs.Prelude.{ℕ, Bool, true, false, cond, List, ltb, length}
+use Rattle.std.specs.Prelude.{ℕ, Bool, false, cond, List, ltb, length, Result, Ok, Err}
 use Rattle.tree.specs.RefusalNumbers.{table_too_short}
+use Rattle.tree.specs.Refusing.{refusal_number}
+use Rattle.tree.specs.declared.refusal.Refusal.{Refusal}
 use Rattle.running.specs.Runs.{runs}
-use Rattle.running.specs.declared.TableMatched.{TableMatched}
-use Rattle.running.specs.declared.TableMatched.TheVariants.{Yes, No, TooShort}
 use Rattle.running.specs.declared.numbers.TableNumbers.{TableNumbers}
 
 -- the entries that say where columns begin: one for each byte, and one for the column of accepting
@@ -19,10 +19,9 @@ abbrev pub answering_table : Bool → TableNumbers
 answering_table matched = record { refusal = 0; matched = matched }
 
 -- the numbers of each answer
-abbrev pub table_numbers : TableMatched → TableNumbers
-table_numbers Yes = answering_table true
-table_numbers No = answering_table false
-table_numbers TooShort = refusing_table table_too_short
+abbrev pub table_numbers : Result Bool Refusal → TableNumbers
+table_numbers (Ok matched) = answering_table matched
+table_numbers (Err refusal) = refusing_table (refusal_number refusal)
 
 -- the numbers for a table and a text: a table that is too short is refused, else it runs
 abbrev pub table_answered : (table text : List ℕ) → TableNumbers

@@ -8,30 +8,18 @@ ghost use Rattle.std.specs.Prelude.{◌≡◌};
 ghost use Rattle.running.specs.Answer.{table_numbers, table_answered};
 
 use run::runs;
+use tree::refusal::Refusal;
 
 // The entries that say where columns begin: one for each byte, and one for the column of accepting.
 pub const HEADING: usize = 257;
 
-// What a match by table answers.
-#[derive(Drop)]
-pub enum TableMatched {
-    // The table accepts the text.
-    Yes,
-    No,
-    // The table has fewer entries than those that say where columns begin.
-    TooShort,
-}
-
-// Whether the table accepts the whole text.
-pub fn match_table(table: &[u16], text: &[u8]) -> TableMatched
+// Whether the table accepts the whole text. A table with fewer entries than those that say where columns begin is
+// refused.
+pub fn match_table(table: &[u16], text: &[u8]) -> Result<bool, Refusal>
     ensures { table_numbers result ≡ table_answered table.now text.now }
 {
     if table.len() < HEADING {
-        return TableMatched::TooShort;
+        return Err(Refusal::TableTooShort);
     }
-    if runs(table, text) {
-        TableMatched::Yes
-    } else {
-        TableMatched::No
-    }
+    Ok(runs(table, text))
 }

@@ -2,31 +2,26 @@
 ghost use Rattle.std.specs.Prelude.{◌≡◌};
 ghost use Rattle.running.specs.Answer.{table_numbers};
 
-use crate::TableMatched;
-use tree::refusal_numbers::TABLE_TOO_SHORT;
+use tree::refusal::Refusal;
 
 // The refusal's number, 0 for none; whether the table accepts the text.
-#[derive(Drop)]
+#[derive(Clone, Copy, Debug, PartialEq, Eq)]
 pub struct TableNumbers {
     pub refusal: u8,
     pub matched: bool,
 }
 
 // The numbers of an answer.
-pub fn numbers_of(answer: TableMatched) -> TableNumbers
+pub fn numbers_of(answer: Result<bool, Refusal>) -> TableNumbers
     ensures { result ≡ table_numbers answer }
 {
     match answer {
-        TableMatched::Yes => TableNumbers {
+        Ok(matched) => TableNumbers {
             refusal: 0,
-            matched: true,
+            matched,
         },
-        TableMatched::No => TableNumbers {
-            refusal: 0,
-            matched: false,
-        },
-        TableMatched::TooShort => TableNumbers {
-            refusal: TABLE_TOO_SHORT,
+        Err(refusal) => TableNumbers {
+            refusal: refusal.number(),
             matched: false,
         },
     }

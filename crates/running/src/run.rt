@@ -13,10 +13,9 @@ const NOWHERE: usize = 0;
 fn entry_at(table: &[u16], place: usize) -> usize
     ensures { result ≡ get_or table.now place 0 }
 {
-    if place < table.len() {
-        table[place] as usize
-    } else {
-        0
+    match table.get(place) {
+        Some(entry) => usize::from(*entry),
+        None => 0,
     }
 }
 
@@ -37,13 +36,11 @@ pub fn runs(table: &[u16], text: &[u8]) -> bool
     ensures { result ≡ runs table.now text.now }
 {
     let mut state = START;
-    let mut i = 0;
-    while i < text.len() {
-        state = entry_of(table, text[i] as usize, state);
+    for &byte in text {
+        state = entry_of(table, usize::from(byte), state);
         if state == NOWHERE {
             return false;
         }
-        i += 1;
     }
     entry_of(table, ACCEPTING_COLUMN, state) == 1
 }
