@@ -1,5 +1,7 @@
 -- The bytes of an expression: which are special is told by the syntax, every other byte stands for itself.
 use Rattle.std.specs.Prelude.{ℕ, Bool, true, false, cond, eqb}
+use Rattle.operands.specs.declared.syntax.Syntax.{Syntax as Named}
+use Rattle.operands.specs.declared.syntax.Syntax.TheVariants.{First, Second}
 
 -- the syntax of each of the two readers: the second has the dot, classes, and the signs `+`, `?` and `{m,n}`
 pub data Syntax : Type 0 where
@@ -46,7 +48,7 @@ special brace = true
 special end_brace = true
 special plain = false
 
--- the syntax that the readers are told by a flag
-abbrev pub syntax_of : (second : Bool) → Syntax
-syntax_of false = first
-syntax_of true = second
+-- the syntax that the readers are told
+abbrev pub syntax_of : Named → Syntax
+syntax_of First = first
+syntax_of Second = second

@@ -1,6 +1,6 @@
 -- What the readers of an operand, of the signs after it, of a catenation and of a union promise: the tree read, in all
 -- surroundings, with the labels of what it stands for written while there is room; or the refusal.
-use Rattle.std.specs.Prelude.{ℕ, ◌<◌, ◌≤◌, ◌≡◌, Bool, List, [], ◌∷◌, length}
+use Rattle.std.specs.Prelude.{ℕ, ◌<◌, ◌≤◌, ◌≡◌, Bool, List, [], ◌∷◌, length, Result, Ok, Err}
 use Rattle.language.specs.SignedTree.{SignedTree}
 use Rattle.language.specs.PlacedTree.{PlacedTree}
 use Rattle.language.specs.PlacedStandsFor.{placed_stands_for}
@@ -13,8 +13,9 @@ use Rattle.operands.specs.LeavesPlaced.{signs_at, SignsPlaced}
 use Rattle.operands.specs.Grammar.{Level, starred}
 use Rattle.operands.specs.Stopping.{Stops}
 use Rattle.operands.specs.Surroundings.{Leads, Fails}
+use Rattle.tree.specs.Refusing.{refusal_number}
+use Rattle.tree.specs.declared.refusal.Refused.{Refused}
 use Rattle.operands.specs.declared.part.Part.{Part}
-use Rattle.operands.specs.declared.part.Part.TheVariants.{Read, Refused}
 
 -- where a reader begins: the scratch has room for the labels of the largest tree, and `count` of them are there, or one
 -- more than there is room for
@@ -54,11 +55,11 @@ pub record Whole (syntax : Syntax) (places : Bool) (level : Level) (bytes : List
 
 -- what a reader of this level answers
 abbrev pub PartAnswer : Syntax → (places : Bool) → Level → List ℕ → (at depth count : ℕ) → (earlier later : List ℕ)
-    → Part → Type 0
-PartAnswer syntax places level bytes at depth count earlier later (Read next total) =
-    Whole syntax places level bytes depth at count earlier next total later
-PartAnswer syntax places level bytes at depth count earlier later (Refused number place) =
-    Fails syntax level bytes depth at number place
+    → Result Part Refused → Type 0
+PartAnswer syntax places level bytes at depth count earlier later (Ok part) =
+    Whole syntax places level bytes depth at count earlier part.next part.count later
+PartAnswer syntax places level bytes at depth count earlier later (Err fault) =
+    Fails syntax level bytes depth at (refusal_number fault.refusal) fault.place
 
 -- one character was read, whatever is open
 pub record Character (syntax : Syntax) (places : Bool) (bytes : List ℕ) (at count : ℕ) (earlier : List ℕ)
@@ -71,11 +72,12 @@ pub record Faulty (syntax : Syntax) (bytes : List ℕ) (at number place : ℕ) :
   pub fails : (depth : ℕ) → Fails syntax starred bytes depth at number place
 
 -- what the reader of one character answers
-abbrev pub CharacterAnswer : Syntax → (places : Bool) → List ℕ → (at count : ℕ) → (earlier later : List ℕ) → Part
-    → Type 0
-CharacterAnswer syntax places bytes at count earlier later (Read next total) =
-    Character syntax places bytes at count earlier next total later
-CharacterAnswer syntax places bytes at count earlier later (Refused number place) = Faulty syntax bytes at number place
+abbrev pub CharacterAnswer : Syntax → (places : Bool) → List ℕ → (at count : ℕ) → (earlier later : List ℕ)
+    → Result Part Refused → Type 0
+CharacterAnswer syntax places bytes at count earlier later (Ok part) =
+    Character syntax places bytes at count earlier part.next part.count later
+CharacterAnswer syntax places bytes at count earlier later (Err fault) =
+    Faulty syntax bytes at (refusal_number fault.refusal) fault.place
 
 -- what was read up to `place`, with labels from `first` on, can be read on up to `next`
 pub record Carries (syntax : Syntax) (places : Bool) (level : Level) (bytes : List ℕ) (depth first place count : ℕ)
@@ -111,11 +113,11 @@ pub data OneSign (syntax : Syntax) (places : Bool) (bytes : List ℕ) (first pla
 
 -- what the reader of one sign answers
 abbrev pub OneSignAnswer : Syntax → (places : Bool) → List ℕ → (first place count : ℕ) → (earlier later : List ℕ)
-    → Part → Type 0
-OneSignAnswer syntax places bytes first place count earlier later (Read next total) =
-    OneSign syntax places bytes first place count earlier next total later
-OneSignAnswer syntax places bytes first place count earlier later (Refused number fault) =
-    Breaks syntax places bytes first place count earlier number fault
+    → Result Part Refused → Type 0
+OneSignAnswer syntax places bytes first place count earlier later (Ok part) =
+    OneSign syntax places bytes first place count earlier part.next part.count later
+OneSignAnswer syntax places bytes first place count earlier later (Err fault) =
+    Breaks syntax places bytes first place count earlier (refusal_number fault.refusal) fault.place
 
 -- what was read up to `place` is read on over all the signs there
 pub record SignsRead (syntax : Syntax) (places : Bool) (bytes : List ℕ) (first place count : ℕ) (earlier : List ℕ)
@@ -125,15 +127,14 @@ pub record SignsRead (syntax : Syntax) (places : Bool) (bytes : List ℕ) (first
   pub stops : Stops syntax starred bytes next
 
 -- what the reader of all the signs after an operand answers
-abbrev pub SignsAnswer : Syntax → (places : Bool) → List ℕ → (first place count : ℕ) → (earlier later : List ℕ) → Part
-    → Type 0
-SignsAnswer syntax places bytes first place count earlier later (Read next total) =
-    SignsRead syntax places bytes first place count earlier next total later
-SignsAnswer syntax places bytes first place count earlier later (Refused number fault) =
-    Breaks syntax places bytes first place count earlier number fault
+abbrev pub SignsAnswer : Syntax → (places : Bool) → List ℕ → (first place count : ℕ) → (earlier later : List ℕ)
+    → Result Part Refused → Type 0
+SignsAnswer syntax places bytes first place count earlier later (Ok part) =
+    SignsRead syntax places bytes first place count earlier part.next part.count later
+SignsAnswer syntax places bytes first place count earlier later (Err fault) =
+    Breaks syntax places bytes first place count earlier (refusal_number fault.refusal) fault.place
 
 -- what noting the leaf at a place answers
 abbrev pub LeafAnswer : (places : Bool) → (label at next count : ℕ) → (earlier later : List ℕ) → Part → Type 0
-LeafAnswer places label at next count earlier later (Read place total) =
-    (place ≡ next) × Appended earlier count (note places label at ∷ []) total later
-LeafAnswer places label at next count earlier later (Refused number place) = ⊥
+LeafAnswer places label at next count earlier later part =
+    (part.next ≡ next) × Appended earlier count (note places label at ∷ []) part.count later

@@ -1,6 +1,6 @@
 -- How a reading goes on: one more sign, operand or branch makes a larger tree, and the labels are those of what it
 -- stands for.
-use Rattle.std.specs.Prelude.{ℕ, ◌+◌, ◌<◌, ◌≤◌, ◌≡◌, Bool, List, [], ◌∷◌, length, get_or}
+use Rattle.std.specs.Prelude.{ℕ, ◌+◌, ◌<◌, ◌≤◌, ◌≡◌, Bool, List, [], ◌∷◌, length, get_or, Result, Ok, Err}
 use Rattle.std.proofs.Common.{arith}
 use Rattle.language.specs.SignedTree.{leaf, union, star, one_or_more, optional, counted}
 use Rattle.language.specs.PlacedStandsFor.{placed_repeated, placed_perhaps, placed_times}
@@ -19,7 +19,7 @@ use Rattle.operands.specs.Stopping.{closes_united}
 use Rattle.operands.specs.Surroundings.{Leads, leads_star, leads_more, leads_optional, leads_counted, leads_group, leads_joined, leads_united, leads_branch}
 use Rattle.operands.specs.Reading.{ReadUpTo, whole_tree, Whole, PartAnswer, CharacterAnswer, LeafAnswer, SignsAnswer}
 use Rattle.operands.specs.declared.part.Part.{Part}
-use Rattle.operands.specs.declared.part.Part.TheVariants.{Read, Refused}
+use Rattle.tree.specs.declared.refusal.Refused.{Refused}
 
 -- a leaf was read, and its label is the last one
 pub leaf_read : {syntax : Syntax} (places : Bool) {bytes : List ℕ} {at count : ℕ} (earlier later : List ℕ)
@@ -28,8 +28,8 @@ pub leaf_read : {syntax : Syntax} (places : Bool) {bytes : List ℕ} {at count :
     → ((depth : ℕ) → Leads syntax starred bytes depth at (signs_at bytes (leaf at a)) next) → at < next
     → next ≤ length bytes → count ≤ slot_count → label ≡ leaf_label a
     → LeafAnswer places label at next count earlier later answer
-    → CharacterAnswer syntax places bytes at count earlier later answer
-leaf_read places {at = at} earlier later (Read place total) next a placed leads further within few labels-it (same, p) =
+    → CharacterAnswer syntax places bytes at count earlier later (Ok answer)
+leaf_read places {at = at} earlier later answer next a placed leads further within few labels-it (same, p) =
     rw same
     (record {
       went = λ depth. record {
@@ -43,8 +43,6 @@ leaf_read places {at = at} earlier later (Read place total) next a placed leads 
         few = omega (arith, p.counted);
       };
     })
-leaf_read places earlier later (Refused number place) next a placed leads further within few labels-it none =
-    absurd none
 
 module _ {places : Bool} {bytes : List ℕ} {depth at first : ℕ} {start : List ℕ} {place count total : ℕ}
     {earlier later : List ℕ} where
@@ -141,12 +139,12 @@ module _ {syntax : Syntax} {places : Bool} {bytes : List ℕ} {depth at count : 
       }
 
   -- an operand is read when its signs are
-  pub then_signs : {next total : ℕ} {middle : List ℕ} (later : List ℕ) (answer : Part)
+  pub then_signs : {next total : ℕ} {middle : List ℕ} (later : List ℕ) (answer : Result Part Refused)
       → ReadUpTo syntax places starred bytes depth at count earlier next total middle
       → SignsAnswer syntax places bytes count next total middle later answer
       → PartAnswer syntax places starred bytes at depth count earlier later answer
-  then_signs later (Read last sum) w s = record { went = (s.carries depth).on at earlier w; stops = s.stops }
-  then_signs later (Refused number place) w s = s.fails depth at earlier w
+  then_signs later (Ok part) w s = record { went = (s.carries depth).on at earlier w; stops = s.stops }
+  then_signs later (Err fault) w s = s.fails depth at earlier w
 
   -- an operand is a catenation, and a catenation a union
   pub went_joined : {next total : ℕ} {later : List ℕ}

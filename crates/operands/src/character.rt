@@ -1,64 +1,30 @@
 // One character: a byte that stands for itself, or a special byte after a `\`.
-ghost use Rattle.std.specs.Prelude.{◌≡◌, true, false, ◌<◌, ◌≤◌, length, get_or};
+ghost use Rattle.std.specs.Prelude.{◌≡◌, false, ◌<◌, ◌≤◌, length, get_or};
 ghost use Rattle.tree.specs.Limits.{most_labels};
 ghost use Rattle.repeats.specs.Labelled.{LabelRoom};
-ghost use Rattle.operands.specs.Bytes.{syntax_of, sign_of, sign_of_second, special};
+ghost use Rattle.operands.specs.Bytes.{second, syntax_of, sign_of, sign_of_second, special};
 ghost use Rattle.operands.specs.Surroundings.{class_begins};
 ghost use Rattle.operands.specs.Reading.{ScratchRoom, CharacterAnswer, LeafAnswer};
 
 use crate::part::Part;
+use crate::syntax::Syntax;
 use repeats::copies::put_note;
 use tree::layout::{CHARACTER, label_of};
-use tree::refusal_numbers::{BACKSLASH_BEFORE_NO_SIGN, OPERAND_MISSING};
+use tree::refusal::{Refusal, Refused};
 
 // Whether a byte is one of those that are special in the second syntax alone.
 fn is_second_sign(byte: u8) -> bool
-    ensures { result ≡ special (sign_of_second (syntax_of true) byte) }
+    ensures { result ≡ special (sign_of_second second byte) }
 {
-    if byte == b'.' {
-        return true;
-    }
-    if byte == b'[' {
-        return true;
-    }
-    if byte == b']' {
-        return true;
-    }
-    if byte == b'+' {
-        return true;
-    }
-    if byte == b'?' {
-        return true;
-    }
-    if byte == b'{' {
-        return true;
-    }
-    byte == b'}'
+    matches!(byte, b'.' | b'[' | b']' | b'+' | b'?' | b'{' | b'}')
 }
 
 // Whether a byte is special.
-fn is_special(byte: u8, second: bool) -> bool
-    ensures { result ≡ special (sign_of (syntax_of second) byte) }
+fn is_special(byte: u8, syntax: Syntax) -> bool
+    ensures { result ≡ special (sign_of (syntax_of syntax) byte) }
 {
-    if byte == b'(' {
-        return true;
-    }
-    if byte == b')' {
-        return true;
-    }
-    if byte == b'|' {
-        return true;
-    }
-    if byte == b'*' {
-        return true;
-    }
-    if byte == b'\\' {
-        return true;
-    }
-    if second {
-        return is_second_sign(byte);
-    }
-    false
+    matches!(byte, b'(' | b')' | b'|' | b'*' | b'\\')
+        || (syntax == Syntax::Second && is_second_sign(byte))
 }
 
 // Writes the label of a leaf, or its place.
@@ -74,7 +40,7 @@ pub fn leaf(
     requires low { place ≤ most_labels }
     ensures { LeafAnswer places label place next count notes.old notes.new result }
 {
-    Part::Read {
+    Part {
         next,
         count: put_note(notes, count, label, place as u16, places),
     }
@@ -87,45 +53,45 @@ pub fn character(
     at: usize,
     notes: &mut [u16],
     count: usize,
-    second: bool,
+    syntax: Syntax,
     places: bool,
-) -> Part
+) -> Result<Part, Refused>
     requires within { at < length expr.now }
     requires character { get_or expr.now at 0 ≡ 40 → ⊥ }
-    requires common { class_begins (sign_of (syntax_of second) (get_or expr.now at 0)) ≡ false }
+    requires common { class_begins (sign_of (syntax_of syntax) (get_or expr.now at 0)) ≡ false }
     requires room { ScratchRoom expr.now at 0 count notes.old }
-    ensures { CharacterAnswer (syntax_of second) places expr.now at count notes.old notes.new result }
+    ensures { CharacterAnswer (syntax_of syntax) places expr.now at count notes.old notes.new result }
 {
     let byte = expr[at];
     if byte == b'\\' {
         let place = at + 1;
         if place == expr.len() {
-            return Part::Refused {
-                number: BACKSLASH_BEFORE_NO_SIGN,
+            return Err(Refused {
+                refusal: Refusal::BackslashBeforeNoSign,
                 place: at,
-            };
+            });
         }
         let escaped = expr[place];
-        if is_special(escaped, second) {
-            return leaf(
-                label_of(CHARACTER, escaped),
-                at,
-                place + 1,
-                notes,
-                count,
-                places,
-            );
+        if !is_special(escaped, syntax) {
+            return Err(Refused {
+                refusal: Refusal::BackslashBeforeNoSign,
+                place: at,
+            });
         }
-        return Part::Refused {
-            number: BACKSLASH_BEFORE_NO_SIGN,
-            place: at,
-        };
+        return Ok(leaf(
+            label_of(CHARACTER, escaped),
+            at,
+            place + 1,
+            notes,
+            count,
+            places,
+        ));
     }
-    if is_special(byte, second) {
-        return Part::Refused {
-            number: OPERAND_MISSING,
+    if is_special(byte, syntax) {
+        return Err(Refused {
+            refusal: Refusal::OperandMissing,
             place: at,
-        };
+        });
     }
-    leaf(label_of(CHARACTER, byte), at, at + 1, notes, count, places)
+    Ok(leaf(label_of(CHARACTER, byte), at, at + 1, notes, count, places))
 }

@@ -3,3 +3,4 @@
 
 pub mod character;
 pub mod part;
+pub mod syntax;

@@ -1,6 +1,5 @@
 -- `operands::character::character` meets its contract: each answer is one step of the scanner, or two after a `\`.
-use mathlib.Core.Path.{sym, ◌∙◌}
-use native.Mathlib.Omega.{arith}
+use Rattle.std.proofs.Common.{sym, ◌∙◌, arith}
 use Rattle.tree.specs.Leaf.{character}
 use Rattle.operands.specs.Stopping.{not_special}
 use Rattle.operands.specs.Surroundings.{leads_plain, leads_escaped, fails_escaped, fails_last, fails_special}
@@ -13,33 +12,31 @@ returns-then-place-expr c =
       fails = λ depth. fails_last _ c.args.expr.now depth c.args.at c.if-place-expr.true c.if-byte-eq92.true;
     }
 
-pub returns-then-is_special : goal.returns-then-is_special
-returns-then-is_special c =
-    let label = c.label_of.ensures in
-    let special = sym c.is_special.ensures ∙ c.if-is_special.true in
-    leaf_read c.args.places c.args.notes.now c.leaf.new.notes c.leaf.result _ (character _) tt
-    (λ depth. leads_escaped _ c.args.expr.now depth c.args.at (omega arith) c.if-byte-eq92.true special)
-    (omega arith) (omega arith) (omega arith) label c.leaf.ensures
+pub returns-then-not-is_special : goal.returns-then-not-is_special
+returns-then-not-is_special c =
+    record {
+      fails = λ depth. fails_escaped _ c.args.expr.now depth c.args.at (omega arith)
+          c.if-byte-eq92.true (sym c.is_special.ensures ∙ c.if-not-is_special.true);
+    }
 
 pub returns-then-byte-eq92 : goal.returns-then-byte-eq92
 returns-then-byte-eq92 c =
-    record {
-      fails = λ depth. fails_escaped _ c.args.expr.now depth c.args.at (omega arith)
-          c.if-byte-eq92.true (sym c.is_special.ensures ∙ c.if-is_special.false);
-    }
+    let special = sym c.is_special.ensures ∙ c.if-not-is_special.false in
+    leaf_read c.args.places c.args.notes.now c.leaf.new.notes c.leaf.result _ (character _) tt
+    (λ depth. leads_escaped _ c.args.expr.now depth c.args.at (omega arith) c.if-byte-eq92.true special)
+    (omega arith) (omega arith) (omega arith) c.label_of.ensures c.leaf.ensures
 
-pub returns-then-is_special-2 : goal.returns-then-is_special-2
-returns-then-is_special-2 c =
+pub returns-then-is_special : goal.returns-then-is_special
+returns-then-is_special c =
     record {
       fails = λ depth. fails_special _ c.args.expr.now depth c.args.at c.requires.within c.requires.character
-          c.if-byte-eq92.false c.requires.common (sym c.is_special-2.ensures ∙ c.if-is_special-2.true);
+          c.if-byte-eq92.false c.requires.common (sym c.is_special-2.ensures ∙ c.if-is_special.true);
     }
 
 pub returns : goal.returns
 returns c =
-    let label = c.label_of-2.ensures in
-    let itself = not_special _ (sym c.is_special-2.ensures ∙ c.if-is_special-2.false) in
+    let itself = not_special _ (sym c.is_special-2.ensures ∙ c.if-is_special.false) in
     leaf_read c.args.places c.args.notes.now c.leaf-2.new.notes c.leaf-2.result _
     (character _) tt
     (λ depth. leads_plain _ c.args.expr.now depth c.args.at c.requires.within itself) (omega arith) (omega arith)
-    (omega arith) label c.leaf-2.ensures
+    (omega arith) c.label_of-2.ensures c.leaf-2.ensures
