@@ -1,12 +1,10 @@
 -- What the readers of a number and of a count promise: how the reading of the count goes on after it.
-use Rattle.std.specs.Prelude.{ℕ, ◌-◌, ◌≤◌, ◌<◌, ◌≡◌, List, length, drop, get_or}
+use Rattle.std.specs.Prelude.{ℕ, ◌-◌, ◌≤◌, ◌<◌, ◌≡◌, List, Option, Some, None, length, drop, get_or}
 use Rattle.counts.specs.Count.{largest, Counting}
 use Rattle.counts.specs.CountRun.{CountRan, found, failed, count_run, count_at}
 use Rattle.counts.specs.CountSigns.{Side, due, read}
-use Rattle.counts.specs.declared.part.NumberPart.{NumberPart}
-use Rattle.counts.specs.declared.part.NumberPart.TheVariants.{Read as Number-found, Faulty as No-number-found}
-use Rattle.counts.specs.declared.part.CountPart.{CountPart}
-use Rattle.counts.specs.declared.part.CountPart.TheVariants.{Read as Count-found, Faulty as No-count-found}
+use Rattle.counts.specs.declared.part.Number.{Number}
+use Rattle.counts.specs.declared.part.Count.{Count}
 
 -- the reading of a count from a place on, where this much was read of it
 unfoldable pub count_run_from : List ℕ → ℕ → Counting → CountRan
@@ -21,6 +19,11 @@ pub record DigitAt (bytes : List ℕ) (at : ℕ) : Type 0 where
 -- its value
 abbrev pub value_at : List ℕ → (at : ℕ) → ℕ
 value_at bytes at = get_or bytes at 0 - 48
+
+-- what the reader of a digit answers
+abbrev pub DigitAnswer : (bytes : List ℕ) (at : ℕ) → Option ℕ → Type 0
+DigitAnswer bytes at (Some value) = DigitAt bytes at × (value ≡ value_at bytes at)
+DigitAnswer bytes at None = DigitAt bytes at → ⊥
 
 -- the digits from `at` up to `place` are this number so far
 pub record NumberSoFar (bytes : List ℕ) (at number place : ℕ) : Type 0 where
@@ -39,9 +42,9 @@ pub record NoNumber (bytes : List ℕ) (at : ℕ) : Type 0 where
   pub fails : (side : Side) → count_run_from bytes at (due side) ≡ failed
 
 -- what the reader of a number answers
-abbrev pub NumberAnswer : (bytes : List ℕ) (at : ℕ) → NumberPart → Type 0
-NumberAnswer bytes at (Number-found number next) = NumberHere bytes at number next
-NumberAnswer bytes at No-number-found = NoNumber bytes at
+abbrev pub NumberAnswer : (bytes : List ℕ) (at : ℕ) → Option Number → Type 0
+NumberAnswer bytes at (Some number) = NumberHere bytes at number.value number.next
+NumberAnswer bytes at None = NoNumber bytes at
 
 -- a reading of a count finds one that ends at `next`
 pub record CountHere (bytes : List ℕ) (at : ℕ) (ran : CountRan) (next fewest most : ℕ) : Type 0 where
@@ -57,10 +60,10 @@ pub record CountLost (ran : CountRan) : Type 0 where
   pub fails : ran ≡ failed
 
 -- what a reader of a count from `at` on answers, for the reading that it does
-abbrev pub RanAnswer : (bytes : List ℕ) (at : ℕ) → CountRan → CountPart → Type 0
-RanAnswer bytes at ran (Count-found next fewest most) = CountHere bytes at ran next fewest most
-RanAnswer bytes at ran No-count-found = CountLost ran
+abbrev pub RanAnswer : (bytes : List ℕ) (at : ℕ) → CountRan → Option Count → Type 0
+RanAnswer bytes at ran (Some count) = CountHere bytes at ran count.next count.fewest count.most
+RanAnswer bytes at ran None = CountLost ran
 
 -- what the reader of the count whose `{` stands at a place answers
-abbrev pub CountAnswer : (bytes : List ℕ) (at : ℕ) → CountPart → Type 0
+abbrev pub CountAnswer : (bytes : List ℕ) (at : ℕ) → Option Count → Type 0
 CountAnswer bytes at r = RanAnswer bytes at (count_at bytes at) r

@@ -1,5 +1,5 @@
 -- How the reading of a count goes on at a digit, at the comma, at the `}` and at everything else.
-use Rattle.std.specs.Prelude.{ℕ, ◌+◌, ◌*◌, ◌≤◌, ◌<◌, ◌≡◌, refl, true, false, List, [], ◌∷◌, length, drop, get_or}
+use Rattle.std.specs.Prelude.{ℕ, ◌+◌, ◌*◌, ◌≤◌, ◌<◌, ◌≡◌, refl, true, false, List, [], ◌∷◌, Option, Some, None, length, drop, get_or}
 use Rattle.std.proofs.Common.{◌∙◌, arith, add-one, drop-cons, ne_eqb, eq-eqb}
 use Rattle.std.proofs.Math.Decide.{dec_lt}
 use Rattle.std.proofs.Math.Seq.{drop-length}
@@ -23,8 +23,7 @@ use Rattle.counts.specs.CountSigns.{
 }
 use Rattle.counts.specs.CountComplete.{stands}
 use Rattle.counts.specs.CountReading.{count_run_from, DigitAt, value_at, NumberSoFar, NumberHere, NoNumber, CountHere, CountLost, RanAnswer, CountAnswer}
-use Rattle.counts.specs.declared.part.CountPart.{CountPart}
-use Rattle.counts.specs.declared.part.CountPart.TheVariants.{Read as Count-found, Faulty as No-count-found}
+use Rattle.counts.specs.declared.part.Count.{Count}
 
 -- at the end, or before a byte, the list that is left
 left_at_end : (bytes : List ℕ) (at : ℕ) → at ≡ length bytes → drop at bytes ≡ []
@@ -224,9 +223,9 @@ module _ {bytes : List ℕ} {at : ℕ} (fewest : ℕ) where
           }
 
 -- an answer about one reading is one about another that is the same
-ran_answer_of : (bytes : List ℕ) (at earlier : ℕ) (ran same : CountRan) (r : CountPart) → same ≡ ran → earlier ≤ at
+ran_answer_of : (bytes : List ℕ) (at earlier : ℕ) (ran same : CountRan) (r : Option Count) → same ≡ ran → earlier ≤ at
     → RanAnswer bytes at ran r → RanAnswer bytes earlier same r
-ran_answer_of bytes at earlier ran same (Count-found next fewest most) e h a =
+ran_answer_of bytes at earlier ran same (Some count) e h a =
     record {
       finds = e ∙ a.finds;
       further = omega (arith, a.further);
@@ -235,7 +234,7 @@ ran_answer_of bytes at earlier ran same (Count-found next fewest most) e h a =
       some = a.some;
       few = a.few;
     }
-ran_answer_of bytes at earlier ran same No-count-found e h a = record { fails = e ∙ a.fails }
+ran_answer_of bytes at earlier ran same None e h a = record { fails = e ∙ a.fails }
 
 -- the reading from after a `{` is that of the first number
 from_brace : (bytes : List ℕ) (at : ℕ) → count_at bytes at ≡ count_run_from bytes (at + 1) (due first)
@@ -255,7 +254,7 @@ module _ {bytes : List ℕ} (at : ℕ) where
               ∙ comma_missing bytes next fewest s.so_far.within s.ended no-comma;
         }
 
-    pub then_most : (next < length bytes) × (get_or bytes next 0 ≡ 44) → (r : CountPart)
+    pub then_most : (next < length bytes) × (get_or bytes next 0 ≡ 44) → (r : Option Count)
         → RanAnswer bytes (next + 1) (count_run_from bytes (next + 1) (most_due fewest)) r → CountAnswer bytes at r
     then_most here r a =
         ran_answer_of bytes (next + 1) at _ (count_at bytes at) r

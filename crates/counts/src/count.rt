@@ -1,120 +1,80 @@
 // A count: from its `{` to its `}`, two numbers with a comma between them.
-ghost use Rattle.std.specs.Prelude.{◌≡◌, ◌≤◌, ◌<◌, length, get_or};
-ghost use Rattle.tree.specs.Says.{Says};
+ghost use Rattle.std.specs.Prelude.{◌≤◌, ◌<◌, length};
 ghost use Rattle.counts.specs.Count.{most_due};
 ghost use Rattle.counts.specs.CountReading.{
   count_run_from,
-  DigitAt,
-  value_at,
+  DigitAnswer,
   NumberAnswer,
   RanAnswer,
   CountAnswer,
 };
 
-use crate::part::{CountPart, NumberPart};
-use tree::layout::wide;
+use crate::part::{Count, Number};
+use tree::bytes::stands_at;
 
 // The largest number of a count.
 const LARGEST: usize = 16;
-// The digit 0 as a number.
-const ZERO: usize = 48;
 
-// Whether this byte stands at a place.
-fn stands_at(expr: &[u8], at: usize, byte: u8) -> bool
-    ensures { Says ((at < length expr.now) × (get_or expr.now at 0 ≡ byte)) result }
+// The value of the digit at a place, if one stands there.
+fn digit(expr: &[u8], at: usize) -> Option<usize>
+    ensures { DigitAnswer expr.now at result }
 {
-    if at < expr.len() {
-        if expr[at] == byte {
-            return true;
-        }
+    match expr.get(at) {
+        Some(&byte @ b'0'..=b'9') => Some(usize::from(byte - b'0')),
+        _ => None,
     }
-    false
-}
-
-// Whether a digit stands at a place.
-fn digit_at(expr: &[u8], at: usize) -> bool
-    ensures { Says (DigitAt expr.now at) result }
-{
-    if at < expr.len() {
-        let byte = expr[at];
-        if byte < b'0' {
-            return false;
-        }
-        if byte > b'9' {
-            return false;
-        }
-        return true;
-    }
-    false
-}
-
-// The value of the digit at a place.
-fn value_at(expr: &[u8], at: usize) -> usize
-    requires { DigitAt expr.now at }
-    ensures { (result ≡ value_at expr.now at) × (result < 10) }
-{
-    wide(expr[at]) - ZERO
 }
 
 // Reads a number from a place on: its digits, with no 0 before another, and at most 16.
-fn number(expr: &[u8], at: usize) -> NumberPart
+fn number(expr: &[u8], at: usize) -> Option<Number>
     requires { at ≤ length expr.now }
     ensures { NumberAnswer expr.now at result }
 {
-    if !digit_at(expr, at) {
-        return NumberPart::Faulty;
-    }
-    let mut value = value_at(expr, at);
-    let mut place = at + 1;
-    while digit_at(expr, place) {
+    let mut value = digit(expr, at)?;
+    let mut next = at + 1;
+    while let Some(more) = digit(expr, next) {
         if value == 0 {
-            return NumberPart::Faulty;
+            return None;
         }
-        value = 10 * value + value_at(expr, place);
+        value = 10 * value + more;
         if value > LARGEST {
-            return NumberPart::Faulty;
+            return None;
         }
-        place += 1;
+        next += 1;
     }
-    NumberPart::Read { value, next: place }
+    Some(Number { value, next })
 }
 
 // Reads the second number of a count, and its `}`.
-fn most(expr: &[u8], at: usize, fewest: usize) -> CountPart
+fn most(expr: &[u8], at: usize, fewest: usize) -> Option<Count>
     requires { at ≤ length expr.now }
     ensures { RanAnswer expr.now at (count_run_from expr.now at (most_due fewest)) result }
 {
-    let part = number(expr, at);
-    let NumberPart::Read { value, next } = part else {
-        return CountPart::Faulty;
-    };
+    let Number { value, next } = number(expr, at)?;
     if !stands_at(expr, next, b'}') {
-        return CountPart::Faulty;
+        return None;
     }
     if value == 0 {
-        return CountPart::Faulty;
+        return None;
     }
     if value < fewest {
-        return CountPart::Faulty;
+        return None;
     }
-    CountPart::Read {
+    Some(Count {
         next: next + 1,
         fewest,
         most: value,
-    }
+    })
 }
 
 // Reads the count whose `{` stands at a place.
-pub fn count(expr: &[u8], at: usize) -> CountPart
+pub fn count(expr: &[u8], at: usize) -> Option<Count>
     requires { at < length expr.now }
     ensures { CountAnswer expr.now at result }
 {
-    let part = number(expr, at + 1);
-    let NumberPart::Read { value, next } = part else {
-        return CountPart::Faulty;
-    };
+    let Number { value, next } = number(expr, at + 1)?;
     if !stands_at(expr, next, b',') {
-        return CountPart::Faulty;
+        return None;
     }
     most(expr, next + 1, value)
 }

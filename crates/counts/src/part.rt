@@ -1,21 +1,16 @@
-// What a reader of a number finds.
-#[derive(Drop)]
-pub enum NumberPart {
-    // The number, and the place after it.
-    Read { value: usize, next: usize },
-    // No number is written there as the form of a count wants it.
-    Faulty,
+// What the readers of a count find.
+
+// A count: the place after its `}`, and its two numbers.
+#[derive(Clone, Copy, Debug, PartialEq, Eq)]
+pub struct Count {
+    pub next: usize,
+    pub fewest: usize,
+    pub most: usize,
 }
 
-// What a reader of a count finds.
-#[derive(Drop)]
-pub enum CountPart {
-    // The place after its `}`, and its two numbers.
-    Read {
-        next: usize,
-        fewest: usize,
-        most: usize,
-    },
-    // The count is not of the form.
-    Faulty,
+// A number of a count, and the place after it.
+#[derive(Clone, Copy)]
+pub(crate) struct Number {
+    pub value: usize,
+    pub next: usize,
 }
