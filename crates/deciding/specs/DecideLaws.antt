@@ -1,5 +1,5 @@
 -- Why a list is good, or is not, by its length, its labels, its pieces and its records; the answer is the only one.
-use Rattle.std.specs.Prelude.{ℕ, suc, ◌+◌, ◌*◌, ◌/◌, ◌%◌, ◌≤◌, ◌<◌, ◌≡◌, refl, Bool, true, false, List, [], ◌∷◌, ◌++◌, map, length, get_or, take, drop, set}
+use Rattle.std.specs.Prelude.{ℕ, suc, ◌+◌, ◌*◌, ◌/◌, ◌%◌, ◌≤◌, ◌<◌, ◌≡◌, refl, Bool, true, false, Option, None, Some, List, [], ◌∷◌, ◌++◌, map, length, get_or, take, drop, set}
 use Rattle.std.proofs.Common.{ap, sym, ◌∙◌, arith, not-suc-le-zero, zero-add, add-zero, add-one, take-append-drop, length-drop, get_or-set_same, get_or-set_other, take_at, drop-drop, length-take-le}
 use Rattle.std.proofs.lemmas.List.{map-append}
 use Rattle.std.proofs.Math.Decide.{dec_lt}
@@ -40,29 +40,28 @@ use Rattle.cutting.specs.MeasuredLaws.{in_tree, label_is, Slots}
 use Rattle.lists.specs.RecordingLaws.{record_of_list, fields_are}
 use Rattle.tree.specs.Saying.{true_false}
 use Rattle.deciding.specs.Judged.{Judged, CountsBelow}
-use Rattle.deciding.specs.declared.good.Decided.{Decided}
-use Rattle.deciding.specs.declared.good.Decided.TheVariants.{Good as good, NotGood as not_good}
+use Rattle.tree.specs.declared.counted.Counts.{Counts}
 use Rattle.deciding.specs.LabelsTaken.{Taken, ListOf, Compared, Agrees}
 
+-- counts with the same numbers are the same
+same_counts : (n m : Counts) → n.records ≡ m.records → n.pieces ≡ m.pieces → n.classes ≡ m.classes → n ≡ m
+same_counts n m p q r =
+    ap (λ (k : ℕ). record { records = k; pieces = n.pieces; classes = n.classes }) p
+    ∙ ap (λ (k : ℕ). record { records = m.records; pieces = k; classes = n.classes }) q
+    ∙ ap (λ (k : ℕ). record { records = m.records; pieces = m.pieces; classes = k }) r
+
 -- two answers that fit are the same
-pub decided_unique : (bytes : List ℕ) (a b : Decided) → Judged bytes a → Judged bytes b → a ≡ b
-decided_unique bytes (good n p k) (good m q l) a b =
+pub decided_unique : (bytes : List ℕ) (a b : Option Counts) → Judged bytes a → Judged bytes b → a ≡ b
+decided_unique bytes (Some n) (Some m) a b =
     let same : a.fits.tree ≡ b.fits.tree = good_unique bytes a.fits.tree b.fits.tree a.fits.is_good
     b.fits.is_good in
-    cc (
-      a.fits.records_are,
-      b.fits.records_are,
-      a.fits.pieces_are,
-      b.fits.pieces_are,
-      a.fits.classes_are,
-      b.fits.classes_are,
-      ap (nodes {A = Leaf}) same,
-      ap piece_count same,
-      ap class_count same,
-    )
-decided_unique bytes (good n p k) not_good a b = absurd (b.fits a.fits.tree a.fits.is_good)
-decided_unique bytes not_good (good n p k) a b = absurd (a.fits b.fits.tree b.fits.is_good)
-decided_unique bytes not_good not_good a b = refl
+    ap Some (same_counts n m
+    (a.fits.records_are ∙ ap (nodes {A = Leaf}) same ∙ sym b.fits.records_are)
+    (a.fits.pieces_are ∙ ap piece_count same ∙ sym b.fits.pieces_are)
+    (a.fits.classes_are ∙ ap class_count same ∙ sym b.fits.classes_are))
+decided_unique bytes (Some n) None a b = absurd (b.fits a.fits.tree a.fits.is_good)
+decided_unique bytes None (Some n) a b = absurd (a.fits b.fits.tree b.fits.is_good)
+decided_unique bytes None None a b = refl
 
 -- none yet
 pub taken_none : (list ls : List ℕ) → Taken list ls 0
@@ -205,31 +204,31 @@ pub good_length : (bytes : List ℕ) (t : Tree Leaf) → Good bytes t → length
 good_length bytes t g = sym (length_bare bytes) ∙ ap length g.of_tree ∙ length_encode t
 
 -- why a list is not good: its length is no multiple of a record's
-pub not_by_length : (bytes : List ℕ) → (length bytes % record_size ≡ 0 → ⊥) → Judged bytes not_good
+pub not_by_length : (bytes : List ℕ) → (length bytes % record_size ≡ 0 → ⊥) → Judged bytes None
 not_by_length bytes h = record { fits = λ t g. h (omega (arith, good_length bytes t g)) }
 
 -- it has more than 1,920 records
-pub not_by_size : (bytes : List ℕ) → most_records < length bytes / record_size → Judged bytes not_good
+pub not_by_size : (bytes : List ℕ) → most_records < length bytes / record_size → Judged bytes None
 not_by_size bytes h = record { fits = λ t g. omega (arith, good_length bytes t g, good_small bytes t g) }
 
 -- what is known of a list whose labels are these
 module _ (bytes ls : List ℕ) (shown : LabelsOf bytes ls) where
   -- not good: the labels are those of no tree
-  pub not_by_labels : (Postorder ls → ⊥) → Judged bytes not_good
+  pub not_by_labels : (Postorder ls → ⊥) → Judged bytes None
   not_by_labels h =
       record {
         fits = λ t g. h (record { tree = t; same = labels_of_good bytes ls t g.of_tree g.ranked shown });
       }
 
   -- not good: the tree has more than 128 pieces
-  pub not_by_pieces : (pieces : ℕ) → CountsPieces ls pieces → most_pieces < pieces → Judged bytes not_good
+  pub not_by_pieces : (pieces : ℕ) → CountsPieces ls pieces → most_pieces < pieces → Judged bytes None
   not_by_pieces pieces c h =
       record {
         fits = λ t g. omega (arith, c.count t (labels_of_good bytes ls t g.of_tree g.ranked shown), g.few);
       }
 
   -- not good: a record is not the tree's
-  pub not_by_records : Compared ls bytes false → Judged bytes not_good
+  pub not_by_records : Compared ls bytes false → Judged bytes None
   not_by_records c =
       record {
         fits = λ t g. c.if_not refl t (labels_of_good bytes ls t g.of_tree g.ranked shown)
@@ -246,7 +245,7 @@ module _ (bytes ls : List ℕ) (shown : LabelsOf bytes ls) where
   -- good: every record is the tree's; then the number of each class leaf is its rank, which its label was made of
   pub good_by_records : (pieces classes : ℕ) → Postorder ls → CountsPieces ls pieces → pieces ≤ most_pieces
       → classes ≡ class_records bytes (length ls) → Compared ls bytes true
-      → Judged bytes (good (length ls) pieces classes)
+      → Judged bytes (Some (record { records = length ls; pieces = pieces; classes = classes }))
   good_by_records pieces classes o c few counted same =
       let t : Tree Leaf = o.tree in
       let count : pieces ≡ piece_count t = c.count t o.same in
@@ -312,5 +311,5 @@ counts_below bytes ls sizes opens cuts shown measured = record { told = by_tree 
         ∙ rw add-one (ap (λ (l : List ℕ). get_or l r 0) (sym (below_seats t 0 1)))
 
 -- of a list that is not good nothing is told
-pub counts_nothing : (bytes slots : List ℕ) → Judged bytes not_good → CountsBelow bytes slots
+pub counts_nothing : (bytes slots : List ℕ) → Judged bytes None → CountsBelow bytes slots
 counts_nothing bytes slots judged = record { told = λ t g. absurd (judged.fits t g) }

@@ -1,5 +1,5 @@
 -- What deciding on a list promises: its tree's counts where it is good, and that no tree makes it good where it is not.
-use Rattle.std.specs.Prelude.{ℕ, ◌+◌, ◌/◌, ◌≤◌, ◌<◌, ◌≡◌, List, length, get_or}
+use Rattle.std.specs.Prelude.{ℕ, ◌+◌, ◌/◌, ◌≤◌, ◌<◌, ◌≡◌, List, Option, None, Some, length, get_or}
 use Rattle.language.specs.Tree.{Tree, nodes}
 use Rattle.tree.specs.Leaf.{Leaf}
 use Rattle.tree.specs.Limits.{most_records}
@@ -7,8 +7,7 @@ use Rattle.tree.specs.Layout.{record_size}
 use Rattle.tree.specs.Records.{piece_count, class_count, Good}
 use Rattle.tree.specs.Parts.{below_each}
 use Rattle.tree.specs.Pieces.{cut_up}
-use Rattle.deciding.specs.declared.good.Decided.{Decided}
-use Rattle.deciding.specs.declared.good.Decided.TheVariants.{Good as good, NotGood as not_good}
+use Rattle.tree.specs.declared.counted.Counts.{Counts}
 
 -- the list is good, for a tree with these counts
 pub record GoodWith (bytes : List ℕ) (records pieces classes : ℕ) : Type 0 where
@@ -19,12 +18,12 @@ pub record GoodWith (bytes : List ℕ) (records pieces classes : ℕ) : Type 0 w
   pub classes_are : classes ≡ class_count tree
 
 -- the answer fits the list
-abbrev pub FitsAnswer : List ℕ → Decided → Type 0
-FitsAnswer bytes (good records pieces classes) = GoodWith bytes records pieces classes
-FitsAnswer bytes not_good = (t : Tree Leaf) → Good bytes t → ⊥
+abbrev pub FitsAnswer : List ℕ → Option Counts → Type 0
+FitsAnswer bytes (Some counts) = GoodWith bytes counts.records counts.pieces counts.classes
+FitsAnswer bytes None = (t : Tree Leaf) → Good bytes t → ⊥
 
 -- the promise of deciding: the answer fits
-pub record Judged (bytes : List ℕ) (answer : Decided) : Type 0 where
+pub record Judged (bytes : List ℕ) (answer : Option Counts) : Type 0 where
   pub fits : FitsAnswer bytes answer
 
 -- where the list is good, slot r + 1 tells how many pieces there are below the node of record r

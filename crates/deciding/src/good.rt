@@ -1,6 +1,6 @@
 // Whether a lent list is good: its labels are those of one tree, and each record is that tree's.
 ghost use Rattle.std.specs.Prelude.{◌≡◌, ◌*◌, ◌/◌, ◌%◌, ◌≤◌, ◌<◌, length};
-ghost use Rattle.tree.specs.Limits.{few_slots, some_slots, most_labels, most_records};
+ghost use Rattle.tree.specs.Limits.{most_labels, most_records, slot_count};
 ghost use Rattle.tree.specs.Layout.{record_size, class_records};
 ghost use Rattle.cutting.specs.Measured.{Postorder, Sized, RoomToMeasure, Measured};
 ghost use Rattle.lists.specs.Handed.{Pieced};
@@ -12,19 +12,12 @@ use cutting::slots::{child_number, left_slot, right_slot};
 use lists::hand::hand_down;
 use measuring::measure::piece_count;
 use ordering::order::one_tree;
+use tree::counted::Counts;
 use tree::layout::{RECORD_SIZE, character_at, is_record, kind_at, label_with, one_if_class};
 use tree::limits::{FEW_SLOTS, MOST_PIECES, MOST_RECORDS, SOME_SLOTS};
 
-// What deciding on a list answers.
-#[derive(Drop)]
-pub enum Decided {
-    Good {
-        records: usize,
-        pieces: usize,
-        classes: usize,
-    },
-    NotGood,
-}
+// The slots of the records of the longest good list, and slot 0.
+pub const MOST_SLOTS: usize = MOST_RECORDS + 1;
 
 // Takes the labels off a list, and counts its class leaves.
 fn take_labels(list: &[u8], labels: &mut [u16]) -> usize
@@ -34,13 +27,11 @@ fn take_labels(list: &[u8], labels: &mut [u16]) -> usize
     ensures value { result ≡ class_records list.now (length labels.old) }
 {
     let mut classes = 0;
-    let mut i = 0;
-    while i < labels.len() {
+    for (i, label) in labels.iter_mut().enumerate() {
         let kind = kind_at(list, i);
         let character = character_at(list, i);
-        labels[i] = label_with(kind, character, classes);
+        *label = label_with(kind, character, classes);
         classes += one_if_class(kind);
-        i += 1;
     }
     classes
 }
@@ -53,17 +44,14 @@ fn compare(list: &[u8], labels: &[u16], sizes: &[u16], pieces: &[u16]) -> bool
     requires sized { Sized labels.now sizes.now × Pieced labels.now pieces.now }
     ensures { Compared labels.now list.now result }
 {
-    let mut i = 0;
-    while i < labels.len() {
-        let label = labels[i];
-        let right = right_slot(label, i);
-        let left = left_slot(label, i, sizes[right]);
+    for (i, label) in labels.iter().enumerate() {
+        let right = right_slot(*label, i);
+        let left = left_slot(*label, i, sizes[right]);
         let left_number = child_number(left);
         let right_number = child_number(right);
-        if !is_record(list, i, label, left_number, right_number, pieces[i + 1]) {
+        if !is_record(list, i, *label, left_number, right_number, pieces[i + 1]) {
             return false;
         }
-        i += 1;
     }
     true
 }
@@ -99,7 +87,7 @@ fn decide_by(
     cuts: &mut [u16],
     pieces: &mut [u16],
     news: &mut [u16],
-) -> Decided
+) -> Option<Counts>
     requires labels_of { LabelsOf list.now labels.now }
     requires labels_len_bound { (length labels.now ≤ most_records) × (classes ≡ class_records list.now (length labels.now)) }
     requires room_to_measure { RoomToMeasure (length labels.now) sizes.old opens.old cuts.old }
@@ -108,20 +96,20 @@ fn decide_by(
     ensures counts_below { CountsBelow list.now cuts.new }
 {
     if !one_tree(labels) {
-        return Decided::NotGood;
+        return None;
     }
     let count = piece_count(labels, sizes, opens, cuts);
     if MOST_PIECES < count {
-        return Decided::NotGood;
+        return None;
     }
-    if is_list(list, labels, sizes, opens, cuts, pieces, news) {
-        return Decided::Good {
-            records: labels.len(),
-            pieces: count,
-            classes,
-        };
+    if !is_list(list, labels, sizes, opens, cuts, pieces, news) {
+        return None;
     }
-    Decided::NotGood
+    Some(Counts {
+        records: labels.len(),
+        pieces: count,
+        classes,
+    })
 }
 
 // Decides on a list of whole records, with room for the labels and the slots of that many.
@@ -133,7 +121,7 @@ fn decide_in(
     cuts: &mut [u16],
     pieces: &mut [u16],
     news: &mut [u16],
-) -> Decided
+) -> Option<Counts>
     requires record_size_len { (length list.now % record_size ≡ 0) × (length list.now / record_size ≤ most_records) }
     requires record_size_in_bounds { length list.now / record_size ≤ length labels.old }
     requires room_to_measure { RoomToMeasure (length list.now / record_size) sizes.old opens.old cuts.old }
@@ -156,64 +144,19 @@ fn decide_in(
     )
 }
 
-// Decides on a short list of whole records, in small arrays.
-fn decide_few(list: &[u8], cuts: &mut [u16]) -> Decided
-    requires record_size_len { (length list.now % record_size ≡ 0) × (length list.now / record_size < few_slots) }
-    requires record_size_in_bounds { length list.now / record_size < length cuts.old }
-    ensures judged { Judged list.now result }
-    ensures counts_below { CountsBelow list.now cuts.new }
-{
-    let mut labels = [0u16; FEW_SLOTS];
-    let mut sizes = [0u16; FEW_SLOTS];
-    let mut opens = [0u16; FEW_SLOTS];
-    let mut pieces = [0u16; FEW_SLOTS];
-    let mut news = [0u16; FEW_SLOTS];
-    decide_in(
-        list,
-        &mut labels,
-        &mut sizes,
-        &mut opens,
-        cuts,
-        &mut pieces,
-        &mut news,
-    )
-}
-
-// Decides on a longer one.
-fn decide_some(list: &[u8], cuts: &mut [u16]) -> Decided
-    requires record_size_len { (length list.now % record_size ≡ 0) × (length list.now / record_size < some_slots) }
-    requires record_size_in_bounds { length list.now / record_size < length cuts.old }
-    ensures judged { Judged list.now result }
-    ensures counts_below { CountsBelow list.now cuts.new }
-{
-    let mut labels = [0u16; SOME_SLOTS];
-    let mut sizes = [0u16; SOME_SLOTS];
-    let mut opens = [0u16; SOME_SLOTS];
-    let mut pieces = [0u16; SOME_SLOTS];
-    let mut news = [0u16; SOME_SLOTS];
-    decide_in(
-        list,
-        &mut labels,
-        &mut sizes,
-        &mut opens,
-        cuts,
-        &mut pieces,
-        &mut news,
-    )
-}
-
-// Decides on the longest that there can be.
-fn decide_many(list: &[u8], cuts: &mut [u16]) -> Decided
+// Decides on a list of whole records, in arrays of so many slots.
+fn decide_in_slots<const SLOTS: usize>(list: &[u8], cuts: &mut [u16]) -> Option<Counts>
     requires record_size_len { (length list.now % record_size ≡ 0) × (length list.now / record_size ≤ most_records) }
+    requires slots_bound { (length list.now / record_size < SLOTS) × (SLOTS ≤ slot_count) }
     requires record_size_in_bounds { length list.now / record_size < length cuts.old }
     ensures judged { Judged list.now result }
     ensures counts_below { CountsBelow list.now cuts.new }
 {
-    let mut labels = [0u16; MOST_RECORDS + 1];
-    let mut sizes = [0u16; MOST_RECORDS + 1];
-    let mut opens = [0u16; MOST_RECORDS + 1];
-    let mut pieces = [0u16; MOST_RECORDS + 1];
-    let mut news = [0u16; MOST_RECORDS + 1];
+    let mut labels = [0u16; SLOTS];
+    let mut sizes = [0u16; SLOTS];
+    let mut opens = [0u16; SLOTS];
+    let mut pieces = [0u16; SLOTS];
+    let mut news = [0u16; SLOTS];
     decide_in(
         list,
         &mut labels,
@@ -227,7 +170,7 @@ fn decide_many(list: &[u8], cuts: &mut [u16]) -> Decided
 
 // Decides in the smallest arrays that have room: most of what a short list costs is setting them to 0. It calls itself
 // with more slots, so that each size has a stack frame of its own.
-fn decide_within(list: &[u8], slots: usize, cuts: &mut [u16]) -> Decided
+fn decide_within(list: &[u8], slots: usize, cuts: &mut [u16]) -> Option<Counts>
     requires record_size_len { (length list.now % record_size ≡ 0) × (length list.now / record_size ≤ most_records) }
     requires record_size_in_bounds { (length list.now / record_size < length cuts.old) × (1 ≤ slots) }
     ensures judged { Judged list.now result }
@@ -237,34 +180,34 @@ fn decide_within(list: &[u8], slots: usize, cuts: &mut [u16]) -> Decided
         return decide_within(list, 4 * slots, cuts);
     }
     if slots <= FEW_SLOTS {
-        return decide_few(list, cuts);
+        return decide_in_slots::<FEW_SLOTS>(list, cuts);
     }
     if slots <= SOME_SLOTS {
-        return decide_some(list, cuts);
+        return decide_in_slots::<SOME_SLOTS>(list, cuts);
     }
-    decide_many(list, cuts)
+    decide_in_slots::<MOST_SLOTS>(list, cuts)
 }
 
 // Decides whether a list is good, and counts its records, pieces and class leaves. Of a good list, `cuts` tells the
 // pieces below each record's node. No good list has more than 1,920 records.
-pub fn decide_with(list: &[u8], cuts: &mut [u16]) -> Decided
+pub fn decide_with(list: &[u8], cuts: &mut [u16]) -> Option<Counts>
     requires { RoomToDecide list.now cuts.old }
     ensures judged { Judged list.now result }
     ensures counts_below { CountsBelow list.now cuts.new }
 {
     if list.len() % RECORD_SIZE != 0 {
-        return Decided::NotGood;
+        return None;
     }
     if MOST_RECORDS < list.len() / RECORD_SIZE {
-        return Decided::NotGood;
+        return None;
     }
     decide_within(list, FEW_SLOTS, cuts)
 }
 
 // Decides whether a list is good, and counts its records, pieces and class leaves.
-pub fn decide(list: &[u8]) -> Decided
+pub fn decide(list: &[u8]) -> Option<Counts>
     ensures { Judged list.now result }
 {
-    let mut cuts = [0u16; MOST_RECORDS + 1];
+    let mut cuts = [0u16; MOST_SLOTS];
     decide_with(list, &mut cuts)
 }

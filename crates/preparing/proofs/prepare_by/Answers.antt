@@ -5,5 +5,5 @@ use Rattle.preparing.proofs.prepare_by.Goals as goal
 
 pub prepare-requires-clause-decided_good : goal.prepare-requires-clause-decided_good
 prepare-requires-clause-decided_good c =
-    told_good c.in-Good.is (c.decide_with-decided.ensures.judged, c.decide_with-decided.ensures.counts_below)
-    c.requires.room_to_decide c.decide_with-decided.auto.cuts
+    told_good c.in_ok-counts.counts c.in_ok-counts.ensures.judged c.in_ok-counts.ensures.counts_below
+    c.requires.room_to_decide c.decide_with.auto.cuts

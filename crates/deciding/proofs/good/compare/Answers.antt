@@ -1,10 +1,6 @@
--- `deciding::good::compare` meets its contract. The loop's invariant: the first `i` records are those of the tree with
--- these labels. A record that differs is the reason for no. The measure is what is left of the labels.
-use Prim.Native.Nat.{◌+◌}
-use mathlib.Core.Path.{◌≡◌, refl}
-use native.Mathlib.Omega.{arith}
-use borrow.Author.Tests.{not-true, not-false}
-use lib.ListN.{length, get_or}
+-- `deciding::good::compare` meets its contract: a record that differs is the reason for no, and one that does not adds
+-- to the loop's invariant.
+use Rattle.std.proofs.Common.{◌+◌, ◌≡◌, refl, length, get_or, arith}
 use Rattle.language.specs.Tree.{Tree}
 use Rattle.tree.specs.Leaf.{Leaf}
 use Rattle.tree.specs.Records.{labels}
@@ -23,24 +19,20 @@ facts c t e =
     let ls = c.args.labels.now in
     let inside = c.loop-i-test.true in (
       slots ls t c.loop-i.i c.left_slot-left.result c.right_slot-right.result c.args.sizes.now e inside
-          (holds_less c.loop-i.i c.loop-i.invariant.0 (c.requires.sized.0.sized t e)) c.right_slot-right.ensures.0
+          (holds_less c.loop-i.i (omega arith) (c.requires.sized.0.sized t e)) c.right_slot-right.ensures.0
           c.left_slot-left.ensures.0,
       c.requires.sized.1.at_record t e c.loop-i.i (in_tree ls t c.loop-i.i e inside),
     )
 
 pub loop-i-init : goal.loop-i-init
 loop-i-init c =
-    (omega arith, agrees_none c.args.labels.now c.args.list.now)
-
-pub right_slot-right-requires : goal.right_slot-right-requires
-right_slot-right-requires c =
-    tt
+    agrees_none c.args.labels.now c.args.list.now
 
 pub left_slot-left-requires : goal.left_slot-left-requires
 left_slot-left-requires c =
     right_size_le c.args.labels.now c.requires.postorder.tree c.loop-i.i c.right_slot-right.result c.args.sizes.now
     c.requires.postorder.same c.loop-i-test.true
-    (holds_less c.loop-i.i c.loop-i.invariant.0 (c.requires.sized.0.sized c.requires.postorder.tree c.requires.postorder.same))
+    (holds_less c.loop-i.i (omega arith) (c.requires.sized.0.sized c.requires.postorder.tree c.requires.postorder.same))
     c.right_slot-right.ensures.0
 
 pub returns-then-not-is_record : goal.returns-then-not-is_record
@@ -50,22 +42,20 @@ returns-then-not-is_record c =
     c.child_number-right_number.result (get_or c.args.pieces.now (c.loop-i.i + 1) 0) c.args.sizes.now
     c.loop-i-test.true (facts (goal.at.returns-then-not-is_record c).After-is_record) refl
     (c.type_inv.labels c.loop-i.i).fits c.child_number-left_number.ensures
-    c.child_number-right_number.ensures c.requires.labels_len_bound.1 (c.is_record.ensures.if_not (not-true _ c.if-not-is_record.true-raw))
+    c.child_number-right_number.ensures c.requires.labels_len_bound.1 (c.is_record.ensures.if_not c.if-not-is_record.true)
 
 pub loop-i-preserved : goal.loop-i-preserved
-loop-i-preserved c = (
-  omega (arith, c.loop-i-test.true),
-  agrees_more c.args.labels.now c.args.list.now c.loop-i.i c.left_slot-left.result
-      c.right_slot-right.result (get_or c.args.labels.now c.loop-i.i 0)
-      c.child_number-left_number.result c.child_number-right_number.result
-      (get_or c.args.pieces.now (c.loop-i.i + 1) 0) c.args.sizes.now
-      c.loop-i-test.true (facts (goal.at.loop-i-preserved c).After-is_record) refl
-      (c.type_inv.labels c.loop-i.i).fits c.child_number-left_number.ensures
-      c.child_number-right_number.ensures (c.is_record.ensures.if_so (not-false _ c.if-not-is_record.false-raw))
-      c.loop-i.invariant.1,
-)
+loop-i-preserved c =
+    agrees_more c.args.labels.now c.args.list.now c.loop-i.i c.left_slot-left.result
+    c.right_slot-right.result (get_or c.args.labels.now c.loop-i.i 0)
+    c.child_number-left_number.result c.child_number-right_number.result
+    (get_or c.args.pieces.now (c.loop-i.i + 1) 0) c.args.sizes.now
+    c.loop-i-test.true (facts (goal.at.loop-i-preserved c).After-is_record) refl
+    (c.type_inv.labels c.loop-i.i).fits c.child_number-left_number.ensures
+    c.child_number-right_number.ensures (c.is_record.ensures.if_so c.if-not-is_record.false)
+    c.loop-i.invariant
 
 pub returns : goal.returns
 returns c =
     let all : c.loop-i.i ≡ length c.args.labels.now = omega arith in
-    compared_all c.args.labels.now c.args.list.now c.requires.labels_len_bound.1 (rw all at c.loop-i.invariant.1)
+    compared_all c.args.labels.now c.args.list.now c.requires.labels_len_bound.1 (rw all at c.loop-i.invariant)

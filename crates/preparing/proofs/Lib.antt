@@ -1,2 +1,0 @@
--- What the answer of deciding tells, by its cases.
-pub mod Told
