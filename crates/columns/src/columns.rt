@@ -38,17 +38,15 @@ fn number_groups(
     ensures { ColumnsNumbered least.now byte_count firsts.new columns.new result }
 {
     let mut count: usize = 0;
-    let mut byte: usize = 0;
-    while byte < BYTE_COUNT {
-        let first = least[byte] as usize;
+    for (byte, &least) in least.iter().enumerate() {
+        let first = usize::from(least);
         if first == byte {
-            firsts[count] = byte as u8;
+            firsts[count] = least;
             columns[byte] = count as u8;
             count += 1;
         } else {
             columns[byte] = columns[first];
         }
-        byte += 1;
     }
     count
 }
@@ -70,16 +68,13 @@ pub fn columns_of(
 {
     let mut least = [0u8; BYTE_COUNT];
     let mut known = [0u8; KNOWN_COUNT];
-    let end = MOST_STATES * count;
-    let mut entry = 0;
-    while entry < end {
+    for entry in 0..MOST_STATES * count {
         let piece = entry / MOST_STATES;
         let state = entry % MOST_STATES;
         if has_bit(rows[ROW_WORDS * piece + 2], state) {
             let number = start_code_at(rows, piece, state);
             look_at(classes, number, &mut known, &mut least);
         }
-        entry += 1;
     }
     number_groups(&least, firsts, columns)
 }

@@ -19,11 +19,7 @@ pub const KNOWN_COUNT: usize = 514;
 fn place_of(first: u8, takes: bool) -> usize
     ensures { (takes ≡ true → result ≡ 2 * first + 1) × (takes ≡ false → result ≡ 2 * first) × (result < place_count) }
 {
-    let place = 2 * (first as usize);
-    if takes {
-        return place + 1;
-    }
-    place
+    2 * usize::from(first) + usize::from(takes)
 }
 
 // The first byte that came to the place: this one where none has.
@@ -32,7 +28,7 @@ fn first_at(firsts: &mut [u16; PLACE_COUNT], place: usize, byte: u8) -> u8
     ensures { Comes firsts.old firsts.new place byte result }
 {
     if firsts[place] == NONE {
-        firsts[place] = byte as u16;
+        firsts[place] = u16::from(byte);
         return byte;
     }
     firsts[place] as u8
@@ -44,12 +40,10 @@ fn part(classes: &[u8], number: u16, least: &mut [u8; BYTE_COUNT])
     ensures { Parted classes.now number least.old least.new }
 {
     let mut firsts = [NONE; PLACE_COUNT];
-    let mut byte = 0;
-    while byte < BYTE_COUNT {
+    for (byte, first) in least.iter_mut().enumerate() {
         let takes = takes_byte(classes, number, byte as u8);
-        let place = place_of(least[byte], takes);
-        least[byte] = first_at(&mut firsts, place, byte as u8);
-        byte += 1;
+        let place = place_of(*first, takes);
+        *first = first_at(&mut firsts, place, byte as u8);
     }
 }
 
@@ -58,7 +52,7 @@ fn first_time(known: &mut [u8; KNOWN_COUNT], number: u16) -> bool
     ensures { (result ≡ false → get_or known.old number 0 ≡ 1)
         × NotedToo number known.old known.new }
 {
-    let at = number as usize;
+    let at = usize::from(number);
     if at < KNOWN_COUNT {
         if known[at] == 1 {
             return false;

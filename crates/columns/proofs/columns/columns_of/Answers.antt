@@ -1,9 +1,9 @@
 -- `columns::columns::columns_of` meets its contract. The loop's invariant: each byte has the least that the leaves
--- before this entry take alike, and only their numbers are noted. The measure is how many entries are left.
-use native.Mathlib.Omega.{arith}
+-- before this entry take alike, and only their numbers are noted.
+use Rattle.std.proofs.Common.{arith}
 use Rattle.columns.specs.Parting.{known_count}
 use Rattle.columns.specs.PartingLaws.{looking_none, looking_as, looking_past, looking_next, looking_all}
-use Rattle.columns.specs.ColumnNumberingLaws.{least_grouped, some_group, columned}
+use Rattle.columns.specs.ColumnNumberingLaws.{least_grouped, columned}
 use Rattle.columns.proofs.columns.columns_of.Goals as goal
 use Rattle.columns.proofs.columns.columns_of.Goals.{then-has_bit, else-has_bit}
 
@@ -31,11 +31,6 @@ number_groups-requires c =
     let asked = c.requires in
     (least_grouped c.loop-entry.invariant.1.parts, asked.1, asked.2)
 
-pub returns : goal.returns
-returns c =
-    let (at_most, so_far) = c.loop-entry.invariant in
-    let numbered = c.number_groups.ensures in record {
-      lower_bound = (some_group numbered, numbered.few, numbered.firsts_long);
-      columned = λ t prepared. columned prepared
-          (looking_all so_far (omega (arith, at_most, c.loop-entry-test.false))) numbered;
-    }
+pub returns-clause-columned : goal.returns-clause-columned
+returns-clause-columned c = λ t prepared.
+    columned prepared (looking_all c.loop-entry.invariant.1 (omega arith)) c.number_groups.ensures

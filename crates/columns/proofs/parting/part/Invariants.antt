@@ -1,14 +1,8 @@
 -- `columns::parting::part` meets its contract. The loop's invariant: the bytes before this one have come to their
--- places, and each has the first of its place. The measure is how many are left.
-use Prim.Native.Nat.{◌-◌}
-use Rattle.machines.specs.Columns.{byte_count}
+-- places, and each has the first of its place.
 use Rattle.columns.specs.Parting.{Parting}
 use Rattle.columns.proofs.parting.part.Given as goal
 
 abbrev pub invariant-loop-byte : goal.invariant-loop-byte
 invariant-loop-byte l =
     Parting l.classes l.number l.initial.least l.least l.firsts l.byte
-
-abbrev pub decreases-loop-byte : goal.decreases-loop-byte
-decreases-loop-byte l =
-    byte_count - l.byte
