@@ -1,6 +1,6 @@
 -- What the readers of a class's items, and of a whole class, promise: the class that the reading finds, with its
 -- values.
-use Rattle.std.specs.Prelude.{ℕ, ◌+◌, ◌≤◌, ◌<◌, ◌≡◌, refl, Bool, true, false, List, [], ◌∷◌, length, drop, get_or}
+use Rattle.std.specs.Prelude.{ℕ, ◌+◌, ◌≤◌, ◌<◌, ◌≡◌, refl, Bool, true, false, List, [], ◌∷◌, Option, Some, None, length, drop, get_or}
 use Rattle.std.proofs.Common.{ap, ◌∙◌, arith}
 use Rattle.classes.specs.Class.{Item, from_to, Class, the_dot, unread, opened, item_due}
 use Rattle.classes.specs.ClassRun.{ClassRan, found, failed}
@@ -8,19 +8,19 @@ use Rattle.classes.specs.ClassComplete.{class_of_items}
 use Rattle.classes.specs.ClassReading.{
   class_run_from,
   ItemHere,
-  BadItem,
   count_fits,
+  EndHere,
+  NothingDue,
+  unfit,
+  no_item,
   items_fit_count,
   ends_whole,
   ends_faulty,
   opened_caret,
   opened_plainly,
-  runs_out,
 }
 use Rattle.classes.specs.ClassAt.{run_at, class_at, ClassHere, dot_here, bracket_here}
 use Rattle.classes.specs.Members.{Members, EveryValue, Put, item_value, filled_members, put_members, value_count}
-use Rattle.classes.specs.declared.part.ClassPart.{ClassPart}
-use Rattle.classes.specs.declared.part.ClassPart.TheVariants.{Read, Faulty}
 
 -- a reading of a class finds one that ends at `next`, and these are its values
 pub record ClassFound (bytes : List ℕ) (at next : ℕ) (ran : ClassRan) (members : List ℕ) : Type 0 where
@@ -35,9 +35,9 @@ pub record ClassLost (ran : ClassRan) : Type 0 where
   pub fails : ran ≡ failed
 
 -- what a reader of a class from `at` on answers, for the reading that it does
-abbrev pub ClassAnswer : (bytes : List ℕ) (at : ℕ) → ClassRan → (members : List ℕ) → ClassPart → Type 0
-ClassAnswer bytes at ran members (Read next) = ClassFound bytes at next ran members
-ClassAnswer bytes at ran members Faulty = ClassLost ran
+abbrev pub ClassAnswer : (bytes : List ℕ) (at : ℕ) → ClassRan → (members : List ℕ) → Option ℕ → Type 0
+ClassAnswer bytes at ran members (Some next) = ClassFound bytes at next ran members
+ClassAnswer bytes at ran members None = ClassLost ran
 
 -- so many items were read from `at` up to `place`, and these are the values so far
 pub record ItemsSoFar (bytes : List ℕ) (at : ℕ) (all_but : Bool) (place count : ℕ) (members : List ℕ) : Type 0 where
@@ -73,34 +73,27 @@ module _ {bytes : List ℕ} {at : ℕ} {all_but : Bool} where
 
   module _ {place count : ℕ} {members : List ℕ} (s : ItemsSoFar bytes at all_but place count members) where
     -- the `]` ends the class
-    pub items_ended : place < length bytes → get_or bytes place 0 ≡ 93 → count_fits count ≡ true
+    pub items_ended : EndHere bytes place count
         → ClassFound bytes at (place + 1) (class_run_from bytes at (class_of_items all_but []) item_due) members
-    items_ended h e fits =
+    items_ended end =
         record {
           class = class_of_items all_but s.items;
-          finds = s.on ∙ ends_whole bytes place h (class_of_items all_but s.items) e
-              (items_fit_count s.items ∙ ap count_fits s.counted ∙ fits);
+          finds = s.on ∙ ends_whole bytes place end.inside (class_of_items all_but s.items) end.ending
+              (items_fit_count s.items ∙ ap count_fits s.counted ∙ end.fits);
           told = s.told;
           further = omega (arith, s.onward);
-          within = omega arith;
+          within = omega (arith, end.inside);
         }
 
-    -- with no item, or more than 16
-    pub items_unfit : place < length bytes → get_or bytes place 0 ≡ 93 → count_fits count ≡ false
+    -- the `]` comes with no item before it, or more than 16, or no item follows
+    pub items_broken : NothingDue bytes place count
         → ClassLost (class_run_from bytes at (class_of_items all_but []) item_due)
-    items_unfit h e fits =
+    items_broken (unfit h e fits) =
         record {
           fails = s.on ∙ ends_faulty bytes place h (class_of_items all_but s.items) e
               (items_fit_count s.items ∙ ap count_fits s.counted ∙ fits);
         }
-
-    -- no item follows
-    pub items_broken : BadItem bytes place → ClassLost (class_run_from bytes at (class_of_items all_but []) item_due)
-    items_broken bad = record { fails = s.on ∙ bad.fails (class_of_items all_but s.items) }
-
-    -- the end comes
-    pub items_cut : place ≡ length bytes → ClassLost (class_run_from bytes at (class_of_items all_but []) item_due)
-    items_cut e = record { fails = s.on ∙ runs_out bytes place (class_of_items all_but s.items) item_due e }
+    items_broken (no_item bad) = record { fails = s.on ∙ bad.fails (class_of_items all_but s.items) }
 
 -- the same without the values: items that are passed over, whether all but those are taken or not
 pub record ClassEnded (bytes : List ℕ) (at next : ℕ) (ran : ClassRan) : Type 0 where
@@ -110,9 +103,9 @@ pub record ClassEnded (bytes : List ℕ) (at next : ℕ) (ran : ClassRan) : Type
   pub within : next ≤ length bytes
 
 -- what passing over a class answers, for the reading that it does
-abbrev pub EndAnswer : (bytes : List ℕ) (at : ℕ) → ClassRan → ClassPart → Type 0
-EndAnswer bytes at ran (Read next) = ClassEnded bytes at next ran
-EndAnswer bytes at ran Faulty = ClassLost ran
+abbrev pub EndAnswer : (bytes : List ℕ) (at : ℕ) → ClassRan → Option ℕ → Type 0
+EndAnswer bytes at ran (Some next) = ClassEnded bytes at next ran
+EndAnswer bytes at ran None = ClassLost ran
 
 -- for both senses of the items
 pub record ItemsEnded (bytes : List ℕ) (at next : ℕ) : Type 0 where
@@ -121,12 +114,12 @@ pub record ItemsEnded (bytes : List ℕ) (at next : ℕ) : Type 0 where
 pub record ItemsLost (bytes : List ℕ) (at : ℕ) : Type 0 where
   pub both : (all_but : Bool) → ClassLost (class_run_from bytes at (class_of_items all_but []) item_due)
 
-abbrev pub ItemsEndAnswer : (bytes : List ℕ) (at : ℕ) → ClassPart → Type 0
-ItemsEndAnswer bytes at (Read next) = ItemsEnded bytes at next
-ItemsEndAnswer bytes at Faulty = ItemsLost bytes at
+abbrev pub ItemsEndAnswer : (bytes : List ℕ) (at : ℕ) → Option ℕ → Type 0
+ItemsEndAnswer bytes at (Some next) = ItemsEnded bytes at next
+ItemsEndAnswer bytes at None = ItemsLost bytes at
 
 -- what passing over the class at a `[` answers
-abbrev pub ClassEndAnswer : (bytes : List ℕ) (at : ℕ) → ClassPart → Type 0
+abbrev pub ClassEndAnswer : (bytes : List ℕ) (at : ℕ) → Option ℕ → Type 0
 ClassEndAnswer bytes at r = EndAnswer bytes at (run_at bytes at) r
 
 -- so many items were passed from `at` up to `place`
@@ -154,39 +147,28 @@ one_more_passed {first = begin} {last = end} s item =
     }
 
 module _ {bytes : List ℕ} {at place count : ℕ} (s : ItemsPassed bytes at place count) where
-  pub passed_ended : place < length bytes → get_or bytes place 0 ≡ 93 → count_fits count ≡ true
-      → ItemsEnded bytes at (place + 1)
-  passed_ended h e fits =
+  pub passed_ended : EndHere bytes place count → ItemsEnded bytes at (place + 1)
+  passed_ended end =
       record {
         both = λ all_but. record {
           class = class_of_items all_but s.items;
-          finds = s.on all_but ∙ ends_whole bytes place h (class_of_items all_but s.items) e
-              (items_fit_count s.items ∙ ap count_fits s.counted ∙ fits);
+          finds = s.on all_but ∙ ends_whole bytes place end.inside (class_of_items all_but s.items) end.ending
+              (items_fit_count s.items ∙ ap count_fits s.counted ∙ end.fits);
           further = omega (arith, s.onward);
-          within = omega arith;
+          within = omega (arith, end.inside);
         };
       }
 
-  pub passed_unfit : place < length bytes → get_or bytes place 0 ≡ 93 → count_fits count ≡ false → ItemsLost bytes at
-  passed_unfit h e fits =
+  pub passed_broken : NothingDue bytes place count → ItemsLost bytes at
+  passed_broken (unfit h e fits) =
       record {
         both = λ all_but. record {
           fails = s.on all_but ∙ ends_faulty bytes place h (class_of_items all_but s.items) e
               (items_fit_count s.items ∙ ap count_fits s.counted ∙ fits);
         };
       }
-
-  pub passed_broken : BadItem bytes place → ItemsLost bytes at
-  passed_broken bad =
+  passed_broken (no_item bad) =
       record { both = λ all_but. record { fails = s.on all_but ∙ bad.fails (class_of_items all_but s.items) } }
-
-  pub passed_cut : place ≡ length bytes → ItemsLost bytes at
-  passed_cut e =
-      record {
-        both = λ all_but. record {
-          fails = s.on all_but ∙ runs_out bytes place (class_of_items all_but s.items) item_due e;
-        };
-      }
 
 -- the reading from after a `[` is that of the items
 from_bracket : (bytes : List ℕ) (at : ℕ) → run_at bytes at ≡ class_run_from bytes (at + 1) unread opened
@@ -194,9 +176,9 @@ unfolding run_at class_run_from
 from_bracket bytes at = refl
 
 -- an answer about one reading is one about another that is the same
-class_answer_of : (bytes : List ℕ) (at at' : ℕ) (ran ran' : ClassRan) (members : List ℕ) (r : ClassPart) → ran' ≡ ran
+class_answer_of : (bytes : List ℕ) (at at' : ℕ) (ran ran' : ClassRan) (members : List ℕ) (r : Option ℕ) → ran' ≡ ran
     → at' ≤ at → ClassAnswer bytes at ran members r → ClassAnswer bytes at' ran' members r
-class_answer_of bytes at at' ran ran' members (Read next) e h a =
+class_answer_of bytes at at' ran ran' members (Some next) e h a =
     record {
       class = a.class;
       finds = e ∙ a.finds;
@@ -204,9 +186,9 @@ class_answer_of bytes at at' ran ran' members (Read next) e h a =
       further = omega (arith, a.further);
       within = a.within;
     }
-class_answer_of bytes at at' ran ran' members Faulty e h a = record { fails = e ∙ a.fails }
+class_answer_of bytes at at' ran ran' members None e h a = record { fails = e ∙ a.fails }
 
-module _ (bytes : List ℕ) (at : ℕ) (members : List ℕ) (r : ClassPart) where
+module _ (bytes : List ℕ) (at : ℕ) (members : List ℕ) (r : Option ℕ) where
   -- a class with a `^`
   pub class_but : at + 1 < length bytes → get_or bytes (at + 1) 0 ≡ 94
       → ClassAnswer bytes (at + 2) (class_run_from bytes (at + 2) (class_of_items true []) item_due) members r
@@ -226,15 +208,15 @@ module _ (bytes : List ℕ) (at : ℕ) (members : List ℕ) (r : ClassPart) wher
       (from_bracket bytes at ∙ opened_plainly bytes (at + 1) unread h no-caret) (omega arith) a
 
 -- passing over the items passes over the class
-end_answer_of : (bytes : List ℕ) (at at' : ℕ) (all_but : Bool) (ran' : ClassRan) (r : ClassPart)
+end_answer_of : (bytes : List ℕ) (at at' : ℕ) (all_but : Bool) (ran' : ClassRan) (r : Option ℕ)
     → ran' ≡ class_run_from bytes at (class_of_items all_but []) item_due → at' ≤ at → ItemsEndAnswer bytes at r
     → EndAnswer bytes at' ran' r
-end_answer_of bytes at at' all_but ran' (Read next) e h a =
+end_answer_of bytes at at' all_but ran' (Some next) e h a =
     let b = a.both all_but in
     record { class = b.class; finds = e ∙ b.finds; further = omega (arith, b.further); within = b.within }
-end_answer_of bytes at at' all_but ran' Faulty e h a = record { fails = e ∙ (a.both all_but).fails }
+end_answer_of bytes at at' all_but ran' None e h a = record { fails = e ∙ (a.both all_but).fails }
 
-module _ (bytes : List ℕ) (at : ℕ) (r : ClassPart) where
+module _ (bytes : List ℕ) (at : ℕ) (r : Option ℕ) where
   pub end_but : at + 1 < length bytes → get_or bytes (at + 1) 0 ≡ 94 → ItemsEndAnswer bytes (at + 2) r
       → ClassEndAnswer bytes at r
   end_but h e a =
@@ -265,13 +247,13 @@ lost_none : {class : Class} {rest : List ℕ} {next : ℕ} {A : Type 0} (ran : C
 lost_none ran e f = let z : ◌≡◌ {A = ℕ} 0 1 = cc in absurd (omega arith)
 
 -- where a `[` with a class stands, the values told are those of the class at that place
-pub members_at : (bytes : List ℕ) (at : ℕ) (members : List ℕ) (r : ClassPart) → ClassHere bytes at
+pub members_at : (bytes : List ℕ) (at : ℕ) (members : List ℕ) (r : Option ℕ) → ClassHere bytes at
     → (get_or bytes at 0 ≡ 46 → ⊥) → ClassAnswer bytes at (run_at bytes at) members r
     → Members (class_at bytes at) members
 members_at bytes at members r (dot_here h e) no-dot a = absurd (no-dot e)
-members_at bytes at members (Read next) (bracket_here h e f) no-dot a =
+members_at bytes at members (Some next) (bracket_here h e f) no-dot a =
     rw (found_at bytes at a.class _ next e a.finds) a.told
-members_at bytes at members Faulty (bracket_here h e f) no-dot a = lost_none (run_at bytes at) a.fails f
+members_at bytes at members None (bracket_here h e f) no-dot a = lost_none (run_at bytes at) a.fails f
 
 pub inside_at : (bytes : List ℕ) (at : ℕ) → ClassHere bytes at → at < length bytes
 inside_at bytes at (dot_here h e) = h

@@ -1,5 +1,5 @@
 -- What the readers of a byte, an item and the items of a class promise: how the reading of the class goes on after it.
-use Rattle.std.specs.Prelude.{ℕ, ◌+◌, ◌≤◌, ◌<◌, ◌≡◌, refl, Bool, true, false, cond, List, [], ◌∷◌, length, drop, get_or, eqb, ltb}
+use Rattle.std.specs.Prelude.{ℕ, ◌+◌, ◌≤◌, ◌<◌, ◌≡◌, refl, Bool, true, false, cond, List, [], ◌∷◌, Option, Some, None, length, drop, get_or, eqb, ltb}
 use Rattle.std.proofs.Common.{ap, sym, ◌∙◌, subst, arith, add-one, length-drop, drop-cons, lt-ltb, ne_eqb}
 use Rattle.std.proofs.Math.Decide.{dec_lt}
 use Rattle.std.proofs.Math.Seq.{drop-length}
@@ -39,10 +39,10 @@ use Rattle.classes.specs.ClassComplete.{
   no_slash,
 }
 use Rattle.classes.specs.ClassSound.{ClassMeans, class_sign_means}
-use Rattle.classes.specs.declared.part.BytePart.{BytePart}
-use Rattle.classes.specs.declared.part.BytePart.TheVariants.{Read as Byte-found, Faulty as No-byte}
-use Rattle.classes.specs.declared.part.ItemPart.{ItemPart}
-use Rattle.classes.specs.declared.part.ItemPart.TheVariants.{Read as Item-found, Faulty as No-item}
+use Rattle.classes.specs.declared.part.ClassByte.{ClassByte}
+use Rattle.classes.specs.declared.part.ClassItem.{ClassItem}
+use Rattle.classes.specs.declared.part.Due.{Due}
+use Rattle.classes.specs.declared.part.Due.TheVariants.{Item as Item-due, End}
 
 -- the reading of a class from a place on, where this much was read of it
 unfoldable pub class_run_from : List ℕ → ℕ → Class → Inside → ClassRan
@@ -63,9 +63,9 @@ pub data BadByte : List ℕ → Type 0 where
   wrong_slash : {b : ℕ} {rest : List ℕ} → needs_slash (class_sign b) ≡ false → BadByte (92 ∷ b ∷ rest)
 
 -- what the reader of a byte answers
-abbrev pub ByteAnswer : (bytes : List ℕ) (at : ℕ) → BytePart → Type 0
-ByteAnswer bytes at (Byte-found b next) = ByteHere bytes at b next
-ByteAnswer bytes at No-byte = BadByte (drop at bytes)
+abbrev pub ByteAnswer : (bytes : List ℕ) (at : ℕ) → Option ClassByte → Type 0
+ByteAnswer bytes at (Some byte) = ByteHere bytes at byte.byte byte.next
+ByteAnswer bytes at None = BadByte (drop at bytes)
 
 -- an item from `at` up to `next`, whatever was read of the class before it
 pub record ItemHere (bytes : List ℕ) (at first last next : ℕ) : Type 0 where
@@ -80,9 +80,9 @@ pub record BadItem (bytes : List ℕ) (at : ℕ) : Type 0 where
   pub fails : (class : Class) → class_run_from bytes at class item_due ≡ failed
 
 -- what the reader of an item answers
-abbrev pub ItemAnswer : (bytes : List ℕ) (at : ℕ) → ItemPart → Type 0
-ItemAnswer bytes at (Item-found first last next) = ItemHere bytes at first last next
-ItemAnswer bytes at No-item = BadItem bytes at
+abbrev pub ItemAnswer : (bytes : List ℕ) (at : ℕ) → Option ClassItem → Type 0
+ItemAnswer bytes at (Some item) = ItemHere bytes at item.first item.last item.next
+ItemAnswer bytes at None = BadItem bytes at
 
 -- a range with this first byte, whose last byte is written from `at` up to `next`
 pub record RangeHere (bytes : List ℕ) (first at first' last next : ℕ) : Type 0 where
@@ -98,9 +98,9 @@ pub record BadRange (bytes : List ℕ) (first at : ℕ) : Type 0 where
   pub fails : (class : Class) → class_run_from bytes at class (last_due first) ≡ failed
 
 -- what the reader of a range's last byte answers
-abbrev pub RangeAnswer : (bytes : List ℕ) (first at : ℕ) → ItemPart → Type 0
-RangeAnswer bytes first at (Item-found first' last next) = RangeHere bytes first at first' last next
-RangeAnswer bytes first at No-item = BadRange bytes first at
+abbrev pub RangeAnswer : (bytes : List ℕ) (first at : ℕ) → Option ClassItem → Type 0
+RangeAnswer bytes first at (Some item) = RangeHere bytes first at item.first item.last item.next
+RangeAnswer bytes first at None = BadRange bytes first at
 
 -- at the end, or before a byte, the list that is left
 pub left_at_end : (bytes : List ℕ) (at : ℕ) → at ≡ length bytes → drop at bytes ≡ []
@@ -109,37 +109,45 @@ left_at_end bytes at e = rw (e, drop-length)
 pub left_at : (bytes : List ℕ) (at : ℕ) → at < length bytes → drop at bytes ≡ get_or bytes at 0 ∷ drop (at + 1) bytes
 left_at bytes at h = rw add-one (drop-cons bytes at 0 h)
 
+-- this byte stands at a place
+abbrev pub ByteAt : (bytes : List ℕ) (at b : ℕ) → Type 0
+ByteAt bytes at b = (at < length bytes) × ((d : ℕ) → b ≡ get_or bytes at d)
+
+left_of : (bytes : List ℕ) (at b : ℕ) → ByteAt bytes at b → drop at bytes ≡ b ∷ drop (at + 1) bytes
+left_of bytes at b h = rw (h.1 0) (left_at bytes at h.0)
+
 module _ (bytes : List ℕ) (at : ℕ) where
   -- a byte that needs no `\`
-  pub found_bare : at < length bytes → needs_slash (class_sign (get_or bytes at 0)) ≡ false
-      → ByteHere bytes at (get_or bytes at 0) (at + 1)
-  found_bare h p = record { spelled = rw (left_at bytes at h) (bare p); further = omega arith; within = omega arith }
+  pub found_bare : {b : ℕ} → ByteAt bytes at b → needs_slash (class_sign b) ≡ false → ByteHere bytes at b (at + 1)
+  found_bare {b} h p =
+      record { spelled = rw (left_of bytes at b h) (bare p); further = omega arith; within = omega (arith, h.0) }
 
-  -- one that does, after its `\`
-  pub found_slashed : at + 1 < length bytes → get_or bytes at 0 ≡ 92
-      → needs_slash (class_sign (get_or bytes (at + 1) 0)) ≡ true
-      → ByteHere bytes at (get_or bytes (at + 1) 0) (at + 1 + 1)
-  found_slashed h e p =
-      record {
-        spelled = rw (left_at bytes at (omega arith), e, left_at bytes (at + 1) h) (slashed p);
-        further = omega arith;
-        within = omega arith;
-      }
+  -- no byte, and one that needs a `\` and has none
+  pub bad_end : at ≤ length bytes → length bytes ≤ at → BadByte (drop at bytes)
+  bad_end h k = rw (left_at_end bytes at (omega arith)) at_end
 
-  -- the faults
-  pub bad_end : at ≡ length bytes → BadByte (drop at bytes)
-  bad_end e = rw (left_at_end bytes at e) at_end
-
-  pub bad_bare : at < length bytes → (get_or bytes at 0 ≡ 92 → ⊥) → needs_slash (class_sign (get_or bytes at 0)) ≡ true
+  pub bad_bare : {b : ℕ} → ByteAt bytes at b → (b ≡ 92 → ⊥) → needs_slash (class_sign b) ≡ true
       → BadByte (drop at bytes)
-  bad_bare h k p = rw (left_at bytes at h) (bare_sign p k)
+  bad_bare {b} h k p = rw (left_of bytes at b h) (bare_sign p k)
 
-  pub bad_last : at + 1 ≡ length bytes → get_or bytes at 0 ≡ 92 → BadByte (drop at bytes)
-  bad_last h e = rw (left_at bytes at (omega arith), e, left_at_end bytes (at + 1) h) last_slash
+  module _ {slash : ℕ} (h : ByteAt bytes at slash) (e : slash ≡ 92) where
+    -- after a `\`: a byte that needs one, the end, and another byte
+    pub found_slashed : {b : ℕ} → ByteAt bytes (at + 1) b → needs_slash (class_sign b) ≡ true
+        → ByteHere bytes at b (at + 2)
+    found_slashed {b} k p =
+        let two : at + 2 ≡ at + 1 + 1 = omega arith in
+        record {
+          spelled = rw (left_of bytes at slash h, e, left_of bytes (at + 1) b k, two) (slashed p);
+          further = omega arith;
+          within = omega (arith, k.0);
+        }
 
-  pub bad_slash : at + 1 < length bytes → get_or bytes at 0 ≡ 92
-      → needs_slash (class_sign (get_or bytes (at + 1) 0)) ≡ false → BadByte (drop at bytes)
-  bad_slash h e p = rw (left_at bytes at (omega arith), e, left_at bytes (at + 1) h) (wrong_slash p)
+    pub bad_last : length bytes ≤ at + 1 → BadByte (drop at bytes)
+    bad_last k =
+        rw (left_of bytes at slash h, e, left_at_end bytes (at + 1) (omega (arith, h.0))) last_slash
+
+    pub bad_slash : {b : ℕ} → ByteAt bytes (at + 1) b → needs_slash (class_sign b) ≡ false → BadByte (drop at bytes)
+    bad_slash {b} k p = rw (left_of bytes at slash h, e, left_of bytes (at + 1) b k) (wrong_slash p)
 
 -- the place after so many bytes
 same_place : (bytes : List ℕ) (at next there : ℕ) → at ≤ length bytes → next ≤ length bytes
@@ -298,12 +306,13 @@ module _ {bytes : List ℕ} {at : ℕ} where
       record { fails = λ class. byte_on r class ∙ dash_on bytes between h e class first ∙ q.fails class }
 
   -- no byte where an item begins
-  pub bad_byte_item : at < length bytes → (get_or bytes at 0 ≡ 93 → ⊥) → BadByte (drop at bytes) → BadItem bytes at
+  pub bad_byte_item : at ≤ length bytes → (at < length bytes → get_or bytes at 0 ≡ 93 → ⊥) → BadByte (drop at bytes)
+      → BadItem bytes at
   unfolding class_run_from
-  bad_byte_item h no_end bad =
+  bad_byte_item within no_end bad =
       let open_end : NoEnding (drop at bytes) =
-      left_holds NoEnding bytes at (omega arith) tt
-      (λ h. sign_byte (get_or bytes at 0) _ (class_sign_means (get_or bytes at 0)) no_end) in
+      left_holds NoEnding bytes at within tt
+      (λ h. sign_byte (get_or bytes at 0) _ (class_sign_means (get_or bytes at 0)) (no_end h)) in
       record { fails = λ class. bad_due bad open_end at class }
 
   pub bad_byte_range : (first : ℕ) → BadByte (drop at bytes) → BadRange bytes first at
@@ -313,6 +322,23 @@ module _ {bytes : List ℕ} {at : ℕ} where
 -- whether there are 1 to 16 items, by their count
 abbrev pub count_fits : ℕ → Bool
 count_fits n = cond (eqb n 0) false (cond (ltb most_items n) false true)
+
+-- the `]` stands at a place, after so many items that the class may end
+pub record EndHere (bytes : List ℕ) (at count : ℕ) : Type 0 where
+  pub inside : at < length bytes
+  pub ending : get_or bytes at 0 ≡ 93
+  pub fits : count_fits count ≡ true
+
+-- neither an item nor such a `]` stands there
+pub data NothingDue (bytes : List ℕ) (at count : ℕ) : Type 0 where
+  unfit : at < length bytes → get_or bytes at 0 ≡ 93 → count_fits count ≡ false → NothingDue bytes at count
+  no_item : BadItem bytes at → NothingDue bytes at count
+
+-- what the reader of what is due answers
+abbrev pub DueAnswer : (bytes : List ℕ) (at count : ℕ) → Option Due → Type 0
+DueAnswer bytes at count (Some (Item-due item)) = ItemHere bytes at item.first item.last item.next
+DueAnswer bytes at count (Some End) = EndHere bytes at count
+DueAnswer bytes at count None = NothingDue bytes at count
 
 pub items_fit_count : (items : List Item) → items_fit items ≡ count_fits (length items)
 items_fit_count [] = refl
@@ -337,12 +363,6 @@ module _ (bytes : List ℕ) (at : ℕ) (h : at < length bytes) (class : Class) w
       ≡ class_run_from bytes (at + 1) (class_of_items true class.items) item_due
   unfolding class_run_from class_run
   opened_caret e = rw (left_at bytes at h, e)
-
--- the end comes in the class
-pub runs_out : (bytes : List ℕ) (at : ℕ) (class : Class) (inside : Inside) → at ≡ length bytes
-    → class_run_from bytes at class inside ≡ failed
-unfolding class_run_from class_run
-runs_out bytes at class inside e = rw (left_at_end bytes at e)
 
 -- no `^` right after the `[`: an item is due
 pub opened_plainly : (bytes : List ℕ) (at : ℕ) (class : Class) → at ≤ length bytes

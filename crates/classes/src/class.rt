@@ -1,16 +1,22 @@
 // A class: from its `[` to its `]`, 1 to 16 items, each a byte or a range.
-ghost use Rattle.std.specs.Prelude.{◌≡◌, [], ◌+◌, ◌≤◌, ◌<◌, length, get_or};
-ghost use Rattle.tree.specs.Says.{Says};
+ghost use Rattle.std.specs.Prelude.{◌≡◌, [], ◌≤◌, ◌<◌, length, get_or};
 ghost use Rattle.classes.specs.Class.{class_sign, needs_slash, item_due};
 ghost use Rattle.classes.specs.ClassComplete.{class_of_items};
-ghost use Rattle.classes.specs.ClassReading.{class_run_from, ByteAnswer, ItemAnswer, RangeAnswer, count_fits};
+ghost use Rattle.classes.specs.ClassReading.{
+  class_run_from,
+  ByteAnswer,
+  ItemAnswer,
+  RangeAnswer,
+  DueAnswer,
+  count_fits,
+};
 ghost use Rattle.classes.specs.ClassAt.{run_at};
-ghost use Rattle.classes.specs.Members.{Members, value_count, item_value};
+ghost use Rattle.classes.specs.Members.{Members, value_count};
 ghost use Rattle.classes.specs.ClassItems.{ClassAnswer, ItemsEndAnswer, ClassEndAnswer};
 
 use crate::members::{set_all, set_range};
-use crate::part::{BytePart, ClassPart, ItemPart};
-use tree::layout::wide;
+use crate::part::{ClassByte, ClassItem, Due};
+use tree::bytes::stands_at;
 
 // How many items a class has at most.
 const MOST_ITEMS: usize = 16;
@@ -19,141 +25,101 @@ const MOST_ITEMS: usize = 16;
 fn must_be_escaped(byte: u8) -> bool
     ensures { result ≡ needs_slash (class_sign byte) }
 {
-    if byte == b'\\' {
-        return true;
-    }
-    if byte == b']' {
-        return true;
-    }
-    if byte == b'^' {
-        return true;
-    }
-    byte == b'-'
-}
-
-// Whether this byte stands at a place.
-fn stands_at(expr: &[u8], at: usize, byte: u8) -> bool
-    ensures { Says ((at < length expr.now) × (get_or expr.now at 0 ≡ byte)) result }
-{
-    if at < expr.len() {
-        if expr[at] == byte {
-            return true;
-        }
-    }
-    false
+    matches!(byte, b'\\' | b']' | b'^' | b'-')
 }
 
 // Whether a class may have so many items.
 fn may_have(count: usize) -> bool
     ensures { result ≡ count_fits count }
 {
-    if count == 0 {
-        return false;
-    }
-    if count > MOST_ITEMS {
-        return false;
-    }
-    true
+    matches!(count, 1..=MOST_ITEMS)
 }
 
 // Reads one byte of a class: itself, or after its `\`.
-fn class_byte(expr: &[u8], at: usize) -> BytePart
+fn class_byte(expr: &[u8], at: usize) -> Option<ClassByte>
     requires { at ≤ length expr.now }
     ensures { ByteAnswer expr.now at result }
 {
-    if at == expr.len() {
-        return BytePart::Faulty;
-    }
-    let byte = expr[at];
+    let byte = *expr.get(at)?;
     if byte == b'\\' {
-        let place = at + 1;
-        if place == expr.len() {
-            return BytePart::Faulty;
-        }
-        let escaped = expr[place];
+        let escaped = *expr.get(at + 1)?;
         if must_be_escaped(escaped) {
-            return BytePart::Read {
+            return Some(ClassByte {
                 byte: escaped,
-                next: place + 1,
-            };
+                next: at + 2,
+            });
         }
-        return BytePart::Faulty;
+        return None;
     }
     if must_be_escaped(byte) {
-        return BytePart::Faulty;
+        return None;
     }
-    BytePart::Read { byte, next: at + 1 }
+    Some(ClassByte { byte, next: at + 1 })
 }
 
 // Reads the last byte of a range, from after its `-`.
-fn range(expr: &[u8], first: u8, at: usize) -> ItemPart
+fn range(expr: &[u8], first: u8, at: usize) -> Option<ClassItem>
     requires { at ≤ length expr.now }
     ensures { RangeAnswer expr.now first at result }
 {
-    let end = class_byte(expr, at);
-    let BytePart::Read { byte, next } = end else {
-        return ItemPart::Faulty;
-    };
+    let ClassByte { byte, next } = class_byte(expr, at)?;
     if byte < first {
-        return ItemPart::Faulty;
+        return None;
     }
-    ItemPart::Read {
+    Some(ClassItem {
         first,
         last: byte,
         next,
-    }
+    })
 }
 
 // Reads an item of a class: a byte, or a range.
-fn item(expr: &[u8], at: usize) -> ItemPart
-    requires { (at < length expr.now) × (get_or expr.now at 0 ≡ 93 → ⊥) }
+fn item(expr: &[u8], at: usize) -> Option<ClassItem>
+    requires within { at ≤ length expr.now }
+    requires other { at < length expr.now → get_or expr.now at 0 ≡ 93 → ⊥ }
     ensures { ItemAnswer expr.now at result }
 {
-    let begin = class_byte(expr, at);
-    let BytePart::Read { byte, next } = begin else {
-        return ItemPart::Faulty;
-    };
+    let ClassByte { byte, next } = class_byte(expr, at)?;
     if stands_at(expr, next, b'-') {
         return range(expr, byte, next + 1);
     }
-    ItemPart::Read {
+    Some(ClassItem {
         first: byte,
         last: byte,
         next,
+    })
+}
+
+// Reads what stands where an item is due, after `count` items.
+fn due(expr: &[u8], at: usize, count: usize) -> Option<Due>
+    requires { at ≤ length expr.now }
+    ensures { DueAnswer expr.now at count result }
+{
+    if !stands_at(expr, at, b']') {
+        return Some(Due::Item(item(expr, at)?));
     }
+    if may_have(count) {
+        return Some(Due::End);
+    }
+    None
 }
 
 // Passes over the items of a class up to its `]`. Whether all but those are taken makes no difference here.
-fn items_end(expr: &[u8], at: usize) -> ClassPart
+fn items_end(expr: &[u8], at: usize) -> Option<usize>
     requires { at ≤ length expr.now }
     ensures { ItemsEndAnswer expr.now at result }
 {
     let mut place = at;
     let mut count = 0;
-    while place < expr.len() {
-        if expr[place] == b']' {
-            if may_have(count) {
-                return ClassPart::Read { next: place + 1 };
-            }
-            return ClassPart::Faulty;
-        }
-        let part = item(expr, place);
-        let ItemPart::Read {
-            first: _,
-            last: _,
-            next,
-        } = part
-        else {
-            return ClassPart::Faulty;
-        };
+    while let Due::Item(item) = due(expr, place, count)? {
         count += 1;
-        place = next;
+        place = item.next;
     }
-    ClassPart::Faulty
+    Some(place + 1)
 }
 
 // Passes over the class whose `[` stands at a place.
-pub fn class_end(expr: &[u8], at: usize) -> ClassPart
+pub fn class_end(expr: &[u8], at: usize) -> Option<usize>
     requires { at < length expr.now }
     ensures { ClassEndAnswer expr.now at result }
 {
@@ -163,18 +129,8 @@ pub fn class_end(expr: &[u8], at: usize) -> ClassPart
     items_end(expr, at + 1)
 }
 
-// The number of a value in an item: 0 where all but the items are taken, else 1.
-fn item_value(all_but: bool) -> u8
-    ensures { result ≡ item_value all_but }
-{
-    if all_but {
-        return 0;
-    }
-    1
-}
-
 // Reads the items of a class up to its `]`. `members` tells their values: 0 for each where all but those are taken.
-fn items(expr: &[u8], at: usize, members: &mut [u8], all_but: bool) -> ClassPart
+fn items(expr: &[u8], at: usize, members: &mut [u8], all_but: bool) -> Option<usize>
     requires within { at ≤ length expr.now }
     requires empty { Members (class_of_items all_but []) members.old }
     ensures { ClassAnswer expr.now at
@@ -182,29 +138,24 @@ fn items(expr: &[u8], at: usize, members: &mut [u8], all_but: bool) -> ClassPart
         item_due)
         members.new result }
 {
-    let value = item_value(all_but);
+    let value = u8::from(!all_but);
     let mut place = at;
     let mut count = 0;
-    while place < expr.len() {
-        if expr[place] == b']' {
-            if may_have(count) {
-                return ClassPart::Read { next: place + 1 };
-            }
-            return ClassPart::Faulty;
-        }
-        let part = item(expr, place);
-        let ItemPart::Read { first, last, next } = part else {
-            return ClassPart::Faulty;
-        };
-        set_range(members, wide(first), wide(last), value);
+    while let Due::Item(item) = due(expr, place, count)? {
+        set_range(
+            members,
+            usize::from(item.first),
+            usize::from(item.last),
+            value,
+        );
         count += 1;
-        place = next;
+        place = item.next;
     }
-    ClassPart::Faulty
+    Some(place + 1)
 }
 
 // Reads the class whose `[` stands at a place. `members` tells its values: 1 for each that it takes.
-pub fn class_members(expr: &[u8], at: usize, members: &mut [u8]) -> ClassPart
+pub fn class_members(expr: &[u8], at: usize, members: &mut [u8]) -> Option<usize>
     requires { (at < length expr.now) × (length members.old ≡ value_count) }
     ensures { ClassAnswer expr.now at (run_at expr.now at) members.new result }
 {

@@ -3,22 +3,10 @@ use native.Mathlib.Omega.{arith}
 use Rattle.classes.specs.ClassItems.{end_but, end_only}
 use Rattle.classes.proofs.class.class_end.Goals as goal
 
-pub overflow_add-at-then-stands_at : goal.overflow_add-at-then-stands_at
-overflow_add-at-then-stands_at c =
-    let caret = c.stands_at.ensures.if_so c.if-stands_at.true in omega (arith, caret.0)
-
-pub items_end-requires : goal.items_end-requires
-items_end-requires c =
-    let caret = c.stands_at.ensures.if_so c.if-stands_at.true in omega (arith, caret.0)
-
 pub returns-then-stands_at : goal.returns-then-stands_at
 returns-then-stands_at c =
     let caret = c.stands_at.ensures.if_so c.if-stands_at.true in
     end_but c.args.expr.now c.args.at c.items_end.result caret.0 caret.1 c.items_end.ensures
-
-pub items_end-requires-2 : goal.items_end-requires-2
-items_end-requires-2 c =
-    omega (arith, c.requires)
 
 pub returns : goal.returns
 returns c =

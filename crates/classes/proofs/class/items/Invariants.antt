@@ -4,10 +4,10 @@ use lib.ListN.{length}
 use Rattle.classes.specs.ClassItems.{ItemsSoFar}
 use Rattle.classes.proofs.class.items.Given as goal
 
-abbrev pub invariant-loop-place : goal.invariant-loop-place
-invariant-loop-place l =
+abbrev pub invariant-loop-item : goal.invariant-loop-item
+invariant-loop-item l =
     ItemsSoFar l.expr l.at l.all_but l.place l.count l.members
 
-abbrev pub decreases-loop-place : goal.decreases-loop-place
-decreases-loop-place l =
+abbrev pub decreases-loop-item : goal.decreases-loop-item
+decreases-loop-item l =
     length l.expr - l.place
