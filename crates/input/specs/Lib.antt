@@ -3,3 +3,4 @@ pub mod Part
 pub mod Lines
 pub mod Ends
 pub mod EndLaws
+pub mod Left

@@ -1,52 +1,68 @@
-// Where a line of the input ends, and where the next one begins.
-ghost use Rattle.std.specs.Prelude.{◌≤◌, ◌≡◌, length, get_or, drop};
+// The lines of a text; where one ends, and where the next one begins.
+ghost use Rattle.std.specs.Prelude.{◌≤◌, ◌≡◌, length, drop};
+ghost use Rattle.std.specs.Iterator.{YieldsFirstRef, item_count};
+ghost use Rattle.input.specs.Lines.{lines};
 ghost use Rattle.input.specs.Ends.{end_size, Ends, after_end};
+ghost use Rattle.input.specs.Left.{lines_left};
 
-// What is read past the input: a byte that is in no end.
-const PAST_INPUT: u8 = 0;
-
-// The byte at a place.
-fn byte_at(input: &[u8], place: usize) -> u8
-    ensures { result ≡ get_or input.now place 0 }
-{
-    if place < input.len() {
-        return input[place];
-    }
-    PAST_INPUT
+// The lines of a text that are left.
+#[derive(Drop)]
+pub struct Lines<'a> {
+    rest: &'a [u8],
 }
 
-// How many bytes the end at a place has: 10 alone, or 13 and 10; none where no end stands there.
-fn end_size(input: &[u8], place: usize) -> usize
-    requires { place ≤ length input.now }
-    ensures { result ≡ end_size (drop place input.now) }
+impl<'a> Lines<'a> {
+    // All lines of a text.
+    pub fn of(text: &'a [u8]) -> Lines<'a>
+        ensures { lines_left result ≡ lines text.now }
+    {
+        Lines { rest: text }
+    }
+}
+
+impl<'a> Iterator for Lines<'a> {
+    type Item = &'a [u8];
+
+    ghost next_gives = { YieldsFirstRef lines_left };
+
+    ghost remaining = { item_count lines_left };
+
+    fn next(&mut self) -> Option<&'a [u8]> {
+        if self.rest.is_empty() {
+            return None;
+        }
+        let (line, rest) = self.rest.split_at(line_end(self.rest, 0));
+        self.rest = &rest[end_size(rest)..];
+        Some(line)
+    }
+}
+
+// How many bytes the end at the front has: 10 alone, or 13 and 10; none where no end stands there.
+fn end_size(bytes: &[u8]) -> usize
+    ensures size { result ≡ end_size bytes.now }
+    ensures within { result ≤ length bytes.now }
 {
-    let byte = byte_at(input, place);
-    let next = byte_at(input, place + 1);
-    if byte == 10 {
-        return 1;
+    match bytes {
+        [b'\n', ..] => 1,
+        [b'\r', b'\n', ..] => 2,
+        _ => 0,
     }
-    if byte == 13 && next == 10 {
-        return 2;
-    }
-    0
 }
 
 // The larger of the two bytes that an end can begin with: nearly every byte of a text is above it.
-const LAST_OF_ENDS: u8 = 13;
+const LAST_OF_ENDS: u8 = b'\r';
 
 // The place of the next end from a place on, or the input's length where none stands there.
 pub fn line_end(input: &[u8], start: usize) -> usize
     requires { start ≤ length input.now }
     ensures { Ends input.now start result }
 {
-    let mut end = start;
-    while end < input.len() {
-        if input[end] <= LAST_OF_ENDS && end_size(input, end) > 0 {
-            break;
+    for end in start..input.len() {
+        if input[end] <= LAST_OF_ENDS && end_size(&input[end..]) > 0 {
+            return end;
         }
-        end += 1;
     }
-    end
+    input.len()
 }
 
 // The place where the line after an end begins.
@@ -54,5 +70,5 @@ pub fn next_line(input: &[u8], end: usize) -> usize
     requires { end ≤ length input.now }
     ensures { result ≡ after_end input.now end }
 {
-    end + end_size(input, end)
+    end + end_size(&input[end..])
 }
