@@ -1,14 +1,14 @@
 // The signs after an operand: `*`, and in the second syntax `+`, `?` and `{m,n}`.
-ghost use Rattle.std.specs.Prelude.{◌<◌, ◌≡◌, true, length, get_or};
-ghost use Rattle.operands.specs.Bytes.{syntax_of};
+ghost use Rattle.std.specs.Prelude.{◌<◌, ◌≡◌, length, get_or};
+ghost use Rattle.operands.specs.Bytes.{second, syntax_of};
 ghost use Rattle.operands.specs.Reading.{SignRoom, OneSignAnswer, SignsAnswer};
 
 use counts::count::count;
-use counts::part::CountPart;
 use operands::part::Part;
+use operands::syntax::Syntax;
 use repeats::copies::{more, perhaps, put_note, times};
 use tree::layout::STAR_LABEL;
-use tree::refusal_numbers::COUNT_FAULTY;
+use tree::refusal::{Refusal, Refused};
 
 // Reads the count at a `{` after an operand whose labels begin at `begin`: 16 there where it is not of the form.
 fn counted(
@@ -18,24 +18,29 @@ fn counted(
     begin: usize,
     total: usize,
     places: bool,
-) -> Part
+) -> Result<Part, Refused>
     requires within { at < length expr.now }
     requires brace { get_or expr.now at 0 ≡ 123 }
     requires room { SignRoom expr.now at begin total notes.old }
-    ensures { OneSignAnswer (syntax_of true) places expr.now begin at total
-        notes.old notes.new result }
+    ensures { OneSignAnswer second places expr.now begin at total notes.old notes.new result }
 {
-    let part = count(expr, at);
-    let CountPart::Read { next, fewest, most } = part else {
-        return Part::Refused {
-            number: COUNT_FAULTY,
-            place: at,
-        };
-    };
-    Part::Read {
-        next,
-        count: times(notes, begin, total, fewest, most, at as u16, places),
-    }
+    let found = count(expr, at).ok_or(Refused {
+        refusal: Refusal::CountFaulty,
+        place: at,
+    })?;
+    let labels = times(
+        notes,
+        begin,
+        total,
+        found.fewest,
+        found.most,
+        at as u16,
+        places,
+    );
+    Ok(Part {
+        next: found.next,
+        count: labels,
+    })
 }
 
 // Reads one of the signs that the second syntax alone has; the same place comes back where none stands there.
@@ -46,32 +51,26 @@ fn second_sign(
     begin: usize,
     total: usize,
     places: bool,
-) -> Part
+) -> Result<Part, Refused>
     requires within { at < length expr.now }
     requires other { get_or expr.now at 0 ≡ 42 → ⊥ }
     requires room { SignRoom expr.now at begin total notes.old }
-    ensures { OneSignAnswer (syntax_of true) places expr.now begin at total
-        notes.old notes.new result }
+    ensures { OneSignAnswer second places expr.now begin at total notes.old notes.new result }
 {
-    let byte = expr[at];
-    if byte == b'+' {
-        return Part::Read {
+    match expr[at] {
+        b'+' => Ok(Part {
             next: at + 1,
             count: more(notes, begin, total, at as u16, places),
-        };
-    }
-    if byte == b'?' {
-        return Part::Read {
+        }),
+        b'?' => Ok(Part {
             next: at + 1,
             count: perhaps(notes, total, at as u16, places),
-        };
-    }
-    if byte == b'{' {
-        return counted(expr, at, notes, begin, total, places);
-    }
-    Part::Read {
-        next: at,
-        count: total,
+        }),
+        b'{' => counted(expr, at, notes, begin, total, places),
+        _ => Ok(Part {
+            next: at,
+            count: total,
+        }),
     }
 }
 
@@ -82,26 +81,27 @@ fn sign(
     notes: &mut [u16],
     begin: usize,
     total: usize,
-    second: bool,
+    syntax: Syntax,
     places: bool,
-) -> Part
+) -> Result<Part, Refused>
     requires within { at < length expr.now }
     requires room { SignRoom expr.now at begin total notes.old }
-    ensures { OneSignAnswer (syntax_of second) places expr.now begin at total
+    ensures { OneSignAnswer (syntax_of syntax) places expr.now begin at total
         notes.old notes.new result }
 {
     if expr[at] == b'*' {
-        return Part::Read {
+        let count = put_note(notes, total, STAR_LABEL, at as u16, places);
+        return Ok(Part {
             next: at + 1,
-            count: put_note(notes, total, STAR_LABEL, at as u16, places),
-        };
+            count,
+        });
     }
-    if second {
-        return second_sign(expr, at, notes, begin, total, places);
-    }
-    Part::Read {
-        next: at,
-        count: total,
+    match syntax {
+        Syntax::First => Ok(Part {
+            next: at,
+            count: total,
+        }),
+        Syntax::Second => second_sign(expr, at, notes, begin, total, places),
     }
 }
 
@@ -112,28 +112,24 @@ pub fn signs(
     notes: &mut [u16],
     begin: usize,
     total: usize,
-    second: bool,
+    syntax: Syntax,
     places: bool,
-) -> Part
+) -> Result<Part, Refused>
     requires { SignRoom expr.now at begin total notes.old }
-    ensures { SignsAnswer (syntax_of second) places expr.now begin at total
+    ensures { SignsAnswer (syntax_of syntax) places expr.now begin at total
         notes.old notes.new result }
 {
-    let mut place = at;
-    let mut n = total;
-    while place < expr.len() {
-        let part = sign(expr, place, notes, begin, n, second, places);
-        let Part::Read { next, count } = part else {
-            return part;
-        };
-        if next == place {
+    let mut read = Part {
+        next: at,
+        count: total,
+    };
+    // Each sign says where the next one begins, so this goes from place to place and not by an index.
+    while read.next < expr.len() {
+        let part = sign(expr, read.next, notes, begin, read.count, syntax, places)?;
+        if part.next == read.next {
             break;
         }
-        n = count;
-        place = next;
+        read = part;
     }
-    Part::Read {
-        next: place,
-        count: n,
-    }
+    Ok(read)
 }

@@ -1,0 +1,2 @@
+-- What the answers of this crate share.
+pub mod Asked
