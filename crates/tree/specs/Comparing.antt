@@ -1,5 +1,5 @@
 -- A record is compared by the numbers that it holds, but for its place.
-use Rattle.std.specs.Prelude.{ℕ, ◌+◌, ◌*◌, ◌%◌, ◌/◌, ◌≤◌, ◌≡◌, refl, Bool, List, [], ◌∷◌, length, get_or}
+use Rattle.std.specs.Prelude.{ℕ, ◌+◌, ◌*◌, ◌≤◌, ◌≡◌, refl, Bool, List, [], ◌∷◌, length, get_or}
 use Rattle.std.proofs.Common.{◌∙◌, arith}
 use Rattle.tree.specs.Limits.{most_place}
 use Rattle.tree.specs.Layout.{record_size, four_numbers, record_at, place_at, HoldsNumber}

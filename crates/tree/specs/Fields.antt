@@ -3,19 +3,7 @@ use Rattle.std.specs.Prelude.{ℕ, suc, ◌+◌, ◌*◌, ◌≤◌, ◌<◌, �
 use Rattle.std.proofs.Common.{ap, ◌∙◌, arith, get_or-append-add, drop-cons}
 use Rattle.std.proofs.Math.Numerals.{towards_suc}
 use Rattle.std.proofs.lemmas.List.Edits.{sets, sets-eq}
-use Rattle.tree.specs.Layout.{
-  record_size,
-  two_bytes_limit,
-  two_bytes,
-  record_of,
-  four_numbers,
-  kind_at,
-  character_at,
-  left_at,
-  right_at,
-  piece_at,
-  Shows,
-}
+use Rattle.tree.specs.Layout.{record_size, two_bytes_limit, two_bytes, record_of, four_numbers, Shows}
 
 -- a byte behind m others
 byte_past : (before rest : List ℕ) (m k : ℕ) → length before ≡ m → get_or (before ++ rest) (m + k) 0 ≡ get_or rest k 0

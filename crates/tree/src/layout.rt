@@ -29,7 +29,7 @@ use crate::limits::MOST_PLACE;
 // How many bytes a record has.
 pub const RECORD_SIZE: usize = 12;
 
-// The kinds of a record.
+// The kinds of a record. A kind is a byte of a buffer that C lends, where any number can stand, and stays one.
 pub const CHARACTER: u8 = 1;
 
 pub const CATENATION: u8 = 2;
@@ -61,18 +61,11 @@ pub const EMPTY_LABEL: u16 = EMPTY as u16;
 // What stands in the place of a child's record number where there is no child.
 pub const NO_CHILD: u16 = 65535;
 
-// A byte as a number.
-pub fn wide(byte: u8) -> usize
-    ensures { (result ≡ byte) × (result < 256) }
-{
-    byte as usize
-}
-
 // Kind and character as one number.
 pub fn label_of(kind: u8, character: u8) -> u16
     ensures { result ≡ label_of kind character }
 {
-    kind as u16 + 256 * (character as u16)
+    u16::from(kind) + 256 * u16::from(character)
 }
 
 // The label of a class leaf with this number.
@@ -87,7 +80,7 @@ pub fn class_label(number: usize) -> u16
 pub fn one_if_class(kind: u8) -> usize
     ensures { (result ≡ one_if_class kind) × (result ≤ 1) }
 {
-    if kind == CLASS { 1 } else { 0 }
+    usize::from(kind == CLASS)
 }
 
 // The label of a record of this kind with `classes` class leaves before it.
@@ -106,7 +99,7 @@ fn number_at(list: &[u8], at: usize) -> usize
     requires { at + 1 < length list.now }
     ensures { result ≡ number_at list.now at }
 {
-    wide(list[at]) + 256 * wide(list[at + 1])
+    usize::from(u16::from_le_bytes([list[at], list[at + 1]]))
 }
 
 // The kind of a record.
@@ -157,38 +150,70 @@ pub fn place_at(list: &[u8], i: usize) -> usize
     number_at(list, RECORD_SIZE * i + 8)
 }
 
-// The low byte of a number.
-fn low(n: u16) -> u8
-    ensures { result ≡ n % 256 }
-{
-    (n % 256) as u8
-}
-
-// The high byte of a number.
-fn high(n: u16) -> u8
-    ensures { result ≡ n / 256 % 256 }
-{
-    (n / 256) as u8
-}
-
 // Writes a number into two bytes, the low one first, and nothing else.
 fn write_number(out: &mut [u8], at: usize, n: u16)
     requires { at + 2 ≤ length out.old }
     ensures { out.new ≡ sets out.old at (two_bytes n) }
 {
-    out[at] = low(n);
-    out[at + 1] = high(n);
+    let [low, high] = n.to_le_bytes();
+    out[at] = low;
+    out[at + 1] = high;
+}
+
+// Whether two bytes hold this number.
+fn holds_number(list: &[u8], at: usize, n: u16) -> bool
+    requires { at + 2 ≤ length list.now }
+    ensures { Says (HoldsNumber list.now at n) result }
+{
+    let [low, high] = n.to_le_bytes();
+    list[at] == low && list[at + 1] == high
+}
+
+// The four numbers that a record begins with.
+#[derive(Clone, Copy)]
+struct Numbers {
+    // Kind and character.
+    first: u16,
+    // The left or only child, or the number of a class.
+    left: u16,
+    right: u16,
+    piece: u16,
+}
+
+impl Numbers {
+    // Those of the record that has this label: of a class leaf the children do not count.
+    fn labelled(label: u16, left: u16, right: u16, piece: u16) -> Numbers
+        ensures { four_numbers result.first result.left result.right result.piece
+            ≡ labelled_record label left right piece }
+    {
+        if label % 8 == CLASS_LABEL {
+            Numbers {
+                first: CLASS_LABEL,
+                left: label / 8,
+                right: NO_CHILD,
+                piece,
+            }
+        } else {
+            Numbers {
+                first: label,
+                left,
+                right,
+                piece,
+            }
+        }
+    }
 }
 
 // Writes the four numbers of a record and the place 0, and nothing else.
-fn write_numbers(out: &mut [u8], at: usize, first: u16, left: u16, right: u16, piece: u16)
+fn write_numbers(out: &mut [u8], at: usize, numbers: Numbers)
     requires { at + record_size ≤ length out.old }
-    ensures { out.new ≡ sets out.old at (four_numbers first left right piece) }
+    ensures { out.new ≡ sets out.old at
+        (four_numbers numbers.first numbers.left numbers.right numbers.piece) }
 {
-    write_number(out, at, first);
-    write_number(out, at + 2, left);
-    write_number(out, at + 4, right);
-    write_number(out, at + 6, piece);
+    write_number(out, at, numbers.first);
+    write_number(out, at + 2, numbers.left);
+    write_number(out, at + 4, numbers.right);
+    write_number(out, at + 6, numbers.piece);
     write_number(out, at + 8, 0);
     write_number(out, at + 10, 0);
 }
@@ -199,12 +224,11 @@ pub fn write_record(out: &mut [u8], i: usize, label: u16, left: u16, right: u16,
     ensures { out.new ≡ sets out.old (record_size * i)
         (labelled_record label left right piece) }
 {
-    let at = RECORD_SIZE * i;
-    if label % 8 == CLASS_LABEL {
-        write_numbers(out, at, CLASS_LABEL, label / 8, NO_CHILD, piece);
-    } else {
-        write_numbers(out, at, label, left, right, piece);
-    }
+    write_numbers(
+        out,
+        RECORD_SIZE * i,
+        Numbers::labelled(label, left, right, piece),
+    );
 }
 
 // Writes places into the records, the first into record 0 and so on, and nothing else.
@@ -212,42 +236,21 @@ pub fn write_places(places: &[u16], out: &mut [u8])
     requires { record_size * length places.now ≤ length out.old }
     ensures { out.new ≡ with_places places.now out.old }
 {
-    let mut i = 0;
-    while i < places.len() {
-        write_number(out, RECORD_SIZE * i + 8, places[i]);
-        i += 1;
+    for (i, place) in places.iter().enumerate() {
+        write_number(out, RECORD_SIZE * i + 8, *place);
     }
-}
-
-// Whether two bytes hold this number.
-fn holds_number(list: &[u8], at: usize, n: u16) -> bool
-    requires { at + 2 ≤ length list.now }
-    ensures { Says (HoldsNumber list.now at n) result }
-{
-    if list[at] != low(n) {
-        return false;
-    }
-    list[at + 1] == high(n)
 }
 
 // Whether the bytes from a place on hold the four numbers of a record, and 0 in the last two.
-fn holds_numbers(list: &[u8], at: usize, first: u16, left: u16, right: u16, piece: u16) -> bool
+fn holds_numbers(list: &[u8], at: usize, numbers: Numbers) -> bool
     requires { at + record_size ≤ length list.now }
-    ensures { Says (HoldsFields list.now at first left right piece) result }
+    ensures { Says (HoldsFields list.now at numbers.first numbers.left numbers.right numbers.piece) result }
 {
-    if !holds_number(list, at, first) {
-        return false;
-    }
-    if !holds_number(list, at + 2, left) {
-        return false;
-    }
-    if !holds_number(list, at + 4, right) {
-        return false;
-    }
-    if !holds_number(list, at + 6, piece) {
-        return false;
-    }
-    holds_number(list, at + 10, 0)
+    holds_number(list, at, numbers.first)
+        && holds_number(list, at + 2, numbers.left)
+        && holds_number(list, at + 4, numbers.right)
+        && holds_number(list, at + 6, numbers.piece)
+        && holds_number(list, at + 10, 0)
 }
 
 // Whether a record is the one that has this label, these children and this piece, and a place that is not too large.
@@ -255,12 +258,10 @@ pub fn is_record(list: &[u8], i: usize, label: u16, left: u16, right: u16, piece
     requires { record_size * i + record_size ≤ length list.now }
     ensures { Says (IsRecord list.now i (labelled_record label left right piece)) result }
 {
-    if MOST_PLACE < place_at(list, i) {
-        return false;
-    }
-    let at = RECORD_SIZE * i;
-    if label % 8 == CLASS_LABEL {
-        return holds_numbers(list, at, CLASS_LABEL, label / 8, NO_CHILD, piece);
-    }
-    holds_numbers(list, at, label, left, right, piece)
+    place_at(list, i) <= MOST_PLACE
+        && holds_numbers(
+            list,
+            RECORD_SIZE * i,
+            Numbers::labelled(label, left, right, piece),
+        )
 }
