@@ -1,9 +1,8 @@
 -- What reading the input promises: as many bytes as there is space for, at most.
 -- Assumes nothing.
-use Rattle.std.specs.Prelude.{ℕ, ◌≤◌, List, length}
-use Rattle.streams.specs.declared.Input.{Input}
-use Rattle.streams.specs.declared.Input.TheVariants.{Read, Failed}
+use Rattle.std.specs.Prelude.{ℕ, ◌≤◌, List, length, Result, Ok, Err}
+use Rattle.std.specs.declared.io.Error.{Error}
 
-abbrev pub ReadWithin : List ℕ → Input → Type 0
-ReadWithin buffer (Read count) = count ≤ length buffer
-ReadWithin buffer (Failed error) = Unit {0}
+abbrev pub ReadWithin : List ℕ → Result ℕ Error → Type 0
+ReadWithin buffer (Ok count) = count ≤ length buffer
+ReadWithin buffer (Err error) = Unit {0}

@@ -10,58 +10,37 @@ use std::io;
 use std::io::{ErrorKind, Read};
 use std::process::ExitCode;
 
-// What reading the input comes to.
-#[derive(Drop)]
-pub enum Input {
-    // So many bytes were read: up to the input's end, or as many as there is space for.
-    Read { count: usize },
-    // A read failed.
-    Failed { error: io::Error },
-}
-
 // So many times a read is tried at most, so that the program ends however often it is interrupted.
 const MOST_TRIES: usize = 1000000;
-
-// Whether this is the answer of a read that a signal interrupted.
-fn interrupted(got: &io::Result<usize>) -> bool {
-    match got {
-        Ok(_) => false,
-        Err(error) => error.kind() == ErrorKind::Interrupted,
-    }
-}
 
 // One read of the input; a read that a signal interrupted is tried again.
 fn read_part(stdin: &mut impl Read, part: &mut [u8]) -> io::Result<usize>
     ensures { ReadsAtMost result part.new }
 {
-    let mut got = stdin.read(part);
-    let mut tries = 1;
-    while tries < MOST_TRIES {
-        if !interrupted(&got) {
-            break;
+    for _ in 1..MOST_TRIES {
+        match stdin.read(part) {
+            Err(error) if error.kind() == ErrorKind::Interrupted => {}
+            got => return got,
         }
-        got = stdin.read(part);
-        tries += 1;
     }
-    got
+    stdin.read(part)
 }
 
-// Reads the input, which may come in many parts, into a buffer.
-pub fn read_input(stdin: &mut impl Read, input: &mut [u8]) -> Input
+// Reads the input, which may come in many parts, into a buffer: up to the input's end, or as many bytes as there is
+// space for; answers how many were read.
+pub fn read_input(stdin: &mut impl Read, input: &mut [u8]) -> io::Result<usize>
     ensures { ReadWithin input.new result }
 {
     let mut count = 0;
+    // The count grows by what each read gives, so it is no index of a `for`.
     while count < input.len() {
-        let more = match read_part(stdin, &mut input[count..]) {
-            Ok(more) => more,
-            Err(error) => return Input::Failed { error },
-        };
+        let more = read_part(stdin, &mut input[count..])?;
         if more == 0 {
             break;
         }
         count += more;
     }
-    Input::Read { count }
+    Ok(count)
 }
 
 // Why something failed, in the system's words, without the error's number behind them.
