@@ -5,23 +5,13 @@ use finder::{Matched, Searched};
 use marks::MarksAnswer;
 use marks::numbers::numbers_of;
 use reader::ReadAnswer;
-use saying::{refused, say, say_number, say_yes};
+use saying::say_yes;
 use std::io;
-
-fn say_counts(rt: &impl Print, records: usize, pieces: usize) -> io::Result<()> {
-    say(rt, b"records ")?;
-    say_number(rt, records as u64)?;
-    say(rt, b", pieces ")?;
-    say_number(rt, pieces as u64)
-}
 
 pub fn say_read(rt: &impl Print, answer: ReadAnswer) -> io::Result<()> {
     match answer {
-        ReadAnswer::Read { records, pieces } => say_counts(rt, records, pieces),
-        ReadAnswer::Refused { number, place } => {
-            refused(rt, number, place)?;
-            Ok(())
-        }
+        ReadAnswer::Read { records, pieces } => print!(rt; "records {records}, pieces {pieces}"),
+        ReadAnswer::Refused { number, place } => print!(rt; "refused {number} at {place}"),
     }
 }
 
@@ -31,50 +21,37 @@ pub fn say_counted(rt: &impl Print, answer: CountedAnswer) -> io::Result<()> {
             records,
             pieces,
             classes,
-        } => {
-            say_counts(rt, records, pieces)?;
-            say(rt, b", classes ")?;
-            say_number(rt, classes as u64)
-        }
-        CountedAnswer::Refused { number, place } => {
-            refused(rt, number, place)?;
-            Ok(())
-        }
+        } => print!(rt; "records {records}, pieces {pieces}, classes {classes}"),
+        CountedAnswer::Refused { number, place } => print!(rt; "refused {number} at {place}"),
     }
 }
 
 pub fn say_matched(rt: &impl Print, matched: Matched) -> io::Result<()> {
     let numbers = match_numbers(matched);
-    if refused(rt, numbers.refusal, numbers.place)? {
-        return Ok(());
+    if numbers.refusal != 0 {
+        return print!(rt; "refused {} at {}", numbers.refusal, numbers.place);
     }
     say_yes(rt, numbers.matched)
 }
 
-fn say_part(rt: &impl Print, start: usize, end: usize) -> io::Result<()> {
-    say(rt, b"start ")?;
-    say_number(rt, start as u64)?;
-    say(rt, b", end ")?;
-    say_number(rt, end as u64)
-}
-
 pub fn say_searched(rt: &impl Print, searched: Searched) -> io::Result<()> {
     let numbers = search_numbers(searched);
-    if refused(rt, numbers.refusal, numbers.place)? {
-        return Ok(());
+    if numbers.refusal != 0 {
+        return print!(rt; "refused {} at {}", numbers.refusal, numbers.place);
     }
     if numbers.matched {
-        say_part(rt, numbers.start, numbers.end)
-    } else {
-        say(rt, b"nothing")
+        return print!(rt; "start {}, end {}", numbers.start, numbers.end);
     }
+    rt.write_all(b"nothing")
 }
 
 // What a start or a step answered.
 pub fn say_marks(rt: &impl Print, answer: MarksAnswer) -> io::Result<()> {
     let numbers = numbers_of(answer);
-    if !refused(rt, numbers.refusal, numbers.place)? {
+    if numbers.refusal != 0 {
+        print!(rt; "refused {} at {}", numbers.refusal, numbers.place)?;
+    } else {
         say_yes(rt, numbers.accepting)?;
     }
-    say(rt, b", marks")
+    rt.write_all(b", marks")
 }

@@ -1,12 +1,11 @@
 // The calls: by an expression of either syntax, or by a list and its classes.
-ghost use Rattle.std.specs.Prelude.{◌≤◌, length};
-
 use crate::answers::{say_counted, say_marks, say_matched, say_read, say_searched};
+use crate::rows::{By, Call, Row};
 use checker::CountedAnswer;
-use fields::between;
 use marks::MarksAnswer;
 use reader::ReadAnswer;
-use saying::{say, say_bytes, say_words};
+use saying::{say_bytes, say_words};
+use std::alloc::Global;
 use std::io;
 use tree::layout::{CLASS_RECORD_SIZE, RECORD_SIZE};
 use tree::limits::{MOST_PIECES, MOST_RECORDS};
@@ -16,193 +15,117 @@ const LONGEST_LIST: usize = RECORD_SIZE * MOST_RECORDS;
 
 const LONGEST_CLASSES: usize = CLASS_RECORD_SIZE * MOST_RECORDS;
 
-// The numbers of a call by words: how many words are lent, how many are shown, and a word for each piece.
-pub const MOST_NUMBERS: usize = MOST_PIECES + 2;
-
-// A number, or the most that it may be.
-fn at_most(n: usize, most: usize) -> usize
-    ensures { result ≤ most }
-{
-    if n < most { n } else { most }
+// Reads in the first syntax, into so many bytes as the number says.
+fn read_first(rt: &impl Print, alloc: Global, row: &Row) -> io::Result<()> {
+    let [room, ..] = row.numbers.as_slice() else {
+        return Ok(());
+    };
+    let mut list = vec![in alloc; 0u8; LONGEST_LIST.min(*room as usize)]?;
+    say_read(rt, reader::read(&row.first, &mut list))
 }
 
-// Reads into the first bytes of a buffer, in the first syntax.
-fn read_into(rt: &impl Print, expr: &[u8], list: &mut [u8], room: usize) -> io::Result<()>
-    requires { room ≤ length list.old }
-{
-    say_read(rt, reader::read(expr, &mut list[..room]))
-}
-
-// Reads into so many bytes.
-pub fn read_first(rt: &impl Print, expr: &[u8], room: usize) -> io::Result<()> {
-    let mut list = [0u8; LONGEST_LIST];
-    read_into(rt, expr, &mut list, at_most(room, LONGEST_LIST))
-}
-
-// Reads into the first bytes of two buffers, in the second syntax.
-fn read_second_into(
-    rt: &impl Print,
-    expr: &[u8],
-    list: &mut [u8],
-    room: usize,
-    classes: &mut [u8],
-    class_room: usize,
-) -> io::Result<()>
-    requires room_in_bounds { room ≤ length list.old }
-    requires class_room_in_bounds { class_room ≤ length classes.old }
-{
-    say_counted(
-        rt,
-        reader::read_second(expr, &mut list[..room], &mut classes[..class_room]),
-    )
-}
-
-// Reads into so many bytes and so many for the classes.
-pub fn read_second(rt: &impl Print, expr: &[u8], room: usize, class_room: usize) -> io::Result<()> {
-    let mut list = [0u8; LONGEST_LIST];
-    let mut classes = [0u8; LONGEST_CLASSES];
-    read_second_into(
-        rt,
-        expr,
-        &mut list,
-        at_most(room, LONGEST_LIST),
-        &mut classes,
-        at_most(class_room, LONGEST_CLASSES),
-    )
+// Reads in the second syntax, into so many bytes as the numbers say, and so many for the classes.
+fn read_second(rt: &impl Print, alloc: Global, row: &Row) -> io::Result<()> {
+    let [room, class_room, ..] = row.numbers.as_slice() else {
+        return Ok(());
+    };
+    let mut list = vec![in alloc; 0u8; LONGEST_LIST.min(*room as usize)]?;
+    let mut classes = vec![in alloc; 0u8; LONGEST_CLASSES.min(*class_room as usize)]?;
+    let answer = reader::read_second(&row.first, &mut list, &mut classes);
+    say_counted(rt, answer)
 }
 
 // Starts, and steps along each byte of the text; answers what the last of these answered.
 fn walk(list: &[u8], classes: &[u8], words: &mut [u64], text: &[u8]) -> MarksAnswer {
     let mut answer = marks::start(list, classes, words);
-    let mut i = 0;
-    while i < text.len() {
-        answer = marks::step(list, classes, words, text[i]);
-        i += 1;
+    for byte in text {
+        answer = marks::step(list, classes, words, *byte);
     }
     answer
+}
+
+// The words that are lent to a row's call, and how many of them are shown: the numbers are how many are lent, how many
+// are shown, and the first of these words.
+fn words_of(alloc: Global, numbers: &[u64]) -> io::Result<(Vec<u64>, usize)> {
+    let [lent, shown, first @ ..] = numbers else {
+        return Ok((Vec::new(alloc), 0));
+    };
+    let mut words = first.to_vec(alloc)?;
+    words.resize(MOST_PIECES.min(*lent as usize), 0)?;
+    Ok((words, *shown as usize))
 }
 
 // What the start and the steps along a text answer, and the first words then.
 fn say_walk(
     rt: &impl Print,
+    alloc: Global,
+    row: &Row,
     list: &[u8],
     classes: &[u8],
-    words: &mut [u64],
-    text: &[u8],
-    shown: usize,
 ) -> io::Result<()> {
-    say_marks(rt, walk(list, classes, words, text))?;
-    say_words(rt, words, shown)
+    let (mut words, shown) = words_of(alloc, &row.numbers)?;
+    say_marks(rt, walk(list, classes, &mut words, &row.text))?;
+    say_words(rt, &words, shown)
 }
 
 // The words, what a step along `a` from them answers, and the words then.
-fn say_step(rt: &impl Print, list: &[u8], classes: &[u8], words: &mut [u64]) -> io::Result<()> {
-    say_words(rt, words, words.len())?;
-    say(rt, b": ")?;
-    say_marks(rt, marks::step(list, classes, words, b'a'))?;
-    say_words(rt, words, words.len())
-}
-
-// Marks: the numbers are how many words are lent, how many are shown, and these words.
-fn by_words(
+fn say_step(
     rt: &impl Print,
-    call: u8,
+    alloc: Global,
+    row: &Row,
     list: &[u8],
     classes: &[u8],
-    text: &[u8],
-    numbers: &mut [u64],
 ) -> io::Result<()> {
-    if numbers.len() < MOST_NUMBERS {
-        return Ok(());
-    }
-    let lent = at_most(numbers[0] as usize, MOST_PIECES);
-    let shown = numbers[1] as usize;
-    let words = &mut numbers[2..lent + 2];
-    if call == b'w' {
-        say_walk(rt, list, classes, words, text, shown)
-    } else {
-        say_step(rt, list, classes, words)
-    }
+    let (mut words, _) = words_of(alloc, &row.numbers)?;
+    say_words(rt, &words, words.len())?;
+    rt.write_all(b": ")?;
+    say_marks(rt, marks::step(list, classes, &mut words, b'a'))?;
+    say_words(rt, &words, words.len())
 }
 
 // The bytes of a list and of its classes.
 fn say_list(rt: &impl Print, list: &[u8], classes: &[u8]) -> io::Result<()> {
     say_bytes(rt, list)?;
-    if classes.len() > 0 {
-        say(rt, b", classes")?;
+    if !classes.is_empty() {
+        rt.write_all(b", classes")?;
         say_bytes(rt, classes)?;
     }
     Ok(())
 }
 
-// A call by a list with these classes: matches, searches, shows its bytes, walks from a start, or steps.
-pub fn by_list(
+// A row's call by a list with these classes.
+fn by_list(
     rt: &impl Print,
-    call: u8,
+    alloc: Global,
+    row: &Row,
     list: &[u8],
     classes: &[u8],
-    text: &[u8],
-    numbers: &mut [u64],
 ) -> io::Result<()> {
-    match call {
-        b'm' => say_matched(rt, finder::is_match(list, classes, text)),
-        b's' => say_searched(rt, finder::search(list, classes, text)),
-        b'b' => say_list(rt, list, classes),
-        _ => by_words(rt, call, list, classes, text, numbers),
+    match row.call {
+        Call::Read => Ok(()),
+        Call::Match => say_matched(rt, finder::is_match(list, classes, &row.text)),
+        Call::Search => say_searched(rt, finder::search(list, classes, &row.text)),
+        Call::Bytes => say_list(rt, list, classes),
+        Call::Walk => say_walk(rt, alloc, row, list, classes),
+        Call::Step => say_step(rt, alloc, row, list, classes),
     }
 }
 
-// The bytes of so many records, 0 for more than a list can have.
-fn record_bytes(count: usize) -> usize {
-    if count <= MOST_RECORDS {
-        RECORD_SIZE * count
-    } else {
-        0
-    }
-}
-
-// The bytes of so many class records.
-fn class_bytes(count: usize) -> usize {
-    if count <= MOST_RECORDS {
-        CLASS_RECORD_SIZE * count
-    } else {
-        0
-    }
-}
-
-// A call by the list of an expression of the first syntax.
-pub fn by_first(
-    rt: &impl Print,
-    call: u8,
-    expr: &[u8],
-    text: &[u8],
-    numbers: &mut [u64],
-) -> io::Result<()> {
-    let mut list = [0u8; LONGEST_LIST];
-    let ReadAnswer::Read { records, pieces: _ } = reader::read(expr, &mut list) else {
+// A row's call by the list of an expression of the first syntax.
+fn by_first(rt: &impl Print, alloc: Global, row: &Row) -> io::Result<()> {
+    let mut list = vec![in alloc; 0u8; LONGEST_LIST]?;
+    let ReadAnswer::Read { records, pieces: _ } = reader::read(&row.first, &mut list) else {
         return Ok(());
     };
-    by_list(
-        rt,
-        call,
-        between(&list, 0, record_bytes(records)),
-        b"",
-        text,
-        numbers,
-    )
+    list.truncate(RECORD_SIZE.saturating_mul(records));
+    by_list(rt, alloc, row, &list, b"")
 }
 
 // The same of the second syntax.
-pub fn by_second(
-    rt: &impl Print,
-    call: u8,
-    expr: &[u8],
-    text: &[u8],
-    numbers: &mut [u64],
-) -> io::Result<()> {
-    let mut list = [0u8; LONGEST_LIST];
-    let mut classes = [0u8; LONGEST_CLASSES];
-    let answer = reader::read_second(expr, &mut list, &mut classes);
+fn by_second(rt: &impl Print, alloc: Global, row: &Row) -> io::Result<()> {
+    let mut list = vec![in alloc; 0u8; LONGEST_LIST]?;
+    let mut classes = vec![in alloc; 0u8; LONGEST_CLASSES]?;
+    let answer = reader::read_second(&row.first, &mut list, &mut classes);
     let CountedAnswer::Counted {
         records,
         pieces: _,
@@ -211,7 +134,18 @@ pub fn by_second(
     else {
         return Ok(());
     };
-    let part = between(&list, 0, record_bytes(records));
-    let class_part = between(&classes, 0, class_bytes(count));
-    by_list(rt, call, part, class_part, text, numbers)
+    list.truncate(RECORD_SIZE.saturating_mul(records));
+    classes.truncate(CLASS_RECORD_SIZE.saturating_mul(count));
+    by_list(rt, alloc, row, &list, &classes)
+}
+
+// A row's call.
+pub fn call(rt: &impl Print, alloc: Global, row: &Row) -> io::Result<()> {
+    match (row.by, row.call) {
+        (By::First, Call::Read) => read_first(rt, alloc, row),
+        (By::First, _) => by_first(rt, alloc, row),
+        (By::Second, Call::Read) => read_second(rt, alloc, row),
+        (By::Second, _) => by_second(rt, alloc, row),
+        (By::List, _) => by_list(rt, alloc, row, &row.first, &row.classes),
+    }
 }

@@ -7,13 +7,11 @@ mod calls;
 mod rows;
 
 use std::io;
-use streams::{Input, read_input};
+use streams::read_input;
 
 fn main(rt: HostRuntime) -> io::Result<()> {
     let mut stdin = rt.stdin();
     let mut input = [0u8; 65536];
-    match read_input(&mut stdin, &mut input) {
-        Input::Read { count } => rows::each_row(&rt, &input[..count]),
-        Input::Failed { error } => Err(error),
-    }
+    let count = read_input(&mut stdin, &mut input)?;
+    rows::each_row(&rt, rt.alloc(), &input[..count])
 }

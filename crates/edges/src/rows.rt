@@ -1,78 +1,102 @@
-// One case from each row. Its fields: by what it calls, and the letter of the call; what is printed first; the
-// expression or the list; the text; numbers; the classes of a list.
-use crate::calls::{MOST_NUMBERS, by_first, by_list, by_second, read_first, read_second};
-use fields::{between, end_at, put_fields, put_numbers, say_field};
-use saying::say;
+// The rows of the table, a case each.
+use crate::calls;
+use fields::{bytes_of, numbers_of};
+use std::alloc::{AllocError, Global};
 use std::io;
 
-// Reads, in the first syntax or in the second, into as many bytes as the numbers say.
-fn read_row(rt: &impl Print, by: u8, expr: &[u8], numbers: &[u64]) -> io::Result<()> {
-    if numbers.len() < 2 {
-        return Ok(());
-    }
-    if by == b'1' {
-        read_first(rt, expr, numbers[0] as usize)
-    } else {
-        read_second(rt, expr, numbers[0] as usize, numbers[1] as usize)
+// What a row calls by: an expression of the first syntax, one of the second, or a list.
+#[derive(Clone, Copy, PartialEq, Eq)]
+pub enum By {
+    First,
+    Second,
+    List,
+}
+
+impl TryFrom<u8> for By {
+    type Error = u8;
+
+    fn try_from(letter: u8) -> Result<By, u8> {
+        match letter {
+            b'1' => Ok(By::First),
+            b'2' => Ok(By::Second),
+            b'l' => Ok(By::List),
+            _ => Err(letter),
+        }
     }
 }
 
-// Any other call, by an expression of the first syntax or the second, or by a list.
-fn call_row(
-    rt: &impl Print,
-    by: u8,
-    call: u8,
-    first: &[u8],
-    classes: &[u8],
-    text: &[u8],
-    numbers: &mut [u64],
-) -> io::Result<()> {
-    match by {
-        b'1' => by_first(rt, call, first, text, numbers),
-        b'2' => by_second(rt, call, first, text, numbers),
-        _ => by_list(rt, call, first, classes, text, numbers),
+// What a row calls: reading, or by a list a match, a search, its bytes, a walk from a start, or a step.
+#[derive(Clone, Copy, PartialEq, Eq)]
+pub enum Call {
+    Read,
+    Match,
+    Search,
+    Bytes,
+    Walk,
+    Step,
+}
+
+impl TryFrom<u8> for Call {
+    type Error = u8;
+
+    fn try_from(letter: u8) -> Result<Call, u8> {
+        match letter {
+            b'r' => Ok(Call::Read),
+            b'm' => Ok(Call::Match),
+            b's' => Ok(Call::Search),
+            b'b' => Ok(Call::Bytes),
+            b'w' => Ok(Call::Walk),
+            b't' => Ok(Call::Step),
+            _ => Err(letter),
+        }
     }
 }
 
-// The call of the row of these fields.
-fn call_of(rt: &impl Print, by: u8, call: u8, bytes: &[u8], ends: &[usize; 6]) -> io::Result<()> {
-    let first = between(bytes, ends[1], ends[2]);
-    let mut numbers = [0u64; MOST_NUMBERS];
-    put_numbers(between(bytes, ends[3], ends[4]), &mut numbers);
-    if call == b'r' {
-        read_row(rt, by, first, &numbers)
-    } else {
-        let text = between(bytes, ends[2], ends[3]);
-        let classes = between(bytes, ends[4], ends[5]);
-        call_row(rt, by, call, first, classes, text, &mut numbers)
-    }
+// A case: what is called, what is printed first, and what is lent.
+#[derive(Drop)]
+pub struct Row {
+    pub by: By,
+    pub call: Call,
+    title: Vec<u8>,
+    // The expression or the list.
+    pub first: Vec<u8>,
+    pub text: Vec<u8>,
+    pub numbers: Vec<u64>,
+    // The classes of a list.
+    pub classes: Vec<u8>,
 }
 
-// The row of these fields.
-fn row_of(rt: &impl Print, bytes: &[u8], ends: &[usize; 6]) -> io::Result<()> {
-    let call = between(bytes, 0, ends[0]);
-    if call.len() < 2 {
-        return Ok(());
+impl Row {
+    // The row of a line, its fields in the order of the struct's, the two letters in one: none where they say no call.
+    fn parse(alloc: Global, line: &str) -> Result<Option<Row>, AllocError> {
+        let mut fields = line.split('\t');
+        let [by, call, ..] = fields.next().unwrap_or("").as_bytes() else {
+            return Ok(None);
+        };
+        let (Ok(by), Ok(call)) = (By::try_from(*by), Call::try_from(*call)) else {
+            return Ok(None);
+        };
+        Ok(Some(Row {
+            by,
+            call,
+            title: bytes_of(alloc, fields.next().unwrap_or(""))?,
+            first: bytes_of(alloc, fields.next().unwrap_or(""))?,
+            text: bytes_of(alloc, fields.next().unwrap_or(""))?,
+            numbers: numbers_of(alloc, fields.next().unwrap_or(""))?,
+            classes: bytes_of(alloc, fields.next().unwrap_or(""))?,
+        }))
     }
-    say_field(rt, bytes, ends[0], ends[1])?;
-    call_of(rt, call[0], call[1], bytes, ends)?;
-    say(rt, b"\n")
-}
-
-fn row(rt: &impl Print, line: &[u8]) -> io::Result<()> {
-    let mut bytes = [0u8; 66000];
-    let mut ends = [0usize; 6];
-    put_fields(line, &mut bytes, &mut ends);
-    row_of(rt, &bytes, &ends)
 }
 
 // Each line's row.
-pub fn each_row(rt: &impl Print, input: &[u8]) -> io::Result<()> {
-    let mut start = 0;
-    while start < input.len() {
-        let end = end_at(input, start, b'\n');
-        row(rt, &input[start..end])?;
-        start = end + 1;
+pub fn each_row(rt: &impl Print, alloc: Global, input: &[u8]) -> io::Result<()> {
+    let table = String::from_utf8_lossy(alloc, input)?;
+    for line in table.split('\n') {
+        if let Some(row) = Row::parse(alloc, line)? {
+            rt.write_all(&row.title)?;
+            calls::call(rt, alloc, &row)?;
+            rt.write_all(b"\n")?;
+        }
     }
     Ok(())
 }
