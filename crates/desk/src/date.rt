@@ -1,58 +1,35 @@
-// The dates of a leap year. A date is one number: 32 times its month, and its day.
-ghost use Rattle.std.specs.Prelude.{◌≡◌, length};
+// The dates of a leap year, each as `MM-DD`.
+use std::alloc::{AllocError, Global};
 
-const DIGITS: [u8; 10] = *b"0123456789";
+pub type Date = [u8; 5];
 
-pub const FIRST: usize = 33;
+// How many days each month has.
+const MONTHS: [u8; 12] = [31, 29, 31, 30, 31, 30, 31, 31, 30, 31, 30, 31];
 
-fn digit(n: usize) -> u8 {
-    DIGITS[n % 10]
+// A number in two digits.
+fn digits(number: u8) -> (u8, u8) {
+    (b'0' + number / 10, b'0' + number % 10)
 }
 
-fn month_length(month: usize) -> usize {
-    match month {
-        2 => 29,
-        4 => 30,
-        6 => 30,
-        9 => 30,
-        11 => 30,
-        _ => 31,
-    }
+fn date(month: u8, day: u8) -> Date {
+    let (tens, ones) = digits(month);
+    let (day_tens, day_ones) = digits(day);
+    [tens, ones, b'-', day_tens, day_ones]
 }
 
-// The day after a date; a number past December stays as it is.
-pub fn next_date(date: usize) -> usize {
-    if date > 415 {
-        return date;
+// All dates, in their order.
+pub fn dates(alloc: Global) -> Result<Vec<Date>, AllocError> {
+    let mut dates = Vec::new(alloc);
+    for (month, days) in (1u8..).zip(MONTHS) {
+        dates.extend((1..=days).map(|day| date(month, day)))?;
     }
-    if date % 32 == month_length(date / 32) {
-        return 32 * (date / 32 + 1) + 1;
-    }
-    date + 1
+    Ok(dates)
 }
 
-// The date as `MM-DD`.
-pub fn text_of(date: usize) -> [u8; 5]
-    ensures { 5 ≡ length result }
-{
-    let month = date / 32;
-    let day = date % 32;
-    [
-        digit(month / 10),
-        digit(month),
-        b'-',
-        digit(day / 10),
-        digit(day),
-    ]
-}
-
-// The date with one bit of the byte at a place changed.
-pub fn changed(date: usize, at: usize, bit: u8) -> [u8; 5]
-    ensures { 5 ≡ length result }
-{
-    let mut text = text_of(date);
-    if at < 5 {
-        text[at] = text[at] ^ bit;
+// The date with these bits of the byte at a place changed.
+pub fn changed(mut date: Date, at: usize, bits: u8) -> Date {
+    if let Some(byte) = date.get_mut(at) {
+        *byte ^= bits;
     }
-    text
+    date
 }

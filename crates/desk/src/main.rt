@@ -5,32 +5,18 @@
 mod date;
 mod trial;
 
-ghost use Rattle.std.specs.Prelude.{◌≤◌, length};
-
+use date::dates;
+use std::alloc::Global;
 use std::io;
-use streams::{Input, read_input};
+use streams::read_input;
 use trial::trial;
 
-// Where the line that starts at `start` ends.
-fn line_end(input: &[u8], start: usize) -> usize
-    requires { start ≤ length input.now }
-    ensures lower_bound { start ≤ result }
-    ensures upper_bound { result ≤ length input.now }
-{
-    let mut end = start;
-    while end < input.len() && input[end] != b'\n' {
-        end += 1;
-    }
-    end
-}
-
 // Tries each line's expression; what the first picks is listed.
-fn each_line(rt: &impl Print, input: &[u8]) -> io::Result<()> {
-    let mut start = 0;
-    while start < input.len() {
-        let end = line_end(input, start);
-        trial(rt, &input[start..end], start == 0)?;
-        start = end + 1;
+fn each_line(rt: &impl Print, alloc: Global, input: &[u8]) -> io::Result<()> {
+    let dates = dates(alloc)?;
+    for (i, line) in input.split_inclusive(|byte| *byte == b'\n').enumerate() {
+        let expr = line.strip_suffix(b"\n").unwrap_or(line);
+        trial(rt, alloc, expr, &dates, i == 0)?;
     }
     Ok(())
 }
@@ -38,8 +24,6 @@ fn each_line(rt: &impl Print, input: &[u8]) -> io::Result<()> {
 fn main(rt: HostRuntime) -> io::Result<()> {
     let mut stdin = rt.stdin();
     let mut input = [0u8; 65536];
-    match read_input(&mut stdin, &mut input) {
-        Input::Read { count } => each_line(&rt, &input[..count]),
-        Input::Failed { error } => Err(error),
-    }
+    let count = read_input(&mut stdin, &mut input)?;
+    each_line(&rt, rt.alloc(), &input[..count])
 }
