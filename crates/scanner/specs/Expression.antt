@@ -1,6 +1,6 @@
 -- What reading a whole expression gives: the labels of the tree that it stands for, or the first refusal of 1 to 7, 14
 -- and 16.
-use Rattle.std.specs.Prelude.{ℕ, ◌<◌, ◌≤◌, ◌≡◌, refl, Bool, true, false, cond, List, [], ◌∷◌, length, take}
+use Rattle.std.specs.Prelude.{ℕ, ◌<◌, ◌≤◌, ◌≡◌, refl, Bool, true, false, cond, List, [], ◌∷◌, length, take, Result, Ok, Err}
 use Rattle.std.proofs.Common.{arith, ap, sym, ◌∙◌, lt-ltb, le-ltb}
 use Rattle.language.specs.Tree.{Tree, nodes}
 use Rattle.language.specs.PlacedTree.{PlacedTree, unplaced, places as tree_places, placed_with_leaves}
@@ -11,6 +11,8 @@ use Rattle.language.specs.StandsFor.{stands_for}
 use Rattle.language.specs.SignedSize.{capped}
 use Rattle.language.proofs.WithLeavesLaws.{nodes_leaves, every_stands_for}
 use Rattle.tree.specs.RefusalNumbers.{expression_empty, expression_too_long, closing_without_group}
+use Rattle.tree.specs.Refusing.{refusal_number}
+use Rattle.tree.specs.declared.refusal.Refused.{Refused}
 use Rattle.tree.specs.Limits.{longest_expression, most_labels}
 use Rattle.tree.specs.Leaf.{Leaf}
 use Rattle.tree.specs.Records.{labels}
@@ -23,7 +25,6 @@ use Rattle.operands.specs.Stopping.{closes_united}
 use Rattle.operands.specs.Surroundings.{scan_from, Fails, accepts, closes_none}
 use Rattle.operands.specs.Reading.{whole_tree, Whole}
 use Rattle.operands.specs.declared.part.Part.{Part}
-use Rattle.operands.specs.declared.part.Part.TheVariants.{Read, Refused}
 
 -- the expression has a tree of signs, and the labels are those of the tree that it stands for, while there is room; or
 -- its places: one more than there is room for says that it has more nodes
@@ -41,9 +42,10 @@ pub record ExpressionRefused (syntax : Syntax) (bytes : List ℕ) (number place 
   pub scans : scanned syntax bytes ≡ refused number place
 
 -- what reading a whole expression answers
-abbrev pub ExpressionAnswer : Syntax → (places : Bool) → (bytes later : List ℕ) → Part → Type 0
-ExpressionAnswer syntax places bytes later (Read next total) = ExpressionRead syntax places bytes later total
-ExpressionAnswer syntax places bytes later (Refused number place) = ExpressionRefused syntax bytes number place
+abbrev pub ExpressionAnswer : Syntax → (places : Bool) → (bytes later : List ℕ) → Result Part Refused → Type 0
+ExpressionAnswer syntax places bytes later (Ok part) = ExpressionRead syntax places bytes later part.count
+ExpressionAnswer syntax places bytes later (Err fault) =
+    ExpressionRefused syntax bytes (refusal_number fault.refusal) fault.place
 
 -- no bytes
 pub empty : (syntax : Syntax) (bytes : List ℕ) → length bytes ≡ 0 → ExpressionRefused syntax bytes expression_empty 0

@@ -8,27 +8,16 @@ ghost use Rattle.scanner.specs.Rounds.{OperandDue};
 use crate::join::put_join;
 use crate::operand::operand;
 use operands::part::Part;
+use operands::syntax::Syntax;
 use tree::layout::CATENATION_LABEL;
+use tree::refusal::Refused;
 
 // Whether an operand is due at a place, in a catenation that begins at `at`.
 fn operand_due(expr: &[u8], at: usize, place: usize) -> bool
     requires { place ≤ length expr.now }
     ensures { OperandDue expr.now at place result }
 {
-    if place == at {
-        return true;
-    }
-    if place == expr.len() {
-        return false;
-    }
-    let byte = expr[place];
-    if byte == b'|' {
-        return false;
-    }
-    if byte == b')' {
-        return false;
-    }
-    true
+    place == at || (place < expr.len() && !matches!(expr[place], b'|' | b')'))
 }
 
 // Reads a catenation from a place on: the place of its node is where its right operand begins. The reader of an operand
@@ -41,25 +30,22 @@ pub fn catenation(
     depth: usize,
     notes: &mut [u16],
     count: usize,
-    second: bool,
+    syntax: Syntax,
     places: bool,
-) -> Part
+) -> Result<Part, Refused>
     requires { ScratchRoom expr.now at depth count notes.old }
-    ensures { PartAnswer (syntax_of second) places joined expr.now at depth count
+    ensures { PartAnswer (syntax_of syntax) places joined expr.now at depth count
         notes.old notes.new result }
 {
-    let mut place = at;
-    let mut n = count;
-    while operand_due(expr, at, place) {
-        let part = operand(expr, place, depth, notes, n, second, places);
-        let Part::Read { next, count } = part else {
-            return part;
+    let mut read = Part { next: at, count };
+    // Each operand says where the next one begins, so this goes from place to place and not by an index.
+    'operands: while operand_due(expr, at, read.next) {
+        let part = operand(expr, read.next, depth, notes, read.count, syntax, places)?;
+        let total = put_join(notes, part.count, CATENATION_LABEL, at, read.next, places);
+        read = Part {
+            next: part.next,
+            count: total,
         };
-        n = put_join(notes, count, CATENATION_LABEL, at, place, places);
-        place = next;
     }
-    Part::Read {
-        next: place,
-        count: n,
-    }
+    Ok(read)
 }

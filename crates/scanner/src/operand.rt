@@ -7,10 +7,11 @@ ghost use Rattle.scanner.specs.Rounds.{SignFollows};
 
 use crate::union::union;
 use operands::part::Part;
+use operands::syntax::Syntax;
 use signs::signs::signs;
 use signs::single::single;
 use tree::limits::MOST_GROUPS;
-use tree::refusal_numbers::{GROUP_LEFT_OPEN, OPERAND_MISSING, TOO_MANY_GROUPS};
+use tree::refusal::{Refusal, Refused};
 
 // Whether a byte that is a sign after an operand, in one syntax or in both, stands at a place. Mostly none does, and
 // then the reader of signs need not be called.
@@ -18,23 +19,7 @@ fn sign_follows(expr: &[u8], at: usize) -> bool
     requires { at ≤ length expr.now }
     ensures { SignFollows expr.now at result }
 {
-    if at == expr.len() {
-        return false;
-    }
-    let byte = expr[at];
-    if byte == b'*' {
-        return true;
-    }
-    if byte == b'+' {
-        return true;
-    }
-    if byte == b'?' {
-        return true;
-    }
-    if byte == b'{' {
-        return true;
-    }
-    false
+    at < expr.len() && matches!(expr[at], b'*' | b'+' | b'?' | b'{')
 }
 
 // Reads the operand at a place: 3 where none stands there, 4 and 6 at a `(`, 7, 14 and 16. Its labels begin at `count`.
@@ -45,46 +30,47 @@ pub fn operand(
     depth: usize,
     notes: &mut [u16],
     count: usize,
-    second: bool,
+    syntax: Syntax,
     places: bool,
-) -> Part
+) -> Result<Part, Refused>
     requires { ScratchRoom expr.now at depth count notes.old }
-    ensures { PartAnswer (syntax_of second) places starred expr.now at depth count
+    ensures { PartAnswer (syntax_of syntax) places starred expr.now at depth count
         notes.old notes.new result }
 {
-    let begin = count;
     if at == expr.len() {
-        return Part::Refused {
-            number: OPERAND_MISSING,
+        return Err(Refused {
+            refusal: Refusal::OperandMissing,
             place: at,
-        };
+        });
     }
     if expr[at] == b'(' {
-        if depth >= MOST_GROUPS {
-            return Part::Refused {
-                number: TOO_MANY_GROUPS,
-                place: at,
-            };
-        }
         let open = at;
-        let inner = union(expr, open + 1, depth + 1, notes, begin, second, places);
-        let Part::Read { next, count } = inner else {
-            return inner;
-        };
-        if next == expr.len() {
-            return Part::Refused {
-                number: GROUP_LEFT_OPEN,
-                place: open,
-            };
+        if depth >= MOST_GROUPS {
+            return Err(Refused {
+                refusal: Refusal::TooManyGroups,
+                place: at,
+            });
         }
-        return signs(expr, next + 1, notes, begin, count, second, places);
+        let inner = union(expr, open + 1, depth + 1, notes, count, syntax, places)?;
+        if inner.next == expr.len() {
+            return Err(Refused {
+                refusal: Refusal::GroupLeftOpen,
+                place: open,
+            });
+        }
+        return signs(
+            expr,
+            inner.next + 1,
+            notes,
+            count,
+            inner.count,
+            syntax,
+            places,
+        );
     }
-    let part = single(expr, at, notes, begin, second, places);
-    let Part::Read { next, count } = part else {
-        return part;
-    };
-    if sign_follows(expr, next) {
-        return signs(expr, next, notes, begin, count, second, places);
+    let part = single(expr, at, notes, count, syntax, places)?;
+    if sign_follows(expr, part.next) {
+        return signs(expr, part.next, notes, count, part.count, syntax, places);
     }
-    Part::Read { next, count }
+    Ok(part)
 }

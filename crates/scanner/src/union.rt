@@ -9,23 +9,16 @@ ghost use Rattle.scanner.specs.Rounds.{BranchDue, BranchBegins};
 use crate::catenation::catenation;
 use crate::join::put_join;
 use operands::part::Part;
+use operands::syntax::Syntax;
 use tree::layout::UNION_LABEL;
+use tree::refusal::Refused;
 
 // Whether a branch is due at a place, in a union that begins at `at`.
 fn branch_due(expr: &[u8], at: usize, place: usize) -> bool
     requires { place ≤ length expr.now }
     ensures { BranchDue expr.now at place result }
 {
-    if place == at {
-        return true;
-    }
-    if place == expr.len() {
-        return false;
-    }
-    if expr[place] == b'|' {
-        return true;
-    }
-    false
+    place == at || (place < expr.len() && expr[place] == b'|')
 }
 
 // Where the branch begins that is due at a place: the first one there, another after its `|`.
@@ -33,10 +26,7 @@ fn branch_begin(at: usize, place: usize) -> usize
     requires { place ≤ longest_expression }
     ensures { BranchBegins at place result }
 {
-    if place == at {
-        return at;
-    }
-    place + 1
+    if place == at { at } else { place + 1 }
 }
 
 // Reads a union from a place on: the place of its node is its `|`.
@@ -47,26 +37,23 @@ pub fn union(
     depth: usize,
     notes: &mut [u16],
     count: usize,
-    second: bool,
+    syntax: Syntax,
     places: bool,
-) -> Part
+) -> Result<Part, Refused>
     requires { ScratchRoom expr.now at depth count notes.old }
-    ensures { PartAnswer (syntax_of second) places united expr.now at depth count
+    ensures { PartAnswer (syntax_of syntax) places united expr.now at depth count
         notes.old notes.new result }
 {
-    let mut place = at;
-    let mut n = count;
-    while branch_due(expr, at, place) {
-        let begin = branch_begin(at, place);
-        let part = catenation(expr, begin, depth, notes, n, second, places);
-        let Part::Read { next, count } = part else {
-            return part;
+    let mut read = Part { next: at, count };
+    // Each branch says where the next one begins, so this goes from place to place and not by an index.
+    'branches: while branch_due(expr, at, read.next) {
+        let begin = branch_begin(at, read.next);
+        let part = catenation(expr, begin, depth, notes, read.count, syntax, places)?;
+        let total = put_join(notes, part.count, UNION_LABEL, at, read.next, places);
+        read = Part {
+            next: part.next,
+            count: total,
         };
-        n = put_join(notes, count, UNION_LABEL, at, place, places);
-        place = next;
     }
-    Part::Read {
-        next: place,
-        count: n,
-    }
+    Ok(read)
 }

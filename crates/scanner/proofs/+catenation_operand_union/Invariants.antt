@@ -17,20 +17,22 @@ decreases-operand::operand l = 3 * (length l.expr.now - l.at) + 0
 abbrev pub decreases-union::union : goal.decreases-union::union
 decreases-union::union l = 3 * (length l.expr.now - l.at) + 2
 
-abbrev pub invariant-catenation::catenation-loop-notes :
-    goal.invariant-catenation::catenation-loop-notes
-invariant-catenation::catenation-loop-notes l =
-    Round (syntax_of l.second) l.places joined starred l.expr l.depth l.at l.count l.initial.notes l.place l.n l.notes
-    × (l.at ≤ l.place) × (l.place ≤ length l.expr) × (l.n ≤ slot_count) × (length l.notes ≡ length l.initial.notes)
+abbrev pub invariant-catenation::catenation-operands : goal.invariant-catenation::catenation-operands
+invariant-catenation::catenation-operands l =
+    Round (syntax_of l.syntax) l.places joined starred l.expr l.depth l.at l.count l.initial.notes l.read.next
+    l.read.count l.notes
+    × (l.at ≤ l.read.next) × (l.read.next ≤ length l.expr) × (l.read.count ≤ slot_count)
+    × (length l.notes ≡ length l.initial.notes)
 
-abbrev pub decreases-catenation::catenation-loop-notes :
-    goal.decreases-catenation::catenation-loop-notes
-decreases-catenation::catenation-loop-notes l = length l.expr - l.place
+abbrev pub decreases-catenation::catenation-operands : goal.decreases-catenation::catenation-operands
+decreases-catenation::catenation-operands l = length l.expr - l.read.next
 
-abbrev pub invariant-union::union-loop-begin : goal.invariant-union::union-loop-begin
-invariant-union::union-loop-begin l =
-    Round (syntax_of l.second) l.places united joined l.expr l.depth l.at l.count l.initial.notes l.place l.n l.notes
-    × (l.at ≤ l.place) × (l.place ≤ length l.expr) × (l.n ≤ slot_count) × (length l.notes ≡ length l.initial.notes)
+abbrev pub invariant-union::union-branches : goal.invariant-union::union-branches
+invariant-union::union-branches l =
+    Round (syntax_of l.syntax) l.places united joined l.expr l.depth l.at l.count l.initial.notes l.read.next
+    l.read.count l.notes
+    × (l.at ≤ l.read.next) × (l.read.next ≤ length l.expr) × (l.read.count ≤ slot_count)
+    × (length l.notes ≡ length l.initial.notes)
 
-abbrev pub decreases-union::union-loop-begin : goal.decreases-union::union-loop-begin
-decreases-union::union-loop-begin l = length l.expr - l.place
+abbrev pub decreases-union::union-branches : goal.decreases-union::union-branches
+decreases-union::union-branches l = length l.expr - l.read.next
