@@ -39,7 +39,7 @@ pub fn cut_right(l: u16, r: u16) -> bool
 pub fn one_if(cut: bool) -> u16
     ensures { result ≡ one cut }
 {
-    if cut { 1 } else { 0 }
+    u16::from(cut)
 }
 
 // What a child adds to its parent's open size.

@@ -10,13 +10,11 @@ use tree::layout::{CATENATION_LABEL, NO_CHILD, STAR_LABEL, UNION_LABEL};
 pub fn right_slot(label: u16, i: usize) -> usize
     ensures { (result ≡ right_slot label i) × (result ≤ i) }
 {
-    if label == CATENATION_LABEL {
-        return i;
+    if matches!(label, CATENATION_LABEL | UNION_LABEL) {
+        i
+    } else {
+        0
     }
-    if label == UNION_LABEL {
-        return i;
-    }
-    0
 }
 
 // The slot of the left or only child of record i: where the right child, of `size` nodes, begins.
@@ -24,13 +22,11 @@ pub fn left_slot(label: u16, i: usize, size: u16) -> usize
     requires { size ≤ i }
     ensures { (result ≡ left_slot label i size) × (result ≤ i) }
 {
-    if label < CATENATION_LABEL {
-        return 0;
+    if matches!(label, CATENATION_LABEL..=STAR_LABEL) {
+        i - usize::from(size)
+    } else {
+        0
     }
-    if STAR_LABEL < label {
-        return 0;
-    }
-    i - size as usize
 }
 
 // The record number that a slot stands for, 65,535 for none.
@@ -38,8 +34,8 @@ pub fn child_number(slot: usize) -> u16
     requires { slot ≤ most_labels }
     ensures { result ≡ child_number slot }
 {
-    if slot == 0 {
-        return NO_CHILD;
+    match slot {
+        0 => NO_CHILD,
+        _ => (slot - 1) as u16,
     }
-    (slot - 1) as u16
 }

@@ -24,16 +24,13 @@ pub fn hand_down(
     requires labels_in_bounds { (length labels.now < length pieces.old) × (length labels.now < length news.old) }
     ensures { Pieced labels.now pieces.new }
 {
-    let mut i = labels.len();
-    pieces[i] = 0;
-    news[i] = 1;
-    while 0 < i {
-        let own = pieces[i];
-        let new = news[i];
-        i -= 1;
-        let label = labels[i];
-        let right = right_slot(label, i);
-        let left = left_slot(label, i, sizes[right]);
+    pieces[labels.len()] = 0;
+    news[labels.len()] = 1;
+    for i in (0..labels.len()).rev() {
+        let own = pieces[i + 1];
+        let new = news[i + 1];
+        let right = right_slot(labels[i], i);
+        let left = left_slot(labels[i], i, sizes[right]);
         let left_open = opens[left];
         let right_open = opens[right];
         let left_off = cut_left(left_open, right_open);

@@ -20,15 +20,12 @@ fn write_all(labels: &[u16], sizes: &[u16], pieces: &[u16], out: &mut [u8])
     requires labels_in_bounds_2 { record_size * length labels.now ≤ length out.old }
     ensures { Recorded labels.now out.old out.new }
 {
-    let mut i = 0;
-    while i < labels.len() {
-        let label = labels[i];
-        let right = right_slot(label, i);
-        let left = left_slot(label, i, sizes[right]);
+    for (i, label) in labels.iter().enumerate() {
+        let right = right_slot(*label, i);
+        let left = left_slot(*label, i, sizes[right]);
         let left_number = child_number(left);
         let right_number = child_number(right);
-        write_record(out, i, label, left_number, right_number, pieces[i + 1]);
-        i += 1;
+        write_record(out, i, *label, left_number, right_number, pieces[i + 1]);
     }
 }
 

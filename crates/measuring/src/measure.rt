@@ -18,21 +18,18 @@ fn measure(labels: &[u16], sizes: &mut [u16], opens: &mut [u16], cuts: &mut [u16
     sizes[0] = 0;
     opens[0] = 0;
     cuts[0] = 0;
-    let mut i = 0;
-    while i < labels.len() {
-        let label = labels[i];
-        let right = right_slot(label, i);
+    for (i, label) in labels.iter().enumerate() {
+        let right = right_slot(*label, i);
         let right_size = sizes[right];
-        let left = left_slot(label, i, right_size);
+        let left = left_slot(*label, i, right_size);
         let size = sizes[left] + right_size + 1;
         let left_open = opens[left];
         let right_open = opens[right];
         let open_here = open_size(left_open, right_open);
         let cuts_here = cut_count(left_open, right_open, cuts[left], cuts[right]);
-        i += 1;
-        sizes[i] = size;
-        opens[i] = open_here;
-        cuts[i] = cuts_here;
+        sizes[i + 1] = size;
+        opens[i + 1] = open_here;
+        cuts[i + 1] = cuts_here;
     }
 }
 
@@ -46,5 +43,5 @@ pub fn piece_count(labels: &[u16], sizes: &mut [u16], opens: &mut [u16], cuts: &
     ensures counts_pieces { CountsPieces labels.now result }
 {
     measure(labels, sizes, opens, cuts);
-    1 + cuts[labels.len()] as usize
+    1 + usize::from(cuts[labels.len()])
 }

@@ -1,5 +1,5 @@
 // Whether labels are those of one tree in postorder: a count of the trees that wait for a parent.
-ghost use Rattle.std.specs.Prelude.{◌≡◌, ◌-◌, ◌≤◌, length};
+ghost use Rattle.std.specs.Prelude.{◌≡◌, ◌≤◌, length};
 ghost use Rattle.tree.specs.Limits.{most_labels};
 ghost use Rattle.tree.specs.Postorder.{asked};
 ghost use Rattle.ordering.specs.Depth.{depth_after, OneTree};
@@ -7,16 +7,6 @@ ghost use Rattle.ordering.specs.Depth.{depth_after, OneTree};
 use tree::layout::{
     CATENATION_LABEL, CHARACTER_LABEL, CLASS_LABEL, EMPTY_LABEL, STAR_LABEL, UNION_LABEL,
 };
-
-// One less, 0 of 0.
-fn one_less(n: usize) -> usize
-    ensures { result ≡ n - 1 }
-{
-    if n == 0 {
-        return 0;
-    }
-    n - 1
-}
 
 // How many trees wait after a label; 0 where the label has not its operands, or is none.
 fn depth_with(label: u16, depth: usize) -> usize
@@ -26,11 +16,8 @@ fn depth_with(label: u16, depth: usize) -> usize
     if label % 256 == CHARACTER_LABEL {
         return depth + 1;
     }
-    if label == CATENATION_LABEL {
-        return one_less(depth);
-    }
-    if label == UNION_LABEL {
-        return one_less(depth);
+    if matches!(label, CATENATION_LABEL | UNION_LABEL) {
+        return depth.saturating_sub(1);
     }
     if label == STAR_LABEL {
         return depth;
@@ -50,13 +37,11 @@ pub fn one_tree(labels: &[u16]) -> bool
     ensures { OneTree labels.now result }
 {
     let mut depth = 0;
-    let mut i = 0;
-    while i < labels.len() {
-        depth = depth_with(labels[i], depth);
+    for label in labels {
+        depth = depth_with(*label, depth);
         if depth == 0 {
             return false;
         }
-        i += 1;
     }
     depth == 1
 }

@@ -1,10 +1,5 @@
--- `measuring::measure::measure` meets its contract. The loop's invariant: the records below `i` are measured. A turn
--- reads the children's slots, which the invariant speaks of, and the laws of the specs gather the record's own numbers
--- from theirs; that a tree has these labels bounds them all. The measure is what is left of the labels.
-use Prim.Native.Nat.{◌+◌}
-use mathlib.Core.Path.{◌≡◌, refl, ◌∙◌}
-use native.Mathlib.Omega.{arith}
-use lib.ListN.{length, get_or, length-set}
+-- `measuring::measure::measure` meets its contract, by what the children's slots hold for every tree with these labels.
+use Rattle.std.proofs.Common.{◌+◌, ◌≡◌, ◌∙◌, length, get_or, arith}
 use Rattle.language.specs.Tree.{Tree}
 use Rattle.tree.specs.Leaf.{Leaf}
 use Rattle.tree.specs.Records.{labels}
@@ -32,30 +27,22 @@ found c t e =
     c.loop-i.cuts
     (children c.args.labels.now t c.loop-i.i c.left_slot-left.result c.right_slot-right.result c.loop-i.sizes
     c.loop-i.opens c.loop-i.cuts e
-    c.loop-i-test.true c.loop-i.invariant.2 c.right_slot-right.ensures.0 c.left_slot-left.ensures.0)
+    c.loop-i-test.true c.loop-i.invariant.1 c.right_slot-right.ensures.0 c.left_slot-left.ensures.0)
 
 pub loop-i-init : goal.loop-i-init
 loop-i-init c =
     let room = c.requires.room_to_measure in (
-      omega arith,
       room_stays (length c.args.labels.now) c.args.sizes.now c.args.opens.now
           c.args.cuts.now 0 0 0 0
           room,
       measured_none c.args.labels.now c.args.sizes.now c.args.opens.now c.args.cuts.now room,
-      refl,
-      refl,
-      refl,
     )
-
-pub right_slot-right-requires : goal.right_slot-right-requires
-right_slot-right-requires c =
-    tt
 
 pub left_slot-left-requires : goal.left_slot-left-requires
 left_slot-left-requires c =
     right_size_le c.args.labels.now c.requires.postorder.tree c.loop-i.i c.right_slot-right.result c.loop-i.sizes
     c.requires.postorder.same
-    c.loop-i-test.true (c.loop-i.invariant.2.sized c.requires.postorder.tree c.requires.postorder.same)
+    c.loop-i-test.true (c.loop-i.invariant.1.sized c.requires.postorder.tree c.requires.postorder.same)
     c.right_slot-right.ensures.0
 
 pub overflow_add-size : goal.overflow_add-size
@@ -82,24 +69,20 @@ cut_count-cuts_here-requires c =
 
 pub loop-i-preserved : goal.loop-i-preserved
 loop-i-preserved c = (
-  omega arith,
   room_stays (length c.args.labels.now) c.loop-i.sizes c.loop-i.opens c.loop-i.cuts
       (c.loop-i.i + 1) _ _ _
-      c.loop-i.invariant.1,
+      c.loop-i.invariant.0,
   measured_more c.args.labels.now c.loop-i.i _ c.open_size-open_here.result
       c.cut_count-cuts_here.result c.loop-i.sizes c.loop-i.opens c.loop-i.cuts
-      c.loop-i-test.true c.loop-i.invariant.1 c.loop-i.invariant.2
+      c.loop-i-test.true c.loop-i.invariant.0 c.loop-i.invariant.1
       (λ t e. (
         (found (goal.at.loop-i-preserved c).After-left_slot-left t e).size_is,
         c.open_size-open_here.ensures ∙ (found (goal.at.loop-i-preserved c).After-left_slot-left t e).open_is,
         c.cut_count-cuts_here.ensures ∙ (found (goal.at.loop-i-preserved c).After-left_slot-left t e).cuts_is,
       )),
-  simp length-set (omega (arith, length-set c.args.sizes.now 0 0)),
-  simp length-set (omega (arith, length-set c.args.opens.now 0 0)),
-  simp length-set (omega (arith, length-set c.args.cuts.now 0 0)),
 )
 
 pub returns : goal.returns
 returns c =
     let all : c.loop-i.i ≡ length c.args.labels.now = omega arith in
-    rw (← all) c.loop-i.invariant.2
+    rw (← all) c.loop-i.invariant.1
