@@ -4,21 +4,13 @@
 ghost use Rattle.std.specs.Prelude.{◌+◌, ◌*◌, ◌≤◌, ◌<◌, ◌≡◌, cond};
 ghost use Rattle.one_number.specs.Packed.{packed};
 
-// A flag as a number: 1 for yes.
-fn flag_number(flag: bool) -> u64
-    ensures value { result ≡ cond flag 1 0 }
-    ensures small { result ≤ 1 }
-{
-    if flag { 1 } else { 0 }
-}
-
 // A refusal's number, a flag and two numbers of 24 bits, in one number.
 pub fn pack(number: u8, flag: bool, x: usize, y: usize) -> u64
     requires narrow_x { x < 16777216 }
     requires narrow_y { y < 16777216 }
     ensures { result ≡ packed number (cond flag 1 0) x y }
 {
-    number as u64 + 256 * flag_number(flag) + 65536 * x as u64 + 1099511627776 * y as u64
+    u64::from(number) + 256 * u64::from(flag) + 65536 * x as u64 + 1099511627776 * y as u64
 }
 
 // In y the count of classes stands above that of pieces, by this factor.
