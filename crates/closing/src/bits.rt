@@ -1,9 +1,11 @@
-// One bit of a word: whether it is set, setting it, and which is the lowest that is set.
+// The bits of a word: whether one is set, setting it, and going over those that are set.
 ghost use Rattle.std.specs.Prelude.{ℕ, ◌^◌, ◌<◌, ◌≡◌, true, ◌⊎◌, ◌↔◌};
+ghost use Rattle.std.specs.Iterator.{at_most};
 ghost use Rattle.std.specs.Int.Bits.{bit_or};
 ghost use Rattle.tables.specs.Words.{word_bits, Bit};
 ghost use Rattle.closing.specs.BitsOfWords.Bits.{Tells};
 ghost use Rattle.closing.specs.BitsOfWords.LowestBit.{Lowest};
+ghost use Rattle.closing.specs.BitsOfWords.Taking.{LowestTaken};
 
 // Whether bit i is set.
 pub fn has_bit(word: u64, i: usize) -> bool
@@ -26,7 +28,7 @@ pub fn set_where(word: u64, i: usize, test: bool) -> u64
     requires { i < word_bits }
     ensures { (j : ℕ) → Bit result j ↔ (Bit word j ⊎ ((j ≡ i) × (test ≡ true))) }
 {
-    word | ((test as u64) << i)
+    word | (u64::from(test) << i)
 }
 
 // The number of the lowest bit that is set.
@@ -34,5 +36,26 @@ pub fn lowest(word: u64) -> usize
     requires { 0 < word }
     ensures { Lowest word result × (result < word_bits) }
 {
-    u64::trailing_zeros(word) as usize
+    word.trailing_zeros() as usize
+}
+
+// The numbers of the bits that are set in a word, from the lowest on: the word is what is left of them.
+#[derive(Drop)]
+pub struct SetBits(pub u64);
+
+impl Iterator for SetBits {
+    type Item = usize;
+
+    ghost next_gives = { λ old given new. LowestTaken old.0 given new.0 };
+
+    ghost remaining = { λ left. at_most left.0 };
+
+    fn next(&mut self) -> Option<usize> {
+        if self.0 == 0 {
+            return None;
+        }
+        let number = lowest(self.0);
+        self.0 &= self.0 - 1;
+        Some(number)
+    }
 }

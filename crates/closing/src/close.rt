@@ -12,7 +12,7 @@ ghost use Rattle.closing.specs.Passes.Jumping.{Jumped};
 ghost use Rattle.closing.specs.Passes.Laid.{Lays};
 ghost use Rattle.closing.specs.Passes.Closing.{ClosesAfter};
 
-use crate::bits::{lowest, with_bit};
+use crate::bits::{SetBits, with_bit};
 use tables::ROW_WORDS;
 use tables::rows::byte_of;
 
@@ -35,30 +35,19 @@ fn targets(rows: &[u64], piece: usize, from: u64) -> u64
     requires { row_words * piece + row_words ≤ length rows.now }
     ensures { Jumped rows.now piece from 0 result }
 {
-    let mut rest = from;
     let mut reached: u64 = 0;
-    while rest != 0 {
-        let state = lowest(rest);
+    for state in SetBits(from) {
         let target = byte_of(rows, piece, state) % WORD_BITS;
         reached = with_bit(reached, target);
-        rest = rest & (rest - 1);
     }
     reached
 }
 
-// A closed word of a piece, and whether it is zero.
-#[derive(Drop)]
-pub struct ClosedWord {
-    pub word: u64,
-    pub zero: bool,
-}
-
 // The word of a piece, closed, where the part `done` of it was closed before: of what that part reaches nothing is
-// looked at again. Each jump is taken at most once. Says also whether nothing is marked in the closed word.
-pub fn close_after(rows: &[u64], piece: usize, word: u64, done: u64) -> ClosedWord
+// looked at again. Each jump is taken at most once.
+pub fn close_after(rows: &[u64], piece: usize, word: u64, done: u64) -> u64
     requires { row_words * piece + row_words ≤ length rows.now }
-    ensures closes_after { ClosesAfter rows.now piece word done result.word }
-    ensures tells { Tells (result.word ≡ 0) result.zero }
+    ensures { ClosesAfter rows.now piece word done result }
 {
     let at = ROW_WORDS * piece;
     let on = rows[at] % TOP_BIT;
@@ -67,21 +56,24 @@ pub fn close_after(rows: &[u64], piece: usize, word: u64, done: u64) -> ClosedWo
     let mut closed = run_on(word, on);
     while closed & left != 0 {
         let taken = closed & left;
-        left = left ^ taken;
+        left ^= taken;
         closed = run_on(closed | targets(rows, piece, taken), on);
     }
-    ClosedWord {
-        word: closed,
-        zero: closed == 0,
-    }
+    closed
 }
 
-// The word of a piece, closed, and whether nothing is marked in it.
-pub fn close(rows: &[u64], piece: usize, word: u64) -> ClosedWord
+// The word of a piece, closed.
+pub fn close(rows: &[u64], piece: usize, word: u64) -> u64
     requires { row_words * piece + row_words ≤ length rows.now }
-    ensures closes { (x : Nested Leaf) → width x ≤ most_states → Lays rows.now x piece
-        → word < 2 ^ width x → Closes x word result.word }
-    ensures tells { Tells (result.word ≡ 0) result.zero }
+    ensures { (x : Nested Leaf) → width x ≤ most_states → Lays rows.now x piece
+        → word < 2 ^ width x → Closes x word result }
 {
     close_after(rows, piece, word, 0)
+}
+
+// Whether nothing is marked in the word of a piece.
+pub fn none_marked(word: u64) -> bool
+    ensures { Tells (word ≡ 0) result }
+{
+    word == 0
 }

@@ -28,22 +28,14 @@ pub fn in_class(classes: &[u8], number: usize, byte: u8) -> bool
     requires { number < class_limit }
     ensures { Tells (InClass classes.now number byte) result }
 {
-    let at = CLASS_RECORD_SIZE * number + byte as usize / 8;
-    if at < classes.len() {
-        return (classes[at] >> (byte % 8)) % 2 == 1;
-    }
-    false
+    let bits = classes.get(CLASS_RECORD_SIZE * number + usize::from(byte) / 8);
+    bits.is_some_and(|bits| (bits >> (byte % 8)) % 2 == 1)
 }
 
 // Whether the leaf of this number takes the byte. A character is told by one comparison.
 pub fn takes_byte(classes: &[u8], number: u16, byte: u8) -> bool
     ensures { Tells (CodeTakes classes.now number byte) result }
 {
-    if number == 2 * (byte as u16 + 1) {
-        return true;
-    }
-    if number % 2 == 0 {
-        return false;
-    }
-    in_class(classes, number as usize / 2, byte)
+    number == 2 * (u16::from(byte) + 1)
+        || (number % 2 == 1 && in_class(classes, usize::from(number / 2), byte))
 }

@@ -38,14 +38,14 @@ pub fn remembered_step(
 {
     let marked = word & rows[2];
     if marked >= KEY_LIMIT {
-        return moved_closed(rows, classes, 0, marked, byte).word;
+        return moved_closed(rows, classes, 0, marked, byte);
     }
-    let key = marked * BYTE_COUNT + byte as u64;
+    let key = marked * BYTE_COUNT + u64::from(byte);
     let slot = 2 * slot_of(key);
     if memo[slot] == key {
         return memo[slot + 1];
     }
-    let after = moved_closed(rows, classes, 0, marked, byte).word;
+    let after = moved_closed(rows, classes, 0, marked, byte);
     memo[slot] = key;
     memo[slot + 1] = after;
     after

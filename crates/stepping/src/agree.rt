@@ -27,16 +27,17 @@ fn none_past(word: u64, top: usize) -> bool
     word >> (top + 1) == 0
 }
 
-// The piece that a child piece hangs below: the last one before it whose run reaches past it.
+// The piece that a child piece hangs below: the last one before it whose run reaches past it, as the root's does.
 fn parent(rows: &[u64], child: usize) -> usize
     requires { (0 < child) × (child < run_of rows.now 0) × (row_words * child ≤ length rows.now) }
     ensures { Parent rows.now child result }
 {
-    let mut at = child - 1;
-    while at + run_of(rows, at) <= child {
-        at -= 1;
+    for at in (1..child).rev() {
+        if child < at + run_of(rows, at) {
+            return at;
+        }
     }
-    at
+    0
 }
 
 // Whether a child piece's word has no bit past its last state, numbered `top`, and its start and accepting state have
@@ -45,12 +46,7 @@ fn pair_agrees(above: u64, stand: usize, word: u64, top: usize) -> bool
     requires { (stand < most_states) × (top < most_states) }
     ensures { Tells (PairAgrees above stand word top) result }
 {
-    if none_past(word, top) {
-        if same_bit(above, stand, word, 0) {
-            return same_bit(above, stand + 1, word, top);
-        }
-    }
-    false
+    none_past(word, top) && same_bit(above, stand, word, 0) && same_bit(above, stand + 1, word, top)
 }
 
 // Whether the child piece's bits are those of its stand-in.
@@ -70,16 +66,6 @@ pub fn agreeing(rows: &[u64], words: &[u64], pieces: usize) -> bool
     ensures { (x : Nested Leaf) → Planned rows.now x → 1 + run x ≡ pieces
         → Tells (Clean x words.now × Agreeing x words.now) result }
 {
-    if none_past(words[0], top_of(rows, 0)) {
-        let mut child = 1;
-        while child < pieces {
-            if child_agrees(rows, words, pieces, child) {
-                child += 1;
-            } else {
-                return false;
-            }
-        }
-        return true;
-    }
-    false
+    none_past(words[0], top_of(rows, 0))
+        && (1..pieces).all(|child| child_agrees(rows, words, pieces, child))
 }

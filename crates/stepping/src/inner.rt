@@ -1,5 +1,5 @@
 // The layer inside, for those who run many bytes or many texts over one list: its rows are made once.
-ghost use Rattle.std.specs.Prelude.{ℕ, ◌≤◌, ◌<◌, ◌≡◌, List, ◌++◌, length, take, drop, replicate};
+ghost use Rattle.std.specs.Prelude.{ℕ, ◌≤◌, ◌<◌, ◌≡◌, List, ◌++◌, length, take, drop, replicate, Some};
 ghost use Rattle.language.specs.Tree.{Tree};
 ghost use Rattle.tree.specs.Limits.{most_pieces};
 ghost use Rattle.tree.specs.Leaf.{Leaf};
@@ -8,13 +8,13 @@ ghost use Rattle.tables.specs.Tables.{Prepared, Roomy, Ready};
 ghost use Rattle.closing.specs.BitsOfWords.Bits.{Tells};
 ghost use Rattle.closing.specs.BitsOfWords.Zero.{AllZero};
 ghost use Rattle.planning.specs.Given.{DecidedGood};
-ghost use Rattle.moving.specs.Spans.{Spans};
+ghost use Rattle.moving.specs.Spans.{SpansOf};
 ghost use Rattle.sweeping.specs.Twice.{Closable};
 ghost use Rattle.stepping.specs.Hold.{MarksOf};
 ghost use Rattle.stepping.specs.Inner.{Running, Begun, ClosedMoved, Advanced};
 
 use closing::bits::has_bit;
-use moving::moves::move_all;
+use moving::moves::{WordSpan, move_all};
 use planning::plan::plan;
 use sweeping::sweep::close_twice;
 use tables::rows::top_of;
@@ -45,14 +45,11 @@ pub fn copy(from: &[u64], count: usize, to: &mut [u64])
     requires { (count ≤ length from.now) × (count ≤ length to.old) }
     ensures { to.new ≡ take count from.now ++ drop count to.old }
 {
-    let mut i = 0;
-    while i < count {
-        to[i] = from[i];
-        i += 1;
-    }
+    to[..count].copy_from_slice(&from[..count]);
 }
 
-// What is told of the marks: whether the root's accepting state is among them, and whether nothing is left.
+// What is told of the marks: whether the root's accepting state is among them, and whether nothing is left. Two flags,
+// as a caller in C is given them.
 #[derive(Drop)]
 pub struct Told {
     pub accepting: bool,
@@ -81,22 +78,22 @@ pub fn begin(rows: &[u64], count: usize, words: &mut [u64]) -> bool
 {
     let mut marks = [0u64; MOST_PIECES];
     let accepting = begin_in(rows, count, &mut marks);
-    copy(&marks, count, words);
+    words[..count].copy_from_slice(&marks[..count]);
     accepting
 }
 
-// Closes the words that were moved, where marks are left from `from` up to `to`. The move has closed each piece in
+// Closes the words that were moved, where marks are left in the given span. The move has closed each piece in
 // itself, so that nothing is left to do for a single piece. Answers whether nothing is marked.
-fn close_moved(rows: &[u64], count: usize, from: usize, to: usize, words: &mut [u64]) -> bool
-    requires closable { Closable rows.now count from to words.old }
-    requires spans { Spans words.old count from to × (0 < to) }
+fn close_moved(rows: &[u64], count: usize, span: WordSpan, words: &mut [u64]) -> bool
+    requires closable { Closable rows.now count span.from span.to words.old }
+    requires spans { SpansOf words.old count (Some span) }
     ensures closed_moved { ClosedMoved rows.now count words.old words.new }
     ensures tells { Tells (AllZero count words.new) result }
 {
     if count == 1 {
         return false;
     }
-    close_twice(rows, count, from, to, words)
+    close_twice(rows, count, span.from, span.to, words)
 }
 
 // Moves the marks along the byte and closes. Where nothing is left after the move, there is nothing to close. Answers
@@ -107,14 +104,13 @@ pub fn advance(rows: &[u64], count: usize, classes: &[u8], words: &mut [u64], by
         → Advanced classes.now t byte words.old words.new result.accepting
         result.nothing }
 {
-    let span = move_all(rows, classes, words, byte, count);
-    if span.to == 0 {
+    let Some(span) = move_all(rows, classes, words, byte, count) else {
         return Told {
             accepting: false,
             nothing: true,
         };
-    }
-    let nothing = close_moved(rows, count, span.from, span.to, words);
+    };
+    let nothing = close_moved(rows, count, span, words);
     Told {
         accepting: has_bit(words[0], top_of(rows, 0)),
         nothing,

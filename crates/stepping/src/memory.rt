@@ -9,6 +9,7 @@ ghost use Rattle.stepping.specs.Inner.{Running, Advanced};
 
 use crate::inner::{Told, advance};
 use closing::bits::has_bit;
+use closing::close::none_marked;
 use moving::memo::{MEMO_WORDS, remembered_step};
 use tables::rows::top_of;
 
@@ -31,7 +32,7 @@ fn advance_alone(
     words[0] = after;
     Told {
         accepting: has_bit(after, top_of(rows, 0)),
-        nothing: after == 0,
+        nothing: none_marked(after),
     }
 }
 

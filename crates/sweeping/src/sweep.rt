@@ -13,7 +13,7 @@ ghost use Rattle.sweeping.specs.ClosedFromState.{ClosesFrom};
 ghost use Rattle.sweeping.specs.Twice.{Closable, ClosedTwice};
 
 use closing::bits::{has_bit, with_bit};
-use closing::close::{ClosedWord, close, close_after};
+use closing::close::{close, close_after, none_marked};
 use tables::ROW_WORDS;
 use tables::rows::{run_of, stand_of, top_of};
 
@@ -26,21 +26,14 @@ fn pass(other: u64, from: usize, word: u64, to: usize) -> u64
 }
 
 // The word of a piece, closed: it was closed but for what one state reaches, so closing that state alone is enough.
-// Says also whether the closed word is zero.
-fn close_from(rows: &[u64], piece: usize, word: u64, state: usize) -> ClosedWord
+fn close_from(rows: &[u64], piece: usize, word: u64, state: usize) -> u64
     requires { (row_words * piece + row_words ≤ length rows.now) × (state < word_bits) }
-    ensures closes_from { ClosesFrom rows.now piece word state result.word }
-    ensures tells { Tells (result.word ≡ 0) result.zero }
+    ensures { ClosesFrom rows.now piece word state result }
 {
     if has_bit(word, state) {
-        return ClosedWord {
-            word: word | close(rows, piece, with_bit(0, state)).word,
-            zero: false,
-        };
-    }
-    ClosedWord {
-        word: word,
-        zero: word == 0,
+        word | close(rows, piece, with_bit(0, state))
+    } else {
+        word
     }
 }
 
@@ -77,40 +70,23 @@ fn at_rest(
     requires { (stand < word_bits) × (at < most_pieces) }
     ensures { result ≡ true → AtRest word stand first at end from to }
 {
-    if has_bit(word, stand) {
-        return false;
-    }
-    if end == at + 1 {
-        return first == 0;
-    }
-    if at < to {
-        return end <= from;
-    }
-    true
+    let without_marks = if end == at + 1 {
+        first == 0
+    } else {
+        end <= from || to <= at
+    };
+    !has_bit(word, stand) && without_marks
 }
 
 // Whether nothing can happen from the child piece at `at` on: the own word has no mark, and those ahead have none.
 fn idle(word: u64, at: usize, to: usize) -> bool
     ensures { result ≡ true → (word ≡ 0) × (to ≤ at) }
 {
-    if word == 0 {
-        return to <= at;
-    }
-    false
-}
-
-// How much a number is above another, or 0.
-fn above(n: usize, m: usize) -> usize
-    ensures { result ≡ n - m }
-{
-    if m < n {
-        return n - m;
-    }
-    0
+    none_marked(word) && to <= at
 }
 
 // What a sweep reports of the words that it leaves: whether another sweep would change nothing, and whether no word of
-// the run has a mark.
+// the run has a mark. Either may be so without the other, so that no enum says it shorter.
 #[derive(Drop)]
 pub struct Reported {
     pub settled: bool,
@@ -132,11 +108,12 @@ pub fn sweep(rows: &[u64], from: usize, to: usize, words: &mut [u64]) -> Reporte
     ensures tells { Tells (AllZero (length words.old) words.new) result.zero }
 {
     let first = close_from(rows, 0, words[0], 0);
-    words[0] = first.word;
+    words[0] = first;
     let mut settled = true;
-    let mut zero = first.zero;
+    let mut zero = none_marked(first);
     let mut waiting: u64 = 0;
     let mut at = 1;
+    // No `for` over a range: from one child piece the next stands behind that one's run.
     while at < words.len() {
         if idle(words[0], at, to) {
             return Reported { settled, zero };
@@ -149,15 +126,15 @@ pub fn sweep(rows: &[u64], from: usize, to: usize, words: &mut [u64]) -> Reporte
             let row = ROW_WORDS * at;
             let below = sweep(
                 &rows[row..],
-                above(from, at),
-                above(to, at),
+                from.saturating_sub(at),
+                to.saturating_sub(at),
                 &mut words[at..next],
             );
             let raised = pass(words[at], top_of(rows, at), words[0], stand + 1);
             let own = close_after(rows, 0, raised, words[0]);
-            words[0] = own.word;
-            settled = settled & below.settled;
-            zero = zero & below.zero & own.zero;
+            words[0] = own;
+            settled &= below.settled;
+            zero = zero & below.zero & none_marked(own);
         }
         at = next;
     }

@@ -4,7 +4,6 @@ use mathlib.Core.Path.{◌≡◌}
 use mathlib.Core.Bool.{Bool, true, false}
 use mathlib.Core.Logic.{◌⊎◌, ◌↔◌}
 use mir.Val.{bool_byte}
-use borrow.Author.Rules.{rules}
 use lib.Bits.{bit_or}
 use Rattle.tables.specs.Words.{word_bits, Bit}
 use Rattle.closing.specs.BitsOfWords.Bits.{joined_bit, njoined_bit}
@@ -16,5 +15,4 @@ joined true w i j inside = joined_bit w i j inside
 joined false w i j inside = njoined_bit w i j
 
 pub returns : goal.returns
-returns c =
-    λ j. joined c.args.test c.args.word c.args.i j c.requires
+returns c = rw c.from.ensures (λ j. joined c.args.test c.args.word c.args.i j c.requires)

@@ -1,25 +1,30 @@
--- `moving::moves::move_all` meets its contract. The loop's invariant: the words passed are moved and closed, and their
--- marks are gathered in the span.
-use Prim.Native.Nat.{◌≤◌, ◌-◌}
-use native.Mathlib.Omega.{arith}
+-- `moving::moves::move_all` meets its contract: one word more is moved and closed, and the span widened by it.
+use Rattle.std.proofs.Common.{ℕ, ◌<◌, List, length, get_or-set_same, arith}
 use Rattle.moving.specs.WordsMovedClosed.{MovingClosing, moving_none, moving_more, moving_all}
-use Rattle.moving.specs.Spans.{Spans, spans_none, spans_more, spans_all}
+use Rattle.moving.specs.Spans.{spans_none, spans_more, spans_all}
 use Rattle.moving.proofs.moves.move_all.Goals as goal
 
+-- a piece stands in the words as they are so far
+inside_words : {rows classes before after : List ℕ} {byte piece : ℕ}
+    → MovingClosing rows classes before after byte piece → piece < length before → piece < length after
+inside_words moving inside = omega (arith, moving.moves.same_length, moving.closes.same_length)
+
 pub loop-piece-init : goal.loop-piece-init
-loop-piece-init c =
-    (omega arith, moving_none _ _ _ _, spans_none _)
+loop-piece-init c = (moving_none _ _ _ _, spans_none _)
 
 pub loop-piece-preserved : goal.loop-piece-preserved
 loop-piece-preserved c =
-    let at = c.loop-piece.invariant in (
-      omega arith,
-      moving_more (omega arith) at.1 c.word_after-after.ensures.word_after,
-      spans_more _ at.2 (omega (arith, at.1.moves.same_length, at.1.closes.same_length))
-          c.word_after-after.ensures.tells c.widened-span.ensures,
+    let loop = c.loop-piece in
+    let invariant = loop.invariant in
+    let inside = inside_words invariant.0 (omega arith) in (
+      moving_more (omega arith) invariant.0 c.word_after.ensures,
+      spans_more loop.words loop.piece loop.span _ invariant.1 inside
+          (rw get_or-set_same at c.widened-span.ensures),
     )
 
 pub returns : goal.returns
 returns c =
-    let done = c.loop-piece.invariant in
-    record { moved_closed = moving_all (omega arith) done.1; spans = spans_all (omega arith) done.2 }
+    let done = c.loop-piece.invariant in record {
+      moved_closed = moving_all (omega arith) done.0;
+      spans = spans_all c.loop-piece.words c.loop-piece.span (omega arith) done.1;
+    }

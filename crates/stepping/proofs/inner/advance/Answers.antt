@@ -1,18 +1,18 @@
 -- `stepping::inner::advance` meets its contract: the words are moved along the byte; where no mark is left they are
 -- closed as they are, else they are closed, which is a step of the plain simulation.
-use native.Mathlib.Omega.{arith}
+use Rattle.std.proofs.Common.{refl, arith}
 use Rattle.stepping.specs.Inner.{moved_closable, first_row, top_low, advanced_none, advanced}
 use Rattle.stepping.proofs.inner.advance.Goals as goal
 
-pub returns-then-span-eq0 : goal.returns-then-span-eq0
-returns-then-span-eq0 c =
-    λ t prepared marks.
-    advanced_none prepared marks c.move_all-span.ensures.moved_closed c.move_all-span.ensures.spans
-    (omega (arith, c.if-span-eq0.true))
+pub returns-in_default : goal.returns-in_default
+returns-in_default c = λ t prepared marks.
+    advanced_none prepared marks c.move_all.ensures.moved_closed c.in_default.ensures.spans refl
 
 pub close_moved-nothing-requires : goal.close_moved-nothing-requires
-close_moved-nothing-requires c =
-    record { closable = moved_closable c.requires c.move_all-span.ensures.moved_closed c.move_all-span.ensures.spans; spans = (c.move_all-span.ensures.spans, omega (arith, c.if-span-eq0.false)) }
+close_moved-nothing-requires c = record {
+  closable = moved_closable c.requires c.move_all.ensures.moved_closed c.in-Some.ensures.spans.0;
+  spans = c.in-Some.ensures.spans;
+}
 
 pub top_of-requires : goal.top_of-requires
 top_of-requires c =
@@ -29,6 +29,6 @@ has_bit-requires c =
 pub returns : goal.returns
 returns c =
     λ t prepared marks.
-    advanced prepared _ _ _ _ _ _ marks c.move_all-span.ensures.moved_closed c.close_moved-nothing.ensures.closed_moved
+    advanced prepared _ _ _ _ _ _ marks c.move_all.ensures.moved_closed c.close_moved-nothing.ensures.closed_moved
     c.close_moved-nothing.auto.words _ c.top_of.ensures c.has_bit.ensures
     c.close_moved-nothing.ensures.tells

@@ -1,6 +1,5 @@
 -- `stepping::memory::advance_alone` meets its contract: the word after the byte is the whole of the marks.
 use native.Mathlib.Omega.{arith}
-use borrow.Author.Tests.{eqb-true, eqb-false}
 use Rattle.stepping.specs.Inner.{first_row, top_low}
 use Rattle.stepping.specs.Alone.{advanced_alone}
 use Rattle.stepping.proofs.memory.advance_alone.Goals as goal
@@ -30,6 +29,6 @@ returns c =
     record {
       advanced = λ t prepared marks. advanced_alone prepared (omega (arith, c.requires.running.enough)) marks
           c.remembered_step-after.ensures.word_after _ c.top_of.ensures c.has_bit.ensures
-          record { holds = eqb-true _ _; fails = eqb-false _ _ };
+          c.none_marked.ensures;
       remembers_2 = c.remembered_step-after.ensures.remembers;
     }
