@@ -20,7 +20,7 @@ use Rattle.classes.specs.ClassReading.{
   opened_plainly,
 }
 use Rattle.classes.specs.ClassAt.{run_at, class_at, ClassHere, dot_here, bracket_here}
-use Rattle.classes.specs.Members.{Members, EveryValue, Put, item_value, filled_members, put_members, value_count}
+use Rattle.classes.specs.Members.{Members, EveryValue, Put, filled_members, put_members, value_count}
 
 -- a reading of a class finds one that ends at `next`, and these are its values
 pub record ClassFound (bytes : List ℕ) (at next : ℕ) (ran : ClassRan) (members : List ℕ) : Type 0 where
@@ -50,27 +50,6 @@ pub record ItemsSoFar (bytes : List ℕ) (at : ℕ) (all_but : Bool) (place coun
   pub within : place ≤ length bytes
 
 module _ {bytes : List ℕ} {at : ℕ} {all_but : Bool} where
-  -- none yet
-  pub no_items : {members : List ℕ} → Members (class_of_items all_but []) members → at ≤ length bytes
-      → ItemsSoFar bytes at all_but at 0 members
-  no_items m h =
-      record { items = []; counted = refl; on = refl; told = m; onward = omega arith; within = h }
-
-  -- one more
-  pub one_more_item : {place count first last next : ℕ} {before after : List ℕ}
-      → ItemsSoFar bytes at all_but place count before → ItemHere bytes place first last next
-      → length after ≡ length before → Put before after first (last + 1) (item_value all_but)
-      → ItemsSoFar bytes at all_but next (count + 1) after
-  one_more_item {first = first} {last = last} {before = before} {after = after} s item long put =
-      record {
-        items = from_to first last ∷ s.items;
-        counted = omega (arith, s.counted);
-        on = s.on ∙ item.on (class_of_items all_but s.items);
-        told = put_members (class_of_items all_but s.items) before after first last s.told long put;
-        onward = omega (arith, s.onward, item.further);
-        within = item.within;
-      }
-
   module _ {place count : ℕ} {members : List ℕ} (s : ItemsSoFar bytes at all_but place count members) where
     -- the `]` ends the class
     pub items_ended : EndHere bytes place count
@@ -130,10 +109,6 @@ pub record ItemsPassed (bytes : List ℕ) (at place count : ℕ) : Type 0 where
       ≡ class_run_from bytes place (class_of_items all_but items) item_due
   pub onward : at + count ≤ place
   pub within : place ≤ length bytes
-
-pub none_passed : {bytes : List ℕ} {at : ℕ} → at ≤ length bytes → ItemsPassed bytes at at 0
-none_passed h =
-    record { items = []; counted = refl; on = λ all_but. refl; onward = omega arith; within = h }
 
 pub one_more_passed : {bytes : List ℕ} {at place count first last next : ℕ} → ItemsPassed bytes at place count
     → ItemHere bytes place first last next → ItemsPassed bytes at next (count + 1)

@@ -14,7 +14,7 @@ ghost use Rattle.classes.specs.ClassAt.{run_at};
 ghost use Rattle.classes.specs.Members.{Members, value_count};
 ghost use Rattle.classes.specs.ClassItems.{ClassAnswer, ItemsEndAnswer, ClassEndAnswer};
 
-use crate::members::{set_all, set_range};
+use crate::members::set_range;
 use crate::part::{ClassByte, ClassItem, Due};
 use tree::bytes::stands_at;
 
@@ -160,9 +160,9 @@ pub fn class_members(expr: &[u8], at: usize, members: &mut [u8]) -> Option<usize
     ensures { ClassAnswer expr.now at (run_at expr.now at) members.new result }
 {
     if stands_at(expr, at + 1, b'^') {
-        set_all(members, 1);
+        members.fill(1);
         return items(expr, at + 2, members, true);
     }
-    set_all(members, 0);
+    members.fill(0);
     items(expr, at + 1, members, false)
 }

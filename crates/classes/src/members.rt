@@ -6,28 +6,12 @@ ghost use Rattle.classes.specs.Members.{value_count, EveryValue, Put, ZeroOrOne,
 // How many values a byte has.
 pub const VALUE_COUNT: usize = 256;
 
-// Gives every value this number.
-pub fn set_all(members: &mut [u8], value: u8)
-    requires { length members.old ≡ value_count }
-    ensures { EveryValue members.new value }
-{
-    let mut i = 0;
-    while i < members.len() {
-        members[i] = value;
-        i += 1;
-    }
-}
-
 // Gives the values from the first to the last this number.
 pub fn set_range(members: &mut [u8], first: usize, last: usize, value: u8)
     requires { (first ≤ last) × (last < length members.old) }
     ensures { Put members.old members.new first (last + 1) value }
 {
-    let mut v = first;
-    while v <= last {
-        members[v] = value;
-        v += 1;
-    }
+    members[first..=last].fill(value);
 }
 
 // Eight numbers as a byte, the first at the low end.
@@ -45,9 +29,7 @@ pub fn write_class_record(members: &[u8], out: &mut [u8])
     requires { ZeroOrOne members.now × (length out.old ≡ class_record_size) }
     ensures { RecordedUpTo members.now out.new class_record_size }
 {
-    let mut i = 0;
-    while i < out.len() {
-        out[i] = eight(members, 8 * i);
-        i += 1;
+    for (i, byte) in out.iter_mut().enumerate() {
+        *byte = eight(members, 8 * i);
     }
 }
