@@ -21,6 +21,9 @@ use crate::note::note;
 use tree::layout::{CATENATION_LABEL, EMPTY_LABEL, STAR_LABEL, UNION_LABEL};
 use tree::limits::MOST_LABELS;
 
+// The scratch and its count are handed on apart: so the readers of operands and of signs promise of them (`LeafAnswer`,
+// `OneSignAnswer`).
+
 // The count that says that there is no room.
 const NO_ROOM: usize = MOST_LABELS + 1;
 
@@ -80,11 +83,7 @@ fn copy_run(notes: &mut [u16], begin: usize, size: usize, count: usize) -> usize
     if count + size > MOST_LABELS {
         return NO_ROOM;
     }
-    let mut i = 0;
-    while i < size {
-        notes[count + i] = notes[begin + i];
-        i += 1;
-    }
+    notes.copy_within(begin..begin + size, count);
     count + size
 }
 
@@ -127,11 +126,9 @@ fn follow(
         (λ run. copied n (run ++ copy_end places place with_question)) result notes.new }
 {
     let mut total = count;
-    let mut i = 0;
-    while i < n {
+    for _ in 0..n {
         let copy = copy_run(notes, begin, size, total);
         total = end_copy(notes, copy, with_question, place, places);
-        i += 1;
     }
     total
 }

@@ -6,8 +6,5 @@ ghost use Rattle.repeats.specs.Noted.{note};
 pub fn note(label: u16, place: u16, places: bool) -> u16
     ensures { result ≡ note places label place }
 {
-    if places {
-        return place;
-    }
-    label
+    if places { place } else { label }
 }
