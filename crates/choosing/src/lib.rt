@@ -2,14 +2,15 @@
 // fits, and by marks otherwise.
 #![tactic(auto)]
 
-ghost use Rattle.std.specs.Prelude.{ℕ, ◌≡◌, true, ◌↔◌};
+ghost use Rattle.std.specs.Prelude.{◌≡◌, ◌≤◌, true, ◌↔◌, ⊤, MatchOption};
 ghost use Rattle.language.specs.Tree.{Tree};
 ghost use Rattle.tree.specs.Leaf.{Leaf, Matches};
 ghost use Rattle.tables.specs.Tables.{Prepared, Ready};
 ghost use Rattle.choosing.specs.TableChoice.{AcceptsLanguage};
 
 use matching::text::text_matches;
-use tabulating::{Tabulated, tabulate};
+use running::run::runs;
+use tabulating::tabulate;
 
 // How many entries a table that is made here has at most.
 pub const TABLE_ENTRIES: usize = 8192;
@@ -19,74 +20,55 @@ const SMALL_ROOM: usize = 4000;
 
 pub const LARGE_ROOM: usize = 8000;
 
-// Makes a table of steps in the room that is lent. Answers whether it fits.
-fn make_in(rows: &[u64], count: usize, classes: &[u8], table: &mut [u16], room: &mut [u64]) -> bool
-    requires { Ready rows.now count }
+// Makes a table of steps in so many words of room. Answers whether it fits.
+fn make_in<const WORDS: usize>(
+    rows: &[u64],
+    count: usize,
+    classes: &[u8],
+    table: &mut [u16],
+) -> bool
+    requires ready { Ready rows.now count }
+    requires words_few { WORDS ≤ LARGE_ROOM }
     ensures { (t : Tree Leaf) → Prepared t rows.now count → result ≡ true
         → AcceptsLanguage classes.now t table.new }
 {
-    let made = tabulate(rows, count, classes, table, room);
-    match made {
-        Tabulated::Made {
-            states: _,
-            entries: _,
-        } => true,
-        Tabulated::DoesNotFit => false,
-    }
-}
-
-// In the small room.
-fn make_small(rows: &[u64], count: usize, classes: &[u8], table: &mut [u16]) -> bool
-    requires { Ready rows.now count }
-    ensures { (t : Tree Leaf) → Prepared t rows.now count → result ≡ true
-        → AcceptsLanguage classes.now t table.new }
-{
-    let mut room = [0u64; SMALL_ROOM];
-    make_in(rows, count, classes, table, &mut room)
-}
-
-// In the large room.
-fn make_large(rows: &[u64], count: usize, classes: &[u8], table: &mut [u16]) -> bool
-    requires { Ready rows.now count }
-    ensures { (t : Tree Leaf) → Prepared t rows.now count → result ≡ true
-        → AcceptsLanguage classes.now t table.new }
-{
-    let mut room = [0u64; LARGE_ROOM];
-    make_in(rows, count, classes, table, &mut room)
+    let mut room = [0u64; WORDS];
+    tabulate(rows, count, classes, table, &mut room).is_some()
 }
 
 // Makes a table of steps where so many bytes of texts pay for it: in the largest room that has no more words than
 // these. A step that is tried is the work of one byte by marks, or two. Answers whether there is a table. It calls
 // itself with less room, so that each size has a stack frame of its own.
-pub fn make_if_paying(
+pub fn make_if_paying<'a>(
     rows: &[u64],
     count: usize,
     classes: &[u8],
     bytes: usize,
     words: usize,
-    table: &mut [u16],
-) -> bool
+    table: &'a mut [u16],
+) -> Option<&'a [u16]>
     requires { Ready rows.now count }
-    ensures { (t : Tree Leaf) → Prepared t rows.now count → result ≡ true
-        → AcceptsLanguage classes.now t table.new }
+    ensures { (t : Tree Leaf) → Prepared t rows.now count
+        → MatchOption result ⊤ (λ made. AcceptsLanguage classes.now t made.now) }
 {
     if words < SMALL_ROOM {
-        return false;
+        return None;
     }
     if bytes < words {
         return make_if_paying(rows, count, classes, bytes, words / 2, table);
     }
-    if words < LARGE_ROOM {
-        return make_small(rows, count, classes, table);
-    }
-    make_large(rows, count, classes, table)
+    let made = if words < LARGE_ROOM {
+        make_in::<SMALL_ROOM>(rows, count, classes, table)
+    } else {
+        make_in::<LARGE_ROOM>(rows, count, classes, table)
+    };
+    if made { Some(table) } else { None }
 }
 
 // Whether the text is in the language of the tree that the rows are of: by the table of steps where there is one, by
 // marks otherwise.
 pub fn either_matches(
-    tabled: bool,
-    table: &[u16],
+    table: Option<&[u16]>,
     rows: &[u64],
     count: usize,
     classes: &[u8],
@@ -94,11 +76,11 @@ pub fn either_matches(
 ) -> bool
     requires { Ready rows.now count }
     ensures { (t : Tree Leaf) → Prepared t rows.now count
-        → (tabled ≡ true → AcceptsLanguage classes.now t table.now)
+        → MatchOption table.entry ⊤ (λ made. AcceptsLanguage classes.now t made.now)
         → (result ≡ true) ↔ Matches classes.now t text.now }
 {
-    if tabled {
-        return running::run::runs(table, text);
+    match table {
+        Some(table) => runs(table, text),
+        None => text_matches(rows, count, classes, text),
     }
-    text_matches(rows, count, classes, text)
 }

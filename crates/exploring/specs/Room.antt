@@ -1,12 +1,10 @@
 -- What the room holds while states are found: for each state a number, its marks, and where each column leads from it.
-use Rattle.std.specs.Prelude.{ℕ, ◌+◌, ◌*◌, ◌≤◌, ◌<◌, ◌≡◌, List, [], get_or, drop, length, set, take}
+use Rattle.std.specs.Prelude.{ℕ, ◌+◌, ◌*◌, ◌≤◌, ◌<◌, ◌≡◌, List, [], get_or, drop, length, set, take, Option, Some, None}
 use Rattle.std.proofs.Math.Seq.{paste}
 use Rattle.language.specs.Tree.{Tree}
 use Rattle.tree.specs.Leaf.{Leaf}
 use Rattle.tables.specs.Tables.{Holding}
 use Rattle.machines.specs.Explored.{Explored, FoundAllStates}
-use Rattle.exploring.specs.declared.explore.ExploringAnswer.{ExploringAnswer as Answer}
-use Rattle.exploring.specs.declared.explore.ExploringAnswer.TheVariants.{AllFound, NoRoomLeft}
 use Rattle.exploring.specs.Keys.{SameUnder, number_under}
 
 -- the marks of state 1 + i
@@ -67,9 +65,9 @@ pub record TooMany (classes : List ℕ) (t : Tree Leaf) (firsts : List ℕ) (mos
 
 -- an answer is right
 abbrev pub Exploration : (classes : List ℕ) → (t : Tree Leaf) → (firsts : List ℕ) → (count most : ℕ)
-    → (room : List ℕ) → Answer → Type 0
-Exploration classes t firsts count most room (AllFound states) = FoundAll classes t firsts count most room states
-Exploration classes t firsts count most room NoRoomLeft = TooMany classes t firsts most
+    → (room : List ℕ) → Option ℕ → Type 0
+Exploration classes t firsts count most room (Some states) = FoundAll classes t firsts count most room states
+Exploration classes t firsts count most room None = TooMany classes t firsts most
 
 -- none of the first i states has the number and marks that agree with the words
 pub record Passed (masks : List ℕ) (count most number : ℕ) (room words : List ℕ) (i : ℕ) : Type 0 where

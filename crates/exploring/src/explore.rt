@@ -15,13 +15,6 @@ use crate::room::{enter, find, keep};
 use stepping::inner::{advance, begin, copy};
 use tree::limits::MOST_PIECES;
 
-// How it ended: all states were found, so many without state 0; or there is no room for all.
-#[derive(Drop)]
-pub enum ExploringAnswer {
-    AllFound { states: usize },
-    NoRoomLeft,
-}
-
 // Where the byte leads from a state: to 0 where nothing is left, else to a state that is there, or to a new one, whose
 // number is the next. Leaves the marks of where it leads in the words.
 fn entry_of(
@@ -55,7 +48,8 @@ fn entry_of(
     1 + find(room, most, states, words, masks, count)
 }
 
-// Goes on from the state of the empty text, which is kept.
+// Goes on from the state of the empty text, which is kept. Answers how many states there are, or that there is no room
+// for all.
 fn explore_on(
     rows: &[u64],
     count: usize,
@@ -65,7 +59,7 @@ fn explore_on(
     columns: usize,
     most: usize,
     room: &mut [u64],
-) -> ExploringAnswer
+) -> Option<usize>
     requires ready { Ready rows.now count }
     requires le_columns { (1 ≤ columns) × (columns ≤ length firsts.now) × (1 ≤ most)
         × ((1 + count + columns) * most ≤ length room.old) × (count ≤ length masks.now) }
@@ -78,6 +72,7 @@ fn explore_on(
     let mut words = [0u64; MOST_PIECES];
     let mut states = 1;
     let mut p = 0;
+    // a `while`: the end moves with each state that is found
     while p < states * columns {
         let state = p / columns;
         let byte = firsts[p % columns];
@@ -85,17 +80,17 @@ fn explore_on(
             rows, count, classes, masks, room, most, states, state, byte, &mut words,
         );
         if entry > most {
-            return ExploringAnswer::NoRoomLeft;
+            return None;
         }
         states = enter(room, most, states, p, entry, &words, masks, count);
         p += 1;
     }
-    ExploringAnswer::AllFound { states }
+    Some(states)
 }
 
 // Finds the states of the table of steps of the tree that the rows are of, along the first bytes of its columns. The
 // room has for each of `most` states first a word for its number, then the words of its marks, then a word for each
-// column.
+// column. Answers how many states there are without state 0, or that there is no room for all.
 pub fn explore(
     rows: &[u64],
     count: usize,
@@ -104,7 +99,7 @@ pub fn explore(
     columns: usize,
     most: usize,
     room: &mut [u64],
-) -> ExploringAnswer
+) -> Option<usize>
     requires ready { Ready rows.now count }
     requires le_columns { (1 ≤ columns) × (columns ≤ length firsts.now) × (1 ≤ most)
         × ((1 + count + columns) * most ≤ length room.old) }

@@ -16,10 +16,8 @@ pub fn note_keys(rows: &[u64], count: usize, masks: &mut [u64])
         × (top_of rows.now 0 < word_bits) }
     ensures { Keys rows.now count masks.new }
 {
-    let mut k = 0;
-    while k < count {
+    for k in 0..count {
         masks[k] = rows[ROW_WORDS * k + 2];
-        k += 1;
     }
     let top = top_of(rows, 0);
     let leaves = masks[0];
@@ -32,11 +30,9 @@ pub fn number_of(words: &[u64], masks: &[u64], count: usize) -> u64
     ensures { result ≡ number_under masks.now words.now count }
 {
     let mut number: u64 = 0;
-    let mut k = 0;
-    while k < count {
+    for k in 0..count {
         let joined = number ^ (words[k] & masks[k]);
         number = joined ^ (joined << 13) ^ (joined >> 7);
-        k += 1;
     }
     number
 }
@@ -46,12 +42,5 @@ pub fn same_under(kept: &[u64], words: &[u64], masks: &[u64], count: usize) -> b
     requires { (count ≤ length kept.now) × (count ≤ length words.now) × (count ≤ length masks.now) }
     ensures { Tells (SameUnder masks.now count kept.now words.now) result }
 {
-    let mut k = 0;
-    while k < count {
-        if kept[k] & masks[k] != words[k] & masks[k] {
-            return false;
-        }
-        k += 1;
-    }
-    true
+    (0..count).all(|k| kept[k] & masks[k] == words[k] & masks[k])
 }

@@ -20,15 +20,13 @@ pub fn find(
     ensures { Sought masks.now count most states room.now words.now result }
 {
     let number = number_of(words, masks, count);
-    let mut i = 0;
-    while i < states {
+    for i in 0..states {
         if room[i] == number {
             let at = most + count * i;
             if same_under(&room[at..at + count], words, masks, count) {
                 return i;
             }
         }
-        i += 1;
     }
     states
 }

@@ -1,14 +1,13 @@
 -- What the making of a table of steps promises, for the tree t: the table and the room afterwards, where it is made and
 -- where it does not fit.
-use Rattle.std.specs.Prelude.{ℕ, ◌+◌, ◌≡◌, List, length, replicate}
+use Rattle.std.specs.Prelude.{ℕ, ◌+◌, ◌≡◌, List, length, replicate, Option, Some, None}
 use Rattle.language.specs.Tree.{Tree}
 use Rattle.tree.specs.Leaf.{Leaf}
 use Rattle.tree.specs.Records.{piece_count}
 use Rattle.machines.specs.Columns.{Columned}
 use Rattle.machines.specs.Explored.{FoundAllStates}
 use Rattle.machines.specs.TableOf.{entry_count, TableFits, TableOf}
-use Rattle.tabulating.specs.declared.Tabulated.{Tabulated}
-use Rattle.tabulating.specs.declared.Tabulated.TheVariants.{Made, DoesNotFit}
+use Rattle.tabulating.specs.declared.Made.{Made}
 
 module _ (classes : List ℕ) (t : Tree Leaf) (table after room cleared : List ℕ) where
   -- the table was made: it has the columns and all the states of t, and fits; every word of the room is 0
@@ -34,6 +33,6 @@ module _ (classes : List ℕ) (t : Tree Leaf) (table after room cleared : List �
     pub room_cleared : cleared ≡ replicate (length room) 0
 
   -- either, by the answer
-  pub data Tabulates : Tabulated → Type 0 where
-    table_made : {states entries : ℕ} → TableMade states entries → Tabulates (Made states entries)
-    does_not_fit : CannotFit → Tabulates DoesNotFit
+  pub data Tabulates : Option Made → Type 0 where
+    table_made : {made : Made} → TableMade made.states made.entries → Tabulates (Some made)
+    does_not_fit : CannotFit → Tabulates None

@@ -1,6 +1,6 @@
 -- What follows of a table that was made: it runs as the language, two results that fit the promise are equal; and how
 -- it comes from what was found and written.
-use Rattle.std.specs.Prelude.{ℕ, ◌+◌, ◌*◌, ◌/◌, ◌%◌, ◌^◌, ◌≤◌, ◌<◌, ◌≡◌, refl, true, ◌⊎◌, ◌↔◌, List, [], length, get_or, drop, replicate}
+use Rattle.std.specs.Prelude.{ℕ, ◌+◌, ◌*◌, ◌/◌, ◌%◌, ◌^◌, ◌≤◌, ◌<◌, ◌≡◌, refl, true, ◌⊎◌, ◌↔◌, List, [], length, get_or, drop, replicate, Option, Some, None}
 use Rattle.std.proofs.Common.{arith, mul-le-mul_right, mul-le-mul_left, sym, ap, ap₂, ◌∙◌, inl, inr, get_or-take, get_or-drop}
 use Rattle.std.proofs.Math.Decide.{dec_lt}
 use Rattle.language.specs.Tree.{Tree}
@@ -24,8 +24,7 @@ use Rattle.machines.proofs.MadeOnce.{states_once, made_once}
 use Rattle.exploring.specs.Room.{FoundKept, FoundAll, TooMany, marks_of, entries_from}
 use Rattle.writing.specs.Written.{Writable, TableWritten}
 use Rattle.writing.specs.declared.Places.{Places}
-use Rattle.tabulating.specs.declared.Tabulated.{Tabulated}
-use Rattle.tabulating.specs.declared.Tabulated.TheVariants.{Made, DoesNotFit}
+use Rattle.tabulating.specs.declared.Made.{Made}
 use Rattle.tabulating.specs.Tabulates.{TableMade, Tabulates, table_made, does_not_fit}
 
 -- the result: a table that was made accepts a text of bytes exactly where the text is of the language
@@ -38,14 +37,14 @@ made_runs made w bytes = table_runs made.columned made.all made.made w bytes
 -- written
 pub data TabulatingOutcome (classes : List ℕ) (t : Tree Leaf) (firsts columns : List ℕ) (most : ℕ)
     (table after : List ℕ)
-    : Tabulated → Type 0 where
-  all_written : {states entries : ℕ} (texts : List (List ℕ)) (found : List ℕ) → FoundAllStates classes t firsts texts found
-      → length texts ≤ most → TableOf classes t firsts columns texts found table after → states ≡ 1 + length texts
-      → entries ≡ entry_count (length firsts) (1 + length texts)
-      → TabulatingOutcome classes t firsts columns most table after (Made states entries)
+    : Option Made → Type 0 where
+  all_written : {made : Made} (texts : List (List ℕ)) (found : List ℕ) → FoundAllStates classes t firsts texts found
+      → length texts ≤ most → TableOf classes t firsts columns texts found table after → made.states ≡ 1 + length texts
+      → made.entries ≡ entry_count (length firsts) (1 + length texts)
+      → TabulatingOutcome classes t firsts columns most table after (Some made)
   none_written : ((texts : List (List ℕ)) (found : List ℕ) → FoundAllStates classes t firsts texts found
       → length texts ≤ most → ⊥) → after ≡ table
-      → TabulatingOutcome classes t firsts columns most table after DoesNotFit
+      → TabulatingOutcome classes t firsts columns most table after None
 
 -- where the values of a table of n texts and k columns are in the room
 abbrev pub table_places : (count most top k n : ℕ) → Places
@@ -169,7 +168,7 @@ module _ {classes : List ℕ} {t : Tree Leaf} {rows : List ℕ} {count most top 
   -- and make the table
   pub found_written : {before after : List ℕ}
       → TableWritten (table_places count most top k n) columns room before after
-      → TabulatingOutcome classes t firsts columns most before after (Made (1 + n) (entry_count k (1 + n)))
+      → TabulatingOutcome classes t firsts columns most before after (Some (record { states = 1 + n; entries = entry_count k (1 + n) }))
   found_written written =
       all_written found.texts found.entries found.found (omega (arith, found.as_many, found.fit))
       (table_right prepared found.found found.kept (rw (wide, found.as_many, sym last) written)
@@ -190,11 +189,11 @@ some_text {classes} {t} {firsts} all = (first_text classes t firsts all.explored
 
 module _ {classes : List ℕ} {t : Tree Leaf} {table after room cleared : List ℕ} where
   -- the answer is right, where `most` is the number of texts that fit
-  pub tabulated : {firsts columns : List ℕ} {most : ℕ} (r : Tabulated) → Columned classes t firsts columns
+  pub tabulated : {firsts columns : List ℕ} {most : ℕ} (r : Option Made) → Columned classes t firsts columns
       → most ≡ most_texts (piece_count t) (length firsts) (length table) (length room)
       → cleared ≡ replicate (length room) 0 → TabulatingOutcome classes t firsts columns most table after r
       → Tabulates classes t table after room cleared r
-  tabulated {firsts} {columns} {most} (Made states entries) columned is clean
+  tabulated {firsts} {columns} {most} (Some answer) columned is clean
       (all_written texts found all few made states_are entries_are) =
       table_made record {
         firsts = firsts;
@@ -210,7 +209,7 @@ module _ {classes : List ℕ} {t : Tree Leaf} {table after room cleared : List �
         entries_are = entries_are;
         room_cleared = clean;
       }
-  tabulated {firsts} {columns} {most} DoesNotFit columned is clean (none_written none same) =
+  tabulated {firsts} {columns} {most} None columned is clean (none_written none same) =
       does_not_fit record {
         never = λ others-firsts others-columns texts found others all fits.
             let (one, _) = columned_once others columned in
@@ -228,35 +227,39 @@ module _ {classes : List ℕ} {t : Tree Leaf} {table after room cleared : List �
       }
 
 -- two results that fit the promise are equal: the answer, the table and the room
-pub record OneResult (a b : List ℕ) (c d : List ℕ) (r s : Tabulated) : Type 0 where
+pub record OneResult (a b : List ℕ) (c d : List ℕ) (r s : Option Made) : Type 0 where
   pub same_table : a ≡ b
   pub same_room : c ≡ d
   pub same_answer : r ≡ s
 
+-- a table of so many states and entries
+abbrev made_of : (states entries : ℕ) → Made
+made_of states entries = record { states = states; entries = entries }
+
 module _ {classes : List ℕ} {t : Tree Leaf} {table a b room c d : List ℕ} where
-  pub tabulates_once : (r s : Tabulated) → Tabulates classes t table a room c r → Tabulates classes t table b room d s
+  pub tabulates_once : (r s : Option Made) → Tabulates classes t table a room c r → Tabulates classes t table b room d s
       → OneResult a b c d r s
-  tabulates_once (Made m n) (Made x y) (table_made one) (table_made other) =
+  tabulates_once (Some m) (Some n) (table_made one) (table_made other) =
       let (firsts, columns, texts, found) =
       states_once one.columned one.all other.columned other.all in
-      let same_states : m ≡ x =
+      let same_states : m.states ≡ n.states =
       one.states_are ∙ ap (λ (l : List (List ℕ)). 1 + length l) texts ∙ sym other.states_are in
-      let same_entries : n ≡ y =
+      let same_entries : m.entries ≡ n.entries =
       one.entries_are
       ∙ ap₂ (λ (f : List ℕ) (l : List (List ℕ)). entry_count (length f) (1 + length l)) firsts texts
       ∙ sym other.entries_are in
       record {
         same_table = made_once one.columned one.all other.columned other.all one.made other.made;
         same_room = one.room_cleared ∙ sym other.room_cleared;
-        same_answer = ap₂ Made same_states same_entries;
+        same_answer = ap₂ (λ (states entries : ℕ). Some (made_of states entries)) same_states same_entries;
       }
-  tabulates_once (Made m n) DoesNotFit (table_made one) (does_not_fit other) =
+  tabulates_once (Some m) None (table_made one) (does_not_fit other) =
       absurd (other.never one.firsts one.columns one.texts one.found one.columned one.all
       one.fits)
-  tabulates_once DoesNotFit (Made x y) (does_not_fit one) (table_made other) =
+  tabulates_once None (Some n) (does_not_fit one) (table_made other) =
       absurd (one.never other.firsts other.columns other.texts other.found other.columned other.all
       other.fits)
-  tabulates_once DoesNotFit DoesNotFit (does_not_fit one) (does_not_fit other) = record {
+  tabulates_once None None (does_not_fit one) (does_not_fit other) = record {
     same_table = one.unchanged ∙ sym other.unchanged;
     same_room = one.room_cleared ∙ sym other.room_cleared;
     same_answer = refl;

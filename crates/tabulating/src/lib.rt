@@ -2,7 +2,7 @@
 // its entries, written out where all fit.
 #![tactic(auto)]
 
-ghost use Rattle.std.specs.Prelude.{◌+◌, ◌-◌, ◌≤◌, min, ◌≡◌, length, take};
+ghost use Rattle.std.specs.Prelude.{◌+◌, ◌≤◌, ◌≡◌, length, take};
 ghost use Rattle.language.specs.Tree.{Tree};
 ghost use Rattle.tree.specs.Leaf.{Leaf};
 ghost use Rattle.tree.specs.Limits.{most_pieces};
@@ -14,33 +14,19 @@ ghost use Rattle.tabulating.specs.TabulatesLaws.{TabulatingOutcome};
 
 use columns::BYTE_COUNT;
 use columns::columns::columns_of;
-use exploring::explore::{ExploringAnswer, explore};
+use exploring::explore::explore;
 use running::HEADING;
 use tables::rows::top_of;
-use writing::{Places, clear, write_table};
+use writing::{Places, write_table};
 
 // How many entries a table has at most, so that an entry of 16 bits can say where a column begins.
 const MOST_ENTRIES: usize = 65536;
 
-// How it ended: the table was made, with so many states, state 0 among them, and so many entries; or it does not fit.
-#[derive(Drop)]
-pub enum Tabulated {
-    Made { states: usize, entries: usize },
-    DoesNotFit,
-}
-
-// The lesser of two numbers.
-fn lesser(one: usize, other: usize) -> usize
-    ensures { result ≡ min one other }
-{
-    if one <= other { one } else { other }
-}
-
-// The difference of two numbers, 0 where there is none.
-fn less(from: usize, by: usize) -> usize
-    ensures { result ≡ from - by }
-{
-    if by <= from { from - by } else { 0 }
+// A table that was made: so many states, state 0 among them, and so many entries.
+#[derive(Clone, Copy, Debug, PartialEq, Eq)]
+pub struct Made {
+    pub states: usize,
+    pub entries: usize,
 }
 
 // For how many texts there is room: in a table of so many entries, and in so many words of room.
@@ -48,9 +34,9 @@ fn most_texts(count: usize, width: usize, entries: usize, words: usize) -> usize
     requires { (count ≤ most_pieces) × (width ≤ byte_count) }
     ensures { result ≡ most_texts count width entries words }
 {
-    let lent = less(lesser(MOST_ENTRIES, entries), HEADING);
-    let by_table = less(lent / (width + 1), 1);
-    lesser(by_table, words / (1 + count + width))
+    let lent = MOST_ENTRIES.min(entries).saturating_sub(HEADING);
+    let by_table = (lent / (width + 1)).saturating_sub(1);
+    by_table.min(words / (1 + count + width))
 }
 
 // Finds the states, and writes the table where there are no more texts than `most`.
@@ -64,7 +50,7 @@ fn fill(
     most: usize,
     table: &mut [u16],
     room: &mut [u64],
-) -> Tabulated
+) -> Option<Made>
     requires ready { Ready rows.now count }
     requires le_width { (1 ≤ width) × (width ≤ length firsts.now) }
     requires columned { (t : Tree Leaf) → Prepared t rows.now count
@@ -75,12 +61,10 @@ fn fill(
         table.old table.new result }
 {
     if most == 0 {
-        return Tabulated::DoesNotFit;
+        return None;
     }
-    let explored = explore(rows, count, classes, firsts, width, most, room);
-    let ExploringAnswer::AllFound { states: texts } = explored else {
-        return Tabulated::DoesNotFit; // the room is full before all states are found
-    };
+    // `None` where the room is full before all states are found
+    let texts = explore(rows, count, classes, firsts, width, most, room)?;
     let states = 1 + texts;
     let entries = HEADING + (width + 1) * states;
     let found_at = most + count * most;
@@ -94,18 +78,18 @@ fn fill(
         texts,
     };
     write_table(columns, room, places, table);
-    Tabulated::Made { states, entries }
+    Some(Made { states, entries })
 }
 
-// Makes the table in the lent one, with room lent for finding its states. Where it does not fit no entry of the table
-// differs; in both cases every word of the room is 0 afterwards.
+// Makes the table in the lent one, with room lent for finding its states. Where it does not fit it answers `None`, and
+// no entry of the table differs; in both cases every word of the room is 0 afterwards.
 pub fn tabulate(
     rows: &[u64],
     count: usize,
     classes: &[u8],
     table: &mut [u16],
     room: &mut [u64],
-) -> Tabulated
+) -> Option<Made>
     requires { Ready rows.now count }
     ensures { (t : Tree Leaf) → Prepared t rows.now count
         → Tabulates classes.now t table.old table.new room.old
@@ -118,6 +102,6 @@ pub fn tabulate(
     let made = fill(
         rows, count, classes, &firsts, &columns, width, most, table, room,
     );
-    clear(room);
+    room.fill(0);
     made
 }

@@ -1,16 +1,10 @@
--- `writing::write_columns` meets its contract: the first columns are written. The measure is how many are left.
-use Prim.Native.Nat.{◌+◌, ◌*◌, ◌-◌, ◌≤◌}
-use lib.ListN.{get_or}
+-- `writing::write_columns` meets its contract: the first columns are written.
+use Rattle.std.proofs.Common.{◌+◌}
 use Rattle.machines.specs.TableOf.{heading}
 use Rattle.writing.specs.Filled.{RowsFilled, after_zero}
+use Rattle.writing.specs.Written.{led_to}
 use Rattle.writing.proofs.write_columns.Given as goal
 
 abbrev pub invariant-loop-column : goal.invariant-loop-column
 invariant-loop-column l =
-    (l.column ≤ l.columns)
-    × RowsFilled heading (1 + l.texts) l.column (λ c. after_zero (λ i. get_or l.room (l.entries + c + l.columns * i) 0)) l.initial.table
-    l.table
-
-abbrev pub decreases-loop-column : goal.decreases-loop-column
-decreases-loop-column l =
-    l.columns - l.column
+    RowsFilled heading (1 + l.places.texts) l.column-counter (λ c. after_zero (led_to l.places l.room c)) l.initial.table l.table

@@ -18,31 +18,28 @@ note_keys-requires c =
       top_low prepared,
     )
 
-pub explore_on-requires : goal.explore_on-requires
-explore_on-requires c =
+pub explore_on-requires-clause-keys : goal.explore_on-requires-clause-keys
+explore_on-requires-clause-keys c =
+    let a = c.args in
+    let pre = c.requires in
+    let prepared = pre.ready.of_tree.1 in
+    let fits : a.most + a.count * a.most ≤ length a.room.now =
+    omega (arith, room_parts a.count a.columns a.most, pre.le_columns.3) in (
+      c.note_keys.ensures,
+      numbered_first c.note_keys.ensures
+          (λ t prepared. (answered_first (c.begin.ensures a.classes.now t prepared)).holding)
+          a.most a.room.now pre.le_columns.2
+          (search (rules, prepared.counted, prepared.few, c.begin.auto.words)) fits c.keep.ensures,
+    )
+
+pub explore_on-requires-clause-progress : goal.explore_on-requires-clause-progress
+explore_on-requires-clause-progress c =
     let a = c.args in
     let pre = c.requires in
     let prepared = pre.ready.of_tree.1 in
     let fits : a.most + a.count * a.most ≤ length a.room.now =
     omega (arith, room_parts a.count a.columns a.most, pre.le_columns.3) in
-    let long = c.begin.auto.words in record {
-      ready = pre.ready;
-      le_columns = (
-        pre.le_columns.0,
-        pre.le_columns.1,
-        pre.le_columns.2,
-        omega (arith, c.keep.auto.room, pre.le_columns.3),
-        search (rules, prepared.counted, prepared.few, c.note_keys.auto.masks),
-      );
-      keys = (
-        c.note_keys.ensures,
-        numbered_first c.note_keys.ensures
-            (λ t prepared. (answered_first (c.begin.ensures a.classes.now t prepared)).holding)
-            a.most a.room.now pre.le_columns.2
-            (search (rules, prepared.counted, prepared.few, long)) fits c.keep.ensures,
-      );
-      progress = progress_first c.note_keys.ensures
-          (λ t prepared. (answered_first (c.begin.ensures a.classes.now t prepared)).holding) a.most
-          a.room.now pre.le_columns.2 (search (rules, prepared.counted, prepared.few, long)) fits
-          c.keep.ensures (take a.columns a.firsts.now);
-    }
+    progress_first c.note_keys.ensures
+    (λ t prepared. (answered_first (c.begin.ensures a.classes.now t prepared)).holding) a.most
+    a.room.now pre.le_columns.2 (search (rules, prepared.counted, prepared.few, c.begin.auto.words)) fits
+    c.keep.ensures (take a.columns a.firsts.now)

@@ -1,6 +1,6 @@
 -- `exploring::keys::note_keys` meets its contract: the masks of the leaves of the first k pieces are noted. The measure
 -- is how many are left.
-use Prim.Native.Nat.{◌-◌, ◌≤◌}
+use Prim.Native.Nat.{◌≤◌}
 use mathlib.Core.Path.{◌≡◌}
 use Rattle.tables.specs.Plan.{leaves_mask}
 use Rattle.closing.specs.BitsOfWords.MadeAnew.{MadeAnew}
@@ -9,7 +9,3 @@ use Rattle.exploring.proofs.keys.note_keys.Given as goal
 abbrev pub invariant-loop-k : goal.invariant-loop-k
 invariant-loop-k l =
     (l.k ≤ l.count) × MadeAnew (λ j v. v ≡ leaves_mask l.rows j) l.initial.masks l.masks 0 l.k
-
-abbrev pub decreases-loop-k : goal.decreases-loop-k
-decreases-loop-k l =
-    l.count - l.k

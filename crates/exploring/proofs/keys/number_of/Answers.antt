@@ -1,9 +1,8 @@
 -- `exploring::keys::number_of` meets its contract: the number is that of the first k words. The measure is how many are
 -- left.
-use mathlib.Core.Path.{sym, ap, ◌∙◌}
+use mathlib.Core.Path.{sym}
 use native.Mathlib.Omega.{arith}
 use borrow.Author.Rules.{rules}
-use Rattle.exploring.specs.Keys.{number_under}
 use Rattle.exploring.specs.KeysLaws.{number_none, number_next}
 use Rattle.exploring.proofs.keys.number_of.Goals as goal
 
@@ -14,7 +13,3 @@ loop-k-init c =
 pub loop-k-preserved : goal.loop-k-preserved
 loop-k-preserved c =
     (search rules, number_next _ _ _ c.loop-k.invariant.1)
-
-pub returns : goal.returns
-returns c =
-    c.loop-k.invariant.1 ∙ ap (number_under _ _) (omega arith)

@@ -1,2 +1,0 @@
--- What the making of a table tells, by its cases.
-mod Told
