@@ -1,7 +1,7 @@
 -- The bytes of a class in a list of 256 numbers, 1 for each value that it takes: what reading a class collects, and
 -- what its record is written from.
-use Rattle.std.specs.Prelude.{ℕ, ◌+◌, ◌*◌, ◌≤◌, ◌<◌, ◌≡◌, Bool, true, false, cond, List, [], length, get_or}
-use Rattle.std.proofs.Common.{ap, sym, ◌∙◌, arith, ext_get_or, lt-ltb, le-ltb}
+use Rattle.std.specs.Prelude.{ℕ, refl, zero, suc, ◌-◌, ◌^◌, ◌+◌, ◌*◌, ◌≤◌, ◌<◌, ◌≡◌, Bool, true, false, cond, List, [], length, get_or}
+use Rattle.std.proofs.Common.{pow-suc, ap, sym, ◌∙◌, arith, ext_get_or, lt-ltb, le-ltb}
 use Rattle.std.proofs.Math.Decide.{dec_lt}
 use Rattle.tree.specs.Cut.{one}
 use Rattle.tree.specs.Layout.{class_record_size}
@@ -65,36 +65,38 @@ pub members_binary : {class : Class} {members : List ℕ} → Members class memb
 members_binary {class} m =
     record { long = m.long; each = λ v h. omega (arith, m.each v h, one_at_most (class_takes class v)) }
 
--- eight of them from a place on as a byte, the first at the low end
-abbrev pub eight_of : List ℕ → ℕ → ℕ
-eight_of members at =
-    get_or members at 0
-    + 2 * (get_or members (at + 1) 0
-    + 2 * (get_or members (at + 2) 0
-    + 2 * (get_or members (at + 3) 0
-    + 2 * (get_or members (at + 4) 0
-    + 2 * (get_or members (at + 5) 0
-    + 2 * (get_or members (at + 6) 0
-    + 2 * get_or members (at + 7) 0))))))
+-- n of them from a place on as a number, the first at the low end
+abbrev pub bits_of : List ℕ → (at n : ℕ) → ℕ
+bits_of members at zero = 0
+bits_of members at (suc n) = get_or members at 0 + 2 * bits_of members (at + 1) n
 
--- a byte of the record
-pub eight_members : {class : Class} {members : List ℕ} → Members class members → (at : ℕ) → at + 8 ≤ value_count
-    → eight_of members at ≡ member_bits (class_takes class) at 8
-eight_members {class} {members} m at h =
-    omega (
-      arith,
-      m.each at (omega arith),
-      there 1 (at + 1) (omega arith) (omega arith),
-      there 2 (at + 1 + 1) (omega arith) (omega arith),
-      there 3 (at + 1 + 1 + 1) (omega arith) (omega arith),
-      there 4 (at + 1 + 1 + 1 + 1) (omega arith) (omega arith),
-      there 5 (at + 1 + 1 + 1 + 1 + 1) (omega arith) (omega arith),
-      there 6 (at + 1 + 1 + 1 + 1 + 1 + 1) (omega arith) (omega arith),
-      there 7 (at + 1 + 1 + 1 + 1 + 1 + 1 + 1) (omega arith) (omega arith),
-    )
-  where
-    there : (j v : ℕ) → v ≡ at + j → v < value_count → get_or members (at + j) 0 ≡ one (class_takes class v)
-    there j v e l = ap (λ (n : ℕ). get_or members n 0) (sym e) ∙ m.each v l
+-- eight of them as a byte
+abbrev pub eight_of : List ℕ → ℕ → ℕ
+eight_of members at = bits_of members at 8
+
+-- those from place i of the eight on, by which the byte is put together from its high end
+pub record BitsFrom (members : List ℕ) (at i byte : ℕ) : Type 0 where
+  pub read : byte ≡ bits_of members (at + i) (8 - i)
+  pub small : byte < 2 ^ (8 - i)
+
+-- with the one before them
+pub more_bits : {members : List ℕ} {at i byte : ℕ} → BitsFrom members at i byte → 0 < i → i ≤ 8
+    → get_or members (at + (i - 1)) 0 ≤ 1
+    → BitsFrom members at (i - 1) (2 * byte + get_or members (at + (i - 1)) 0)
+more_bits {at = at} {i} b some few low =
+    let one_more : 8 - (i - 1) ≡ suc (8 - i) = omega arith in
+    let after : at + (i - 1) + 1 ≡ at + i = omega arith in
+    record {
+      read = rw (one_more, after) (omega (arith, b.read));
+      small = rw (one_more, pow-suc) (omega (arith, b.small));
+    }
+
+-- the bits of a class
+pub bits_members : {class : Class} {members : List ℕ} → Members class members → (n at : ℕ) → at + n ≤ value_count
+    → bits_of members at n ≡ member_bits (class_takes class) at n
+bits_members m zero at h = refl
+bits_members {class} {members} m (suc n) at h =
+    rw (m.each at (omega arith), bits_members m n (at + 1) (omega arith)) refl
 
 -- the first i bytes of the record are written
 pub record RecordedUpTo (members record-after : List ℕ) (i : ℕ) : Type 0 where
@@ -107,6 +109,6 @@ pub recorded_whole : {class : Class} {members record-after : List ℕ} → Membe
 unfolding class_record
 recorded_whole {class} {members} {record-after} m long p =
     ext_get_or 0 record-after (class_record class) (long ∙ sym (record_length class))
-    (λ j h. p.each j (omega arith) ∙ eight_members m (8 * j) (omega arith)
+    (λ j h. p.each j (omega arith) ∙ bits_members m 8 (8 * j) (omega arith)
     ∙ ap (λ (v : ℕ). member_bits (class_takes class) v 8) (omega arith)
     ∙ sym (member_byte (class_takes class) class_record_size 0 j (omega arith)))
