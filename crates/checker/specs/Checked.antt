@@ -1,15 +1,16 @@
 -- What a check answers, with no buffer lent: the first refusal, or the counts.
-use Rattle.std.specs.Prelude.{ℕ, Bool, cond, List, ltb}
+use Rattle.std.specs.Prelude.{ℕ, Bool, cond, List, ltb, Result, Ok, Err}
 use Rattle.language.specs.Tree.{Tree, nodes}
 use Rattle.tree.specs.RefusalNumbers.{too_many_pieces}
+use Rattle.tree.specs.Refusing.{refusal_number}
+use Rattle.tree.specs.declared.refusal.Refused.{Refused}
+use Rattle.tree.specs.declared.counted.Counts.{Counts}
 use Rattle.tree.specs.Limits.{most_pieces}
 use Rattle.tree.specs.Records.{piece_count}
 use Rattle.operands.specs.Bytes.{Syntax}
 use Rattle.operands.specs.Scanner.{Atom, Outcome, tree, refused}
 use Rattle.checker.specs.Expanded.{expanded}
 use Rattle.checker.specs.Drawn.{classes_in, recorded}
-use Rattle.checker.specs.declared.answer.CountedAnswer.{CountedAnswer}
-use Rattle.checker.specs.declared.answer.CountedAnswer.TheVariants.{Counted, Refused}
 
 -- the numbers given back: the refusal's number, 0 for none, and its place; the counts of records, pieces and classes
 pub record CountedNumbers : Type 0 where
@@ -35,10 +36,14 @@ counting t =
     }
 
 -- the numbers that each case of an answer gives back
-abbrev pub counted_numbers : CountedAnswer → CountedNumbers
-counted_numbers (Counted records pieces classes) =
-    record { refusal = 0; place = 0; records = records; pieces = pieces; classes = classes }
-counted_numbers (Refused number place) = refusing_counts number place
+abbrev pub counted_numbers : Result Counts Refused → CountedNumbers
+counted_numbers (Ok counts) =
+    record { refusal = 0; place = 0; records = counts.records; pieces = counts.pieces; classes = counts.classes }
+counted_numbers (Err fault) = refusing_counts (refusal_number fault.refusal) fault.place
+
+-- these are counted
+abbrev pub counted_as : (records pieces classes : ℕ) → Result Counts Refused
+counted_as records pieces classes = Ok (record { records = records; pieces = pieces; classes = classes })
 
 -- the cut of the tree has more than 128 pieces
 abbrev pub too_many : Tree Atom → Bool

@@ -1,10 +1,14 @@
 -- What counting promises: the records, pieces and classes of the tree whose labels were read, or 8; and with the
 -- reading before it, every refusal that needs no buffer.
-use Rattle.std.specs.Prelude.{ℕ, ◌<◌, ◌≤◌, ◌≡◌, refl, Bool, true, false, cond, List, length, take, ltb}
+use Rattle.std.specs.Prelude.{ℕ, ◌<◌, ◌≤◌, ◌≡◌, refl, Bool, true, false, cond, List, length, take, ltb, Result, Ok, Err}
 use Rattle.std.proofs.Common.{arith, sym, ◌∙◌, lt-ltb, le-ltb}
 use Rattle.std.proofs.Math.Path.{ap}
 use Rattle.language.specs.Tree.{Tree, nodes}
 use Rattle.tree.specs.RefusalNumbers.{too_many_pieces, too_many_nodes}
+use Rattle.tree.specs.Refusing.{refusal_number}
+use Rattle.tree.specs.declared.refusal.Refusal.TheVariants.{TooManyPieces}
+use Rattle.tree.specs.declared.refusal.Refused.{Refused}
+use Rattle.tree.specs.declared.counted.Counts.{Counts}
 use Rattle.tree.specs.Limits.{most_pieces, most_labels}
 use Rattle.tree.specs.Leaf.{Leaf}
 use Rattle.tree.specs.Records.{labels, piece_count}
@@ -26,11 +30,10 @@ use Rattle.checker.specs.Checked.{
   refusing_counts,
   counting,
   counted_numbers,
+  counted_as,
   too_many,
   checked_for,
 }
-use Rattle.checker.specs.declared.answer.CountedAnswer.{CountedAnswer}
-use Rattle.checker.specs.declared.answer.CountedAnswer.TheVariants.{Counted, Refused}
 
 -- what is counted for the tree p with places: its nodes, its pieces, and its class labels
 abbrev counts_placed : Tree Leaf → CountedNumbers
@@ -38,19 +41,19 @@ counts_placed p =
     record { refusal = 0; place = 0; records = nodes p; pieces = piece_count p; classes = class_labels (labels p) }
 
 -- of whatever tree the labels are, the answer is that tree's
-pub record LabelsCounted (ls : List ℕ) (r : CountedAnswer) : Type 0 where
+pub record LabelsCounted (ls : List ℕ) (r : Result Counts Refused) : Type 0 where
   pub answer : (p : Tree Leaf) → ls ≡ labels p
       → counted_numbers r ≡ cond (ltb most_pieces (piece_count p)) (refusing_counts too_many_pieces 0) (counts_placed p)
 
 module _ (ls : List ℕ) (n : ℕ) (count : (p : Tree Leaf) → ls ≡ labels p → n ≡ piece_count p) where
   -- too many pieces
-  pub counted_many : most_pieces < n → LabelsCounted ls (Refused too_many_pieces 0)
+  pub counted_many : most_pieces < n → LabelsCounted ls (Err (record { refusal = TooManyPieces; place = 0 }))
   counted_many h =
       record { answer = λ p e. rw (lt-ltb most_pieces (piece_count p) (omega (arith, count p e))) }
 
   -- few enough
   pub counted_few : n ≤ most_pieces → (classes : ℕ) → classes ≡ class_labels ls
-      → LabelsCounted ls (Counted (length ls) n classes)
+      → LabelsCounted ls (counted_as (length ls) n classes)
   counted_few h classes f =
       record {
         answer = λ p e. rw (
@@ -78,23 +81,23 @@ pub record ReadingCounted (syntax : Syntax) (bytes later : List ℕ) (records pi
   pub placed : LeavesPlaced bytes read
   pub written : take records later ≡ labels read
   pub bounded : records ≤ most_labels
-  pub numbers : counted_numbers (Counted records pieces classes) ≡ checked_for (expanded syntax bytes)
+  pub numbers : counted_numbers (counted_as records pieces classes) ≡ checked_for (expanded syntax bytes)
 
 -- the expression is refused
 pub record ReadingRefused (syntax : Syntax) (bytes : List ℕ) (number place : ℕ) : Type 0 where
   pub numbers : refusing_counts number place ≡ checked_for (expanded syntax bytes)
 
 -- what reading and counting answers
-abbrev pub CheckAnswer : Syntax → (bytes later : List ℕ) → CountedAnswer → Type 0
-CheckAnswer syntax bytes later (Counted records pieces classes) =
-    ReadingCounted syntax bytes later records pieces classes
-CheckAnswer syntax bytes later (Refused number place) = ReadingRefused syntax bytes number place
+abbrev pub CheckAnswer : Syntax → (bytes later : List ℕ) → Result Counts Refused → Type 0
+CheckAnswer syntax bytes later (Ok counts) =
+    ReadingCounted syntax bytes later counts.records counts.pieces counts.classes
+CheckAnswer syntax bytes later (Err fault) = ReadingRefused syntax bytes (refusal_number fault.refusal) fault.place
 
 -- it is a check
-pub count_checks : (syntax : Syntax) (bytes later : List ℕ) (r : CountedAnswer) → CheckAnswer syntax bytes later r
+pub count_checks : (syntax : Syntax) (bytes later : List ℕ) (r : Result Counts Refused) → CheckAnswer syntax bytes later r
     → counted_numbers r ≡ checked_for (expanded syntax bytes)
-count_checks syntax bytes later (Counted records pieces classes) a = a.numbers
-count_checks syntax bytes later (Refused number place) a = a.numbers
+count_checks syntax bytes later (Ok counts) a = a.numbers
+count_checks syntax bytes later (Err fault) a = a.numbers
 
 -- what was refused before counting
 pub refused_before : {syntax : Syntax} {bytes : List ℕ} {number place : ℕ}
@@ -132,15 +135,15 @@ first_bounded {bytes} w =
     omega (arith, w.counted, nodes_read w, first_size spelled, few)
 
 -- what was read is counted
-pub read_counted : {syntax : Syntax} {bytes later : List ℕ} {total : ℕ} (r : CountedAnswer)
+pub read_counted : {syntax : Syntax} {bytes later : List ℕ} {total : ℕ} (r : Result Counts Refused)
     → LabelsRead syntax bytes later total → total ≤ most_labels → (ls : List ℕ) → ls ≡ take total later
     → length ls ≡ total → LabelsCounted ls r → CheckAnswer syntax bytes later r
-read_counted {syntax} {bytes} {later} {total} (Counted records pieces classes) w few ls e long a =
+read_counted {syntax} {bytes} {later} {total} (Ok counts) w few ls e long a =
     let p = w.read in
     let same : ls ≡ labels p = e ∙ w.written few in
-    let numbers : counted_numbers (Counted records pieces classes) ≡ checked_for (tree (written_at bytes p)) =
+    let numbers : counted_numbers (Ok counts) ≡ checked_for (tree (written_at bytes p)) =
     a.answer p same ∙ counts_written bytes p in
-    let count : records ≡ total = records_are p (ltb most_pieces (piece_count p)) (a.answer p same)
+    let count : counts.records ≡ total = records_are p (ltb most_pieces (piece_count p)) (a.answer p same)
     (sym (length_labels p) ∙ ap length (sym same) ∙ long) in
     record {
       read = p;
@@ -152,11 +155,11 @@ read_counted {syntax} {bytes} {later} {total} (Counted records pieces classes) w
     }
   where
     records_are : (p : Tree Leaf) (many : Bool)
-        → counted_numbers (Counted records pieces classes)
-        ≡ cond many (refusing_counts too_many_pieces 0) (counts_placed p) → nodes p ≡ total → records ≡ total
+        → counted_numbers (Ok counts)
+        ≡ cond many (refusing_counts too_many_pieces 0) (counts_placed p) → nodes p ≡ total → counts.records ≡ total
     records_are p true f g = absurd (omega (arith, ap (λ (n : CountedNumbers). n.refusal) f))
     records_are p false f g = ap (λ (n : CountedNumbers). n.records) f ∙ g
-read_counted {syntax} {bytes} (Refused number place) w few ls e long a =
+read_counted {syntax} {bytes} (Err fault) w few ls e long a =
     record {
       numbers = rw (expanded_read w few) (a.answer w.read (e ∙ w.written few) ∙ counts_written bytes w.read);
     }
@@ -169,7 +172,7 @@ pub record CountsAre (t : Tree Atom) (records pieces classes : ℕ) : Type 0 whe
   pub classed : classes ≡ classes_in t
 
 counts_pick : (t : Tree Atom) (records pieces classes : ℕ) (many : Bool) → too_many t ≡ many
-    → counted_numbers (Counted records pieces classes) ≡ cond many (refusing_counts too_many_pieces 0) (counting t)
+    → counted_numbers (counted_as records pieces classes) ≡ cond many (refusing_counts too_many_pieces 0) (counting t)
     → CountsAre t records pieces classes
 counts_pick t records pieces classes true m e = absurd (omega (arith, ap (λ (n : CountedNumbers). n.refusal) e))
 counts_pick t records pieces classes false m e =

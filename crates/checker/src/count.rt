@@ -1,44 +1,33 @@
 // Reading and counting: what can be said of an expression with no buffer lent.
-ghost use Rattle.std.specs.Prelude.{◌≡◌, true, false, [], ◌∷◌, ◌≤◌, length};
+ghost use Rattle.std.specs.Prelude.{◌≡◌, ◌≤◌, length};
 ghost use Rattle.tree.specs.Limits.{most_labels};
 ghost use Rattle.cutting.specs.Measured.{Postorder};
 ghost use Rattle.operands.specs.Bytes.{syntax_of};
 ghost use Rattle.checker.specs.Relabelled.{class_labels};
 ghost use Rattle.checker.specs.Counted.{LabelsCounted, CheckAnswer};
 
-use crate::answer::CountedAnswer;
 use measuring::measure::piece_count;
-use operands::part::Part;
+use operands::syntax::Syntax;
 use scanner::expression::expression;
+use tree::counted::Counts;
 use tree::layout::CLASS_LABEL;
 use tree::limits::{MOST_LABELS, MOST_PIECES, SLOT_COUNT};
-use tree::refusal_numbers::{TOO_MANY_NODES, TOO_MANY_PIECES};
-
-// 1 for the label of a class leaf.
-fn one_if_class_label(label: u16) -> usize
-    ensures { result ≡ class_labels (label ∷ []) }
-{
-    if label % 8 == CLASS_LABEL {
-        return 1;
-    }
-    0
-}
+use tree::refusal::{Refusal, Refused};
 
 // How many labels are those of class leaves.
 pub fn class_count(labels: &[u16]) -> usize
     ensures { result ≡ class_labels labels.now }
 {
-    let mut count = 0;
-    let mut i = 0;
-    while i < labels.len() {
-        count += one_if_class_label(labels[i]);
-        i += 1;
-    }
-    count
+    labels
+        .iter()
+        .filter(|label| **label % 8 == CLASS_LABEL)
+        .count()
 }
 
-// Counts records, pieces and classes of the tree with these labels: 8 where it has too many pieces.
-fn count_labels(labels: &[u16]) -> CountedAnswer
+// Counts records, pieces and classes of the tree with these labels: 8 where it has too many pieces. It has its own
+// frame, so that its arrays are not there while the readers go deep.
+#[inline(never)]
+fn count_labels(labels: &[u16]) -> Result<Counts, Refused>
     requires tree { Postorder labels.now }
     requires few { length labels.now ≤ most_labels }
     ensures { LabelsCounted labels.now result }
@@ -48,47 +37,31 @@ fn count_labels(labels: &[u16]) -> CountedAnswer
     let mut cuts = [0u16; SLOT_COUNT];
     let pieces = piece_count(labels, &mut sizes, &mut opens, &mut cuts);
     if pieces > MOST_PIECES {
-        return CountedAnswer::Refused {
-            number: TOO_MANY_PIECES,
+        return Err(Refused {
+            refusal: Refusal::TooManyPieces,
             place: 0,
-        };
+        });
     }
-    CountedAnswer::Counted {
+    Ok(Counts {
         records: labels.len(),
         pieces,
         classes: class_count(labels),
-    }
+    })
 }
 
-// Reads an expression of the first syntax into the labels of its tree and counts: every refusal that needs no buffer.
-// Counting has its own frame, so that its arrays are not there while the readers go deep.
-pub fn count_first(expr: &[u8], labels: &mut [u16]) -> CountedAnswer
+// Reads an expression into the labels of its tree and counts: every refusal that needs no buffer, 17 where the tree that
+// the signs stand for has more nodes than there are labels, which in the first syntax none has (`first_bounded`:
+// specs/Counted.antt).
+pub fn read_and_count(expr: &[u8], labels: &mut [u16], syntax: Syntax) -> Result<Counts, Refused>
     requires { most_labels ≡ length labels.old }
-    ensures { CheckAnswer (syntax_of false) expr.now labels.new result }
+    ensures { CheckAnswer (syntax_of syntax) expr.now labels.new result }
 {
-    let whole = expression(expr, labels, false, false);
-    match whole {
-        Part::Refused { number, place } => CountedAnswer::Refused { number, place },
-        Part::Read { next: _, count } => count_labels(&labels[..count]),
+    let whole = expression(expr, labels, syntax, false)?;
+    if whole.count > MOST_LABELS {
+        return Err(Refused {
+            refusal: Refusal::TooManyNodes,
+            place: 0,
+        });
     }
-}
-
-// The same of the second syntax, and 17 where the tree that the signs stand for has more nodes than there are labels.
-pub fn count_second(expr: &[u8], labels: &mut [u16]) -> CountedAnswer
-    requires { most_labels ≡ length labels.old }
-    ensures { CheckAnswer (syntax_of true) expr.now labels.new result }
-{
-    let whole = expression(expr, labels, true, false);
-    match whole {
-        Part::Refused { number, place } => CountedAnswer::Refused { number, place },
-        Part::Read { next: _, count } => {
-            if count > MOST_LABELS {
-                return CountedAnswer::Refused {
-                    number: TOO_MANY_NODES,
-                    place: 0,
-                };
-            }
-            count_labels(&labels[..count])
-        }
-    }
+    count_labels(&labels[..whole.count])
 }

@@ -2,29 +2,36 @@
 // the dot, classes, `+`, `?` and counts.
 #![tactic(auto)]
 
-pub mod answer;
 pub mod count;
 
-ghost use Rattle.std.specs.Prelude.{◌≡◌, true, false};
-ghost use Rattle.operands.specs.Bytes.{syntax_of};
+ghost use Rattle.std.specs.Prelude.{◌≡◌};
+ghost use Rattle.operands.specs.Bytes.{first, second, syntax_of};
 ghost use Rattle.checker.specs.Checked.{checked, counted_numbers};
 
-pub use answer::CountedAnswer;
-use count::{count_first, count_second};
+use count::read_and_count;
+use operands::syntax::Syntax;
+use tree::counted::Counts;
 use tree::limits::MOST_LABELS;
+use tree::refusal::Refused;
 
-// Checks an expression: what `read` refuses without a buffer, or the counts.
-pub fn check(expr: &[u8]) -> CountedAnswer
-    ensures { counted_numbers result ≡ checked (syntax_of false) expr.now }
+// Checks an expression of either syntax.
+fn check_by(expr: &[u8], syntax: Syntax) -> Result<Counts, Refused>
+    ensures { counted_numbers result ≡ checked (syntax_of syntax) expr.now }
 {
     let mut labels = [0u16; MOST_LABELS];
-    count_first(expr, &mut labels)
+    read_and_count(expr, &mut labels, syntax)
+}
+
+// Checks an expression: what `read` refuses without a buffer, or the counts.
+pub fn check(expr: &[u8]) -> Result<Counts, Refused>
+    ensures { counted_numbers result ≡ checked first expr.now }
+{
+    check_by(expr, Syntax::First)
 }
 
 // Checks an expression that may have the dot and classes: what `read_second` refuses without a buffer, or the counts.
-pub fn check_second(expr: &[u8]) -> CountedAnswer
-    ensures { counted_numbers result ≡ checked (syntax_of true) expr.now }
+pub fn check_second(expr: &[u8]) -> Result<Counts, Refused>
+    ensures { counted_numbers result ≡ checked second expr.now }
 {
-    let mut labels = [0u16; MOST_LABELS];
-    count_second(expr, &mut labels)
+    check_by(expr, Syntax::Second)
 }
