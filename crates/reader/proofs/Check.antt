@@ -1,6 +1,6 @@
 -- The check and the write agree: what is written answers as the check does, or 9, or 15 after it, and that exactly
 -- where the check refuses nothing and a buffer is short.
-use Rattle.std.specs.Prelude.{ℕ, ◌*◌, ◌<◌, ◌≤◌, ◌≡◌, refl, Bool, true, false, cond, ◌↔◌, List, length, eqb, ltb}
+use Rattle.std.specs.Prelude.{ℕ, ◌*◌, ◌<◌, ◌≤◌, ◌≡◌, refl, Bool, true, false, cond, ◌↔◌, List, length, eqb, ltb, Result}
 use Rattle.std.proofs.Common.{arith, ap, sym, ◌∙◌, ⊎_elim, ltb-true, ltb-false, lt-ltb, ne_eqb, eqb-true}
 use Rattle.std.proofs.Math.Logic.Iff
 use Rattle.language.specs.Tree.{Tree, nodes}
@@ -25,7 +25,8 @@ use Rattle.reader.specs.Answer.{refusing_read, reading, answer_for, read_answere
 use Rattle.checker.specs.Checked.{CountedNumbers, refusing_counts, counting, counted_numbers, too_many, checked_for, checked}
 use Rattle.reader.specs.SecondAnswer.{too_short, too_few_classes, pick_stored, second_answer_for, second_answered}
 use Rattle.reader.proofs.SecondKept.{counts_injective}
-use Rattle.checker.specs.declared.answer.CountedAnswer.{CountedAnswer}
+use Rattle.tree.specs.declared.refusal.Refused.{Refused}
+use Rattle.tree.specs.declared.counted.Counts.{Counts}
 use Rattle.reader.specs.Check.{without_classes, after_check, after_second_check, Bufferless}
 
 -- a refusal is not 0
@@ -236,7 +237,7 @@ sure_check syntax bytes (refused number place) scans e f =
 sure_check syntax bytes (tree t) scans e f = sure_tree t (too_many t) e f
 
 -- two answers of a check that both fit its promise are equal
-pub check_unique : (syntax : Syntax) (bytes : List ℕ) (r s : CountedAnswer) → counted_numbers r ≡ checked syntax bytes
+pub check_unique : (syntax : Syntax) (bytes : List ℕ) (r s : Result Counts Refused) → counted_numbers r ≡ checked syntax bytes
     → counted_numbers s ≡ checked syntax bytes → r ≡ s
 check_unique syntax bytes r s e f =
     counts_injective r s (e ∙ sym f) (rw e (sure_check syntax bytes (expanded syntax bytes) refl))

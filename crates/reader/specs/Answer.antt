@@ -1,5 +1,5 @@
 -- What `read` answers and what it leaves in the buffer, by the table of refusals.
-use Rattle.std.specs.Prelude.{ℕ, ◌*◌, cond, List, ◌++◌, length, drop, ltb}
+use Rattle.std.specs.Prelude.{ℕ, ◌*◌, cond, List, ◌++◌, length, drop, ltb, Result, Ok, Err}
 use Rattle.language.specs.Tree.{Tree, nodes}
 use Rattle.tree.specs.Limits.{most_pieces}
 use Rattle.tree.specs.RefusalNumbers.{too_many_pieces, buffer_too_short}
@@ -12,8 +12,9 @@ use Rattle.operands.specs.Scanner.{Outcome, tree, refused}
 use Rattle.checker.specs.Expanded.{expanded}
 use Rattle.checker.specs.Drawn.{drawn}
 use Rattle.reader.specs.PlacesIn.{places_in}
-use Rattle.reader.specs.declared.answer.ReadAnswer.{ReadAnswer}
-use Rattle.reader.specs.declared.answer.ReadAnswer.TheVariants.{Read, Refused}
+use Rattle.tree.specs.Refusing.{refusal_number}
+use Rattle.tree.specs.declared.refusal.Refused.{Refused}
+use Rattle.reader.specs.declared.answer.Read.{Read}
 
 -- the numbers given back: the refusal's number, 0 for none, and its place; the counts of records and pieces
 pub record ReadNumbers : Type 0 where
@@ -31,9 +32,13 @@ abbrev pub reading : Tree Leaf → ReadNumbers
 reading t = record { refusal = 0; place = 0; records = nodes t; pieces = piece_count t }
 
 -- the numbers that each case of an answer gives back
-abbrev pub read_numbers : ReadAnswer → ReadNumbers
-read_numbers (Read records pieces) = record { refusal = 0; place = 0; records = records; pieces = pieces }
-read_numbers (Refused number place) = refusing_read number place
+abbrev pub read_numbers : Result Read Refused → ReadNumbers
+read_numbers (Ok read) = record { refusal = 0; place = 0; records = read.records; pieces = read.pieces }
+read_numbers (Err fault) = refusing_read (refusal_number fault.refusal) fault.place
+
+-- so many records were written, with so many pieces
+abbrev pub read_as : (records pieces : ℕ) → Result Read Refused
+read_as records pieces = Ok (record { records = records; pieces = pieces })
 
 -- what is answered for an expression's outcome, with a buffer of `room` bytes: 8 where the cut has more than 128
 -- pieces, then 9 where the buffer is shorter than the records

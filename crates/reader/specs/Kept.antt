@@ -1,6 +1,6 @@
 -- What follows from the promise of `read`: its answer is one alone; where it says that the records were written they
 -- are a good list of the expression's tree, and where it refuses no byte of the buffer differs.
-use Rattle.std.specs.Prelude.{ℕ, ◌*◌, ◌≤◌, ◌≡◌, refl, Bool, true, false, cond, List, ◌++◌, length, take, drop, ltb}
+use Rattle.std.specs.Prelude.{ℕ, ◌*◌, ◌≤◌, ◌≡◌, refl, Bool, true, false, cond, List, ◌++◌, length, take, drop, ltb, Result, Ok, Err}
 use Rattle.std.proofs.Common.{arith, ap, sym, ◌∙◌, take_at, drop_at, ltb-false}
 use Rattle.language.specs.Tree.{Tree, nodes}
 use Rattle.tree.specs.Limits.{most_pieces}
@@ -23,25 +23,44 @@ use Rattle.reader.specs.Answer.{
   refusing_read,
   reading,
   read_numbers,
+  read_as,
   answer_for,
   buffer_for,
   read_answered,
   records_after,
 }
-use Rattle.reader.specs.declared.answer.ReadAnswer.{ReadAnswer}
-use Rattle.reader.specs.declared.answer.ReadAnswer.TheVariants.{Read, Refused}
+use Rattle.reader.specs.RefusalsTold.{number_tells}
+use Rattle.tree.specs.Refusing.{refusal_number}
+use Rattle.tree.specs.declared.refusal.Refusal.{Refusal}
+use Rattle.tree.specs.declared.refusal.Refused.{Refused}
+use Rattle.reader.specs.declared.answer.Read.{Read}
+
+-- the two counts make what was read
+read_same : {records pieces records' pieces' : ℕ} → records ≡ records' → pieces ≡ pieces'
+    → read_as records pieces ≡ read_as records' pieces'
+read_same e f = rw (e, f)
+
+-- a refusal is known from its number and its place
+pub fault_same : (fault fault' : Refused) → refusal_number fault.refusal ≡ refusal_number fault'.refusal
+    → fault.place ≡ fault'.place → fault ≡ fault'
+fault_same fault fault' e f = of_parts (number_tells fault.refusal fault'.refusal e) f
+  where
+    of_parts : {refusal refusal' : Refusal} {place place' : ℕ} → refusal ≡ refusal' → place ≡ place'
+        → ◌≡◌ {A = Refused} (record { refusal = refusal; place = place })
+        (record { refusal = refusal'; place = place' })
+    of_parts e f = rw (e, f)
 
 -- an answer is known from its numbers, where these are neither a refusal nor a record
-numbers_injective : (r s : ReadAnswer) → read_numbers r ≡ read_numbers s
+numbers_injective : (r s : Result Read Refused) → read_numbers r ≡ read_numbers s
     → ((read_numbers r).refusal ≡ 0 → (read_numbers r).records ≡ 0 → ⊥)
     → r ≡ s
-numbers_injective (Read records pieces) (Read records' pieces') e sure =
-    cc (ap (λ (n : ReadNumbers). n.records) e, ap (λ (n : ReadNumbers). n.pieces) e)
-numbers_injective (Refused number place) (Refused number' place') e sure =
-    cc (ap (λ (n : ReadNumbers). n.refusal) e, ap (λ (n : ReadNumbers). n.place) e)
-numbers_injective (Read records pieces) (Refused number place) e sure =
+numbers_injective (Ok read) (Ok read') e sure =
+    read_same (ap (λ (n : ReadNumbers). n.records) e) (ap (λ (n : ReadNumbers). n.pieces) e)
+numbers_injective (Err fault) (Err fault') e sure =
+    ap Err (fault_same fault fault' (ap (λ (n : ReadNumbers). n.refusal) e) (ap (λ (n : ReadNumbers). n.place) e))
+numbers_injective (Ok read) (Err fault) e sure =
     absurd (sure refl (ap (λ (n : ReadNumbers). n.records) e))
-numbers_injective (Refused number place) (Read records pieces) e sure =
+numbers_injective (Err fault) (Ok read) e sure =
     absurd (sure (ap (λ (n : ReadNumbers). n.refusal) e) refl)
 
 -- what is answered is a refusal, or has a record
@@ -62,7 +81,7 @@ sure_answer bytes room (tree t) scans e f = sure_pick t (ltb most_pieces (piece_
     (record_size * nodes t)) e f
 
 -- two answers that both fit the promise are equal
-pub answer_unique : (bytes : List ℕ) (room : ℕ) (r s : ReadAnswer) → read_numbers r ≡ read_answered bytes room
+pub answer_unique : (bytes : List ℕ) (room : ℕ) (r s : Result Read Refused) → read_numbers r ≡ read_answered bytes room
     → read_numbers s ≡ read_answered bytes room → r ≡ s
 answer_unique bytes room r s e f =
     numbers_injective r s (e ∙ sym f) (rw e (sure_answer bytes room (drawn (expanded first bytes)) refl))
@@ -81,7 +100,7 @@ pub record Kept (bytes before after : List ℕ) (records pieces : ℕ) : Type 0 
 
 kept_pick : (bytes before after : List ℕ) (records pieces : ℕ) (t : Tree Leaf) → drawn (expanded first bytes) ≡ tree t
     → (many short : Bool) → ltb most_pieces (piece_count t) ≡ many → ltb (length before) (record_size * nodes t) ≡ short
-    → read_numbers (Read records pieces)
+    → read_numbers (read_as records pieces)
     ≡ cond many (refusing_read too_many_pieces 0) (cond short (refusing_read buffer_too_short 0) (reading t))
     → after ≡ cond many before (cond short before (with_places (places_in first bytes) (encode t)
     ++ drop (record_size * nodes t) before))
@@ -113,7 +132,7 @@ kept_pick bytes before after records pieces t scans false false m h e f =
 
 kept_outcome : (bytes before after : List ℕ) (records pieces : ℕ) (outcome : Outcome (Tree Leaf))
     → drawn (expanded first bytes) ≡ outcome
-    → read_numbers (Read records pieces) ≡ answer_for outcome (length before)
+    → read_numbers (read_as records pieces) ≡ answer_for outcome (length before)
     → after ≡ buffer_for (places_in first bytes)
     outcome before
     → Kept bytes before after records pieces
@@ -125,31 +144,31 @@ kept_outcome bytes before after records pieces (tree t) scans e f =
     refl refl e f
 
 -- from what `read` promises, where it answers that the records were written
-pub kept : (bytes before after : List ℕ) (records pieces : ℕ) → read_numbers (Read records pieces)
+pub kept : (bytes before after : List ℕ) (records pieces : ℕ) → read_numbers (read_as records pieces)
     ≡ read_answered bytes (length before) → after ≡ records_after bytes before → Kept bytes before after records pieces
 kept bytes before after records pieces e f =
     kept_outcome bytes before after records pieces (drawn (expanded first bytes)) refl e f
 
 -- where it answers a refusal, no byte of the buffer differs
-same_pick : (places before : List ℕ) (number place : ℕ) (t : Tree Leaf) (many short : Bool)
-    → read_numbers (Refused number place)
+same_pick : (places before : List ℕ) (fault : Refused) (t : Tree Leaf) (many short : Bool)
+    → read_numbers (Err fault)
     ≡ cond many (refusing_read too_many_pieces 0) (cond short (refusing_read buffer_too_short 0) (reading t))
     → cond many before (cond short before (with_places places (encode t) ++ drop (record_size * nodes t) before))
     ≡ before
-same_pick places before number place t true short e = refl
-same_pick places before number place t false true e = refl
-same_pick places before number place t false false e =
+same_pick places before fault t true short e = refl
+same_pick places before fault t false true e = refl
+same_pick places before fault t false false e =
     absurd (omega (arith, nodes_positive t, ap (λ (n : ReadNumbers). n.records) e))
 
-same_outcome : (places before : List ℕ) (number place : ℕ) (outcome : Outcome (Tree Leaf))
-    → read_numbers (Refused number place) ≡ answer_for outcome (length before)
+same_outcome : (places before : List ℕ) (fault : Refused) (outcome : Outcome (Tree Leaf))
+    → read_numbers (Err fault) ≡ answer_for outcome (length before)
     → buffer_for places outcome before ≡ before
-same_outcome places before number place (refused number' place') e = refl
-same_outcome places before number place (tree t) e =
-    same_pick places before number place t (ltb most_pieces (piece_count t))
+same_outcome places before fault (refused number' place') e = refl
+same_outcome places before fault (tree t) e =
+    same_pick places before fault t (ltb most_pieces (piece_count t))
     (ltb (length before) (record_size * nodes t)) e
 
-pub refusal_keeps : (bytes before after : List ℕ) (number place : ℕ) → read_numbers (Refused number place)
+pub refusal_keeps : (bytes before after : List ℕ) (fault : Refused) → read_numbers (Err fault)
     ≡ read_answered bytes (length before) → after ≡ records_after bytes before → after ≡ before
-refusal_keeps bytes before after number place e f = f
-    ∙ same_outcome (places_in first bytes) before number place (drawn (expanded first bytes)) e
+refusal_keeps bytes before after fault e f = f
+    ∙ same_outcome (places_in first bytes) before fault (drawn (expanded first bytes)) e

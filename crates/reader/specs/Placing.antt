@@ -1,5 +1,5 @@
 -- Reading an expression once more, for its places: they stand in the scratch, one for each record.
-use Rattle.std.specs.Prelude.{ℕ, ◌≤◌, ◌≡◌, true, List}
+use Rattle.std.specs.Prelude.{ℕ, ◌≤◌, ◌≡◌, true, List, Result, Ok, Err}
 use Rattle.std.proofs.Math.Path.{ap, sym}
 use Rattle.std.proofs.Common.{◌∙◌, arith}
 use Rattle.std.proofs.Math.ListN.{take}
@@ -12,7 +12,7 @@ use Rattle.operands.proofs.Sound.{no_tree}
 use Rattle.operands.specs.LeavesPlaced.{written_at}
 use Rattle.scanner.specs.Expression.{ExpressionAnswer, PlacesRead, places_read}
 use Rattle.operands.specs.declared.part.Part.{Part}
-use Rattle.operands.specs.declared.part.Part.TheVariants.{Read, Refused}
+use Rattle.tree.specs.declared.refusal.Refused.{Refused}
 use Rattle.checker.specs.Expanded.{expansion, expanded}
 use Rattle.checker.specs.ExpandedLaws.{expanded_tree, expanded_size}
 use Rattle.checker.specs.OneShape.{nodes_recorded}
@@ -56,10 +56,10 @@ module _ (syntax : Syntax) (bytes later : List ℕ) {count : ℕ} (due : PlacesD
       ∙ w.written (omega (arith, w.counted, size, due.counted, small)) ∙ ap places_for (sym w.scans)
 
   -- whatever is answered: it is not refused, since it was not before
-  pub placed_again : (r : Part) → ExpressionAnswer syntax true bytes later r
+  pub placed_again : (r : Result Part Refused) → ExpressionAnswer syntax true bytes later r
       → take count later ≡ places_in syntax bytes
   unfolding expanded
-  placed_again (Read next total) a = read_again (places_read a)
-  placed_again (Refused number place) a =
+  placed_again (Ok part) a = read_again (places_read a)
+  placed_again (Err fault) a =
       let (s, scans, same, small) = expanded_tree (scanned syntax bytes) due.stands_for due.scans in
       no_tree (sym a.scans ∙ scans)

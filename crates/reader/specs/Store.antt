@@ -1,9 +1,9 @@
 -- What the readers promise of what is counted: where it does not fit 9, and for the second reader 15 after it; else the
 -- buffers hold the records, and the class records.
-use Rattle.std.specs.Prelude.{ℕ, ◌+◌, ◌*◌, ◌<◌, ◌≤◌, ◌≡◌, refl, Bool, true, false, cond, List, [], ◌∷◌, ◌++◌, length, take, drop, ltb}
+use Rattle.std.specs.Prelude.{ℕ, ◌+◌, ◌*◌, ◌<◌, ◌≤◌, ◌≡◌, refl, Bool, true, false, cond, List, [], ◌∷◌, ◌++◌, length, take, drop, ltb, Result, Err}
 use Rattle.std.proofs.Common.{arith, ap, sym, ◌∙◌, lt-ltb, le-ltb}
 use Rattle.language.specs.Tree.{Tree, leaf, catenation, union, star, nodes}
-use Rattle.tree.specs.RefusalNumbers.{too_many_pieces, buffer_too_short, class_buffer_too_short}
+use Rattle.tree.specs.RefusalNumbers.{too_many_pieces}
 use Rattle.tree.specs.Layout.{record_size, class_record_size}
 use Rattle.tree.specs.Leaf.{Leaf, character}
 use Rattle.tree.specs.Records.{labels}
@@ -27,9 +27,9 @@ use Rattle.checker.specs.Relabelled.{
   labels_numbered,
 }
 use Rattle.checker.specs.Counted.{ReadingCounted, ReadingRefused, counts_are}
-use Rattle.reader.specs.Answer.{refusing_read, read_numbers, answer_for, buffer_for, read_answered, records_after}
+use Rattle.reader.specs.Answer.{refusing_read, read_numbers, read_as, answer_for, buffer_for, read_answered, records_after}
 use Rattle.tree.specs.Lengths.{nodes_positive}
-use Rattle.checker.specs.Checked.{CountedNumbers, refusing_counts, counting, counted_numbers, too_many, checked_for}
+use Rattle.checker.specs.Checked.{CountedNumbers, refusing_counts, counting, counted_numbers, counted_as, too_many, checked_for}
 use Rattle.reader.specs.SecondAnswer.{
   too_short,
   too_few_classes,
@@ -40,10 +40,11 @@ use Rattle.reader.specs.SecondAnswer.{
   second_records_after,
   second_classes_after,
 }
-use Rattle.reader.specs.declared.answer.ReadAnswer.{ReadAnswer}
-use Rattle.reader.specs.declared.answer.ReadAnswer.TheVariants.{Read, Refused}
-use Rattle.checker.specs.declared.answer.CountedAnswer.{CountedAnswer}
-use Rattle.checker.specs.declared.answer.CountedAnswer.TheVariants.{Counted, Refused as Second-refused}
+use Rattle.tree.specs.Refusing.{refusal_number}
+use Rattle.tree.specs.declared.refusal.Refusal.TheVariants.{BufferTooShort, ClassBufferTooShort}
+use Rattle.tree.specs.declared.refusal.Refused.{Refused}
+use Rattle.tree.specs.declared.counted.Counts.{Counts}
+use Rattle.reader.specs.declared.answer.Read.{Read}
 
 -- a list with something in it is not empty, and neither is one before it
 both_empty : {A : Type 0} (xs ys : List A) → xs ++ ys ≡ [] → (xs ≡ []) × (ys ≡ [])
@@ -72,7 +73,7 @@ first_same {bytes} c =
     (first_has_no_class ((expanded_exactly first bytes (written_at bytes c.read)).0 c.scans).1)
 
 -- what `read` promises, of its answer and of the buffer
-pub record ReadsAnswer (bytes before after : List ℕ) (r : ReadAnswer) : Type 0 where
+pub record ReadsAnswer (bytes before after : List ℕ) (r : Result Read Refused) : Type 0 where
   pub answer : read_numbers r ≡ read_answered bytes (length before)
   pub buffer : after ≡ records_after bytes before
 
@@ -83,7 +84,8 @@ module _ {bytes later : List ℕ} {records pieces classes : ℕ}
   first_tree = written_at bytes c.read
 
   -- 9 where the records do not fit
-  pub read_short : length before < record_size * records → ReadsAnswer bytes before before (Refused buffer_too_short 0)
+  pub read_short : length before < record_size * records → ReadsAnswer bytes before before
+      (Err (record { refusal = BufferTooShort; place = 0 }))
   read_short h =
       let counts = counts_are c in
       let few = counts.few in
@@ -94,7 +96,7 @@ module _ {bytes later : List ℕ} {records pieces classes : ℕ}
   -- else they are written, and their places
   pub read_whole : {between after : List ℕ} → record_size * records ≤ length before
       → Recorded (take records later) before between → after ≡ with_places (places_in first bytes) between
-      → ReadsAnswer bytes before after (Read records pieces)
+      → ReadsAnswer bytes before after (read_as records pieces)
   read_whole h wrote put =
       let counts = counts_are c in
       let few = counts.few in
@@ -145,14 +147,15 @@ refused_buffer : (places : List ℕ) {outcome : Outcome (Tree Atom)} {number pla
 refused_buffer places by_bytes before = refl
 refused_buffer places (by_pieces m) before = rw m
 
-pub refused_read : {bytes before : List ℕ} {number place : ℕ} → ReadingRefused first bytes number place
-    → ReadsAnswer bytes before before (Refused number place)
-refused_read {bytes} {before} {number} {place} r =
-    let why = refused_before_storing (expanded first bytes) number place r.numbers in
+pub refused_read : {bytes before : List ℕ} (fault : Refused)
+    → ReadingRefused first bytes (refusal_number fault.refusal) fault.place
+    → ReadsAnswer bytes before before (Err fault)
+refused_read {bytes} {before} fault r =
+    let why = refused_before_storing (expanded first bytes) (refusal_number fault.refusal) fault.place r.numbers in
     record { answer = refused_answer why (length before); buffer = refused_buffer (places_in first bytes) why before }
 
 -- what `read_second` promises, of its answer and of both buffers
-pub record SecondAnswer (bytes records classes records' classes' : List ℕ) (r : CountedAnswer) : Type 0 where
+pub record SecondAnswer (bytes records classes records' classes' : List ℕ) (r : Result Counts Refused) : Type 0 where
   pub answer : counted_numbers r ≡ second_answered bytes (length records) (length classes)
   pub record_buffer : records' ≡ second_records_after bytes records classes
   pub class_buffer : classes' ≡ second_classes_after bytes records classes
@@ -170,7 +173,7 @@ module _ {bytes later : List ℕ} {count pieces class_count : ℕ}
     (c : ReadingCounted second bytes later count pieces class_count) (records classes : List ℕ) where
   -- 9 where the records do not fit
   pub second_short : length records < record_size * count
-      → SecondAnswer bytes records classes records classes (Second-refused buffer_too_short 0)
+      → SecondAnswer bytes records classes records classes (Err (record { refusal = BufferTooShort; place = 0 }))
   second_short h =
       let counts = counts_are c in
       let few = counts.few in
@@ -189,7 +192,7 @@ module _ {bytes later : List ℕ} {count pieces class_count : ℕ}
 
     -- 15 where the class records do not
     pub second_few : length classes < class_record_size * class_count
-        → SecondAnswer bytes records classes records classes (Second-refused class_buffer_too_short 0)
+        → SecondAnswer bytes records classes records classes (Err (record { refusal = ClassBufferTooShort; place = 0 }))
     second_few k =
         let counts = counts_are c in
         let few = counts.few in
@@ -208,7 +211,7 @@ module _ {bytes later : List ℕ} {count pieces class_count : ℕ}
         → records' ≡ with_places (places_in second bytes) between
         → classes' ≡ encode_classes (labelled_classes bytes (take count later))
         ++ drop (class_record_size * class_count) classes
-        → SecondAnswer bytes records classes records' classes' (Counted count pieces class_count)
+        → SecondAnswer bytes records classes records' classes' (counted_as count pieces class_count)
     second_whole k wrote put classed =
         let counts = counts_are c in
         let few = counts.few in
@@ -246,10 +249,11 @@ refused_classes : {outcome : Outcome (Tree Atom)} {number place : ℕ} → Refus
 refused_classes by_bytes records classes = refl
 refused_classes (by_pieces m) records classes = rw m
 
-pub refused_second : {bytes records classes : List ℕ} {number place : ℕ} → ReadingRefused second bytes number place
-    → SecondAnswer bytes records classes records classes (Second-refused number place)
-refused_second {bytes} {records} {classes} {number} {place} r =
-    let why = refused_before_storing (expanded second bytes) number place r.numbers in
+pub refused_second : {bytes records classes : List ℕ} (fault : Refused)
+    → ReadingRefused second bytes (refusal_number fault.refusal) fault.place
+    → SecondAnswer bytes records classes records classes (Err fault)
+refused_second {bytes} {records} {classes} fault r =
+    let why = refused_before_storing (expanded second bytes) (refusal_number fault.refusal) fault.place r.numbers in
     record {
       answer = refused_counts why (length records) (length classes);
       record_buffer = refused_records (places_in second bytes) why records classes;

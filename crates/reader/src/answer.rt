@@ -1,8 +1,8 @@
-// What reading an expression answers.
-#[derive(Drop)]
-pub enum ReadAnswer {
-    // The records were written: how many, and how many pieces they have.
-    Read { records: usize, pieces: usize },
-    // The refusal: its number and its place.
-    Refused { number: u8, place: usize },
+// What reading an expression of the first syntax answers.
+
+// How many records were written, and how many pieces they have.
+#[derive(Clone, Copy, Debug, PartialEq, Eq)]
+pub struct Read {
+    pub records: usize,
+    pub pieces: usize,
 }

@@ -6,52 +6,60 @@ mod answer;
 mod store;
 
 ghost use Rattle.std.specs.Prelude.{◌≡◌, length};
-ghost use Rattle.reader.specs.Answer.{read_numbers, read_answered, records_after};
+ghost use Rattle.operands.specs.Bytes.{syntax_of};
 ghost use Rattle.checker.specs.Checked.{counted_numbers};
+ghost use Rattle.reader.specs.Answer.{read_numbers, read_answered, records_after};
+ghost use Rattle.reader.specs.LabelsStored.{ReaderAnswer};
 ghost use Rattle.reader.specs.SecondAnswer.{second_answered, second_records_after, second_classes_after};
 
-pub use answer::ReadAnswer;
-use checker::CountedAnswer;
-use operands::part::Part;
+pub use answer::Read;
+use operands::syntax::Syntax;
 use scanner::expression::expression;
 use store::{place_records, store};
+use tree::counted::Counts;
 use tree::limits::MOST_LABELS;
-use tree::refusal_numbers::TOO_MANY_NODES;
+use tree::refusal::{Refusal, Refused};
 
-// Reads an expression and writes its tree's records. The labels are collected apart, so that nothing is written before
-// the answer is sure. There are no classes, so one byte is lent in their place.
-pub fn read(expr: &[u8], records: &mut [u8]) -> ReadAnswer
+// Reads an expression by a syntax and writes its tree's records and its class records: 17 where the tree that the signs
+// stand for has more nodes than there are labels. The labels are collected apart, so that nothing is written before the
+// answer is sure.
+fn read_by(
+    expr: &[u8],
+    records: &mut [u8],
+    classes: &mut [u8],
+    syntax: Syntax,
+) -> Result<Counts, Refused>
+    ensures { ReaderAnswer (syntax_of syntax) expr.now records.old
+        classes.old records.new classes.new result }
+{
+    let mut labels = [0u16; MOST_LABELS];
+    let whole = expression(expr, &mut labels, syntax, false)?;
+    if whole.count > MOST_LABELS {
+        return Err(Refused {
+            refusal: Refusal::TooManyNodes,
+            place: 0,
+        });
+    }
+    let counts = store(expr, &mut labels, whole.count, records, classes)?;
+    place_records(expr, &mut labels, counts.records, syntax, records);
+    Ok(counts)
+}
+
+// Reads an expression and writes its tree's records. There are no classes, so one byte is lent in their place.
+pub fn read(expr: &[u8], records: &mut [u8]) -> Result<Read, Refused>
     ensures answer { read_numbers result ≡ read_answered expr.now (length records.old) }
     ensures buffer { records.new ≡ records_after expr.now records.old }
 {
-    let mut labels = [0u16; MOST_LABELS];
     let mut no_classes = [0u8; 1];
-    let whole = expression(expr, &mut labels, false, false);
-    match whole {
-        Part::Refused { number, place } => ReadAnswer::Refused { number, place },
-        Part::Read { next: _, count } => {
-            let stored = store(expr, &mut labels, count, records, &mut no_classes);
-            match stored {
-                CountedAnswer::Refused { number, place } => ReadAnswer::Refused { number, place },
-                CountedAnswer::Counted {
-                    records: total,
-                    pieces,
-                    classes: _,
-                } => {
-                    place_records(expr, &mut labels, total, false, records);
-                    ReadAnswer::Read {
-                        records: total,
-                        pieces,
-                    }
-                }
-            }
-        }
-    }
+    let counts = read_by(expr, records, &mut no_classes, Syntax::First)?;
+    Ok(Read {
+        records: counts.records,
+        pieces: counts.pieces,
+    })
 }
 
-// Reads an expression that may have the dot and classes, and writes its tree's records and its class records: 17 where
-// the tree that the signs stand for has more nodes than there are labels.
-pub fn read_second(expr: &[u8], records: &mut [u8], classes: &mut [u8]) -> CountedAnswer
+// Reads an expression that may have the dot and classes, and writes its tree's records and its class records.
+pub fn read_second(expr: &[u8], records: &mut [u8], classes: &mut [u8]) -> Result<Counts, Refused>
     ensures answer { counted_numbers result ≡ second_answered expr.now (length records.old)
         (length classes.old) }
     ensures record_buffer { records.new ≡ second_records_after expr.now records.old
@@ -59,28 +67,5 @@ pub fn read_second(expr: &[u8], records: &mut [u8], classes: &mut [u8]) -> Count
     ensures class_buffer { classes.new ≡ second_classes_after expr.now records.old
         classes.old }
 {
-    let mut labels = [0u16; MOST_LABELS];
-    let whole = expression(expr, &mut labels, true, false);
-    match whole {
-        Part::Refused { number, place } => CountedAnswer::Refused { number, place },
-        Part::Read { next: _, count } => {
-            if count > MOST_LABELS {
-                return CountedAnswer::Refused {
-                    number: TOO_MANY_NODES,
-                    place: 0,
-                };
-            }
-            let stored = store(expr, &mut labels, count, records, classes);
-            let CountedAnswer::Counted {
-                records: total,
-                pieces: _,
-                classes: _,
-            } = stored
-            else {
-                return stored;
-            };
-            place_records(expr, &mut labels, total, true, records);
-            stored
-        }
-    }
+    read_by(expr, records, classes, Syntax::Second)
 }

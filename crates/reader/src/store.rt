@@ -8,15 +8,16 @@ ghost use Rattle.reader.specs.LabelsStored.{LabelsToStore, StoreAnswer};
 ghost use Rattle.reader.specs.PlacesIn.{places_in};
 ghost use Rattle.reader.specs.Placing.{PlacesDue};
 
-use checker::CountedAnswer;
 use checker::count::class_count;
 use lists::write::write_records;
 use measuring::measure::piece_count;
+use operands::syntax::Syntax;
 use scanner::expression::expression;
 use storing::class_records::{number_classes, store_classes};
+use tree::counted::Counts;
 use tree::layout::{CLASS_RECORD_SIZE, RECORD_SIZE, write_places};
 use tree::limits::{MOST_PIECES, SLOT_COUNT};
-use tree::refusal_numbers::{BUFFER_TOO_SHORT, CLASS_BUFFER_TOO_SHORT, TOO_MANY_PIECES};
+use tree::refusal::{Refusal, Refused};
 
 // Stores the records and the class records of the tree with these labels: 8 where it has too many pieces, then 9 where
 // the records do not fit, then 15 where the class records do not. It is measured once, for all that.
@@ -25,7 +26,7 @@ fn store_tree(
     labels: &mut [u16],
     records: &mut [u8],
     classes: &mut [u8],
-) -> CountedAnswer
+) -> Result<Counts, Refused>
     requires { LabelsToStore expr.now labels.old }
     ensures { StoreAnswer expr.now labels.old records.old
         classes.old records.new classes.new result }
@@ -35,44 +36,45 @@ fn store_tree(
     let mut cuts = [0u16; SLOT_COUNT];
     let pieces = piece_count(labels, &mut sizes, &mut opens, &mut cuts);
     if pieces > MOST_PIECES {
-        return CountedAnswer::Refused {
-            number: TOO_MANY_PIECES,
+        return Err(Refused {
+            refusal: Refusal::TooManyPieces,
             place: 0,
-        };
+        });
     }
     let count = labels.len();
     if records.len() < RECORD_SIZE * count {
-        return CountedAnswer::Refused {
-            number: BUFFER_TOO_SHORT,
+        return Err(Refused {
+            refusal: Refusal::BufferTooShort,
             place: 0,
-        };
+        });
     }
     let class_total = class_count(labels);
     if classes.len() < CLASS_RECORD_SIZE * class_total {
-        return CountedAnswer::Refused {
-            number: CLASS_BUFFER_TOO_SHORT,
+        return Err(Refused {
+            refusal: Refusal::ClassBufferTooShort,
             place: 0,
-        };
+        });
     }
     store_classes(expr, labels, classes);
     number_classes(labels);
     write_records(labels, &sizes, &opens, &cuts, records);
-    CountedAnswer::Counted {
+    Ok(Counts {
         records: count,
         pieces,
         classes: class_total,
-    }
+    })
 }
 
-// The same for the first `count` labels of the scratch. Both readers call this, so it has its own frame, and its arrays
-// are not there while the readers go deep.
+// The same for the first `count` labels of the scratch. It has its own frame, so that its arrays are not there while
+// the readers go deep.
+#[inline(never)]
 pub fn store(
     expr: &[u8],
     labels: &mut [u16],
     count: usize,
     records: &mut [u8],
     classes: &mut [u8],
-) -> CountedAnswer
+) -> Result<Counts, Refused>
     requires inside { count ≤ length labels.old }
     requires ready { LabelsToStore expr.now (take count labels.old) }
     ensures { StoreAnswer expr.now (take count labels.old) records.old
@@ -81,20 +83,21 @@ pub fn store(
     store_tree(expr, &mut labels[..count], records, classes)
 }
 
-// Reads the expression once more, for the places of its nodes, and puts them into the records.
+// Reads the expression once more, for the places of its nodes, and puts them into the records: it was read before, so
+// it is not refused now.
 pub fn place_records(
     expr: &[u8],
     labels: &mut [u16],
     count: usize,
-    second: bool,
+    syntax: Syntax,
     records: &mut [u8],
 )
     requires room { most_labels ≡ length labels.old }
-    requires due { PlacesDue (syntax_of second) expr.now count }
+    requires due { PlacesDue (syntax_of syntax) expr.now count }
     requires fits { record_size * count ≤ length records.old }
-    ensures { records.new ≡ with_places (places_in (syntax_of second) expr.now)
+    ensures { records.new ≡ with_places (places_in (syntax_of syntax) expr.now)
         records.old }
 {
-    expression(expr, labels, second, true);
+    let _ = expression(expr, labels, syntax, true);
     write_places(&labels[..count], records);
 }

@@ -6,7 +6,7 @@ use Rattle.classes.specs.ClassRecord.{encode_classes}
 use Rattle.checker.specs.Counted.{LabelsCounted, counted_few}
 use Rattle.checker.specs.ClassStore.{labels_placed}
 use Rattle.checker.specs.Relabelled.{class_labels, class_labels_le, labelled_classes}
-use Rattle.checker.specs.declared.answer.CountedAnswer.TheVariants.{Counted}
+use Rattle.checker.specs.Checked.{counted_as}
 use Rattle.reader.specs.LabelsStored.{no_room, no_class_room, stored_all, postorder_numbered, measured_again}
 use Rattle.reader.proofs.store.store_tree.Goals as goal
 use Rattle.reader.proofs.store.store_tree.Goals.{After-class_count-class_total}
@@ -14,7 +14,7 @@ use Rattle.reader.proofs.store.store_tree.Goals.{After-class_count-class_total}
 -- the labels were counted
 counted : (c : After-class_count-class_total)
     → LabelsCounted c.args.labels.now
-    (Counted (length c.args.labels.now) c.piece_count-pieces.result c.class_count-class_total.result)
+    (counted_as (length c.args.labels.now) c.piece_count-pieces.result c.class_count-class_total.result)
 counted c =
     counted_few c.args.labels.now c.piece_count-pieces.result
     c.piece_count-pieces.ensures.counts_pieces.count c.if-pieces-gt-MOST_PIECES.false c.class_count-class_total.result
@@ -23,7 +23,7 @@ counted c =
 pub returns-then-records-count : goal.returns-then-records-count
 returns-then-records-count c = (
   no_room (counted_few c.args.labels.now c.piece_count-pieces.result c.piece_count-pieces.ensures.counts_pieces.count
-      c.if-pieces-gt-MOST_PIECES.false (class_labels c.args.labels.now) refl) (omega arith) refl refl,
+      c.if-pieces-gt-MOST_PIECES.false (class_labels c.args.labels.now) refl) (omega arith) refl,
   refl,
   refl,
 )
@@ -35,7 +35,7 @@ overflow_mul-class_total c =
 pub returns-then-classes-class_total : goal.returns-then-classes-class_total
 returns-then-classes-class_total c = (
   no_class_room (counted (goal.at.returns-then-classes-class_total c).After-class_count-class_total)
-      c.if-records-count.false (omega arith) refl refl,
+      c.if-records-count.false (omega arith) refl,
   refl,
   refl,
 )
