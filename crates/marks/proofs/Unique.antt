@@ -1,6 +1,6 @@
 -- What start and step promise leaves no choice: the numbers given back and every word afterwards are determined, and
 -- each refusal is given exactly when the table says so, in the order 10, 15, 12, 13.
-use Rattle.std.specs.Prelude.{ℕ, ◌+◌, ◌*◌, ◌≤◌, ◌<◌, ◌≡◌, refl, Bool, true, false, cond, ◌↔◌, List, ◌++◌, length, take, eqb}
+use Rattle.std.specs.Prelude.{ℕ, ◌+◌, ◌*◌, ◌≤◌, ◌<◌, ◌≡◌, refl, Bool, true, false, cond, Result, Ok, Err, ◌↔◌, List, ◌++◌, length, take, eqb}
 use Rattle.std.proofs.Common.{arith, sym, ap, ◌∙◌, subst, take-append-drop}
 use Rattle.std.proofs.Math.Logic.Iff
 use Rattle.language.specs.Tree.{Tree}
@@ -45,13 +45,27 @@ use Rattle.marks.specs.StepsEach.{
   stay_not_marks,
   stayed,
 }
-use Rattle.marks.specs.declared.MarksAnswer.{MarksAnswer}
-use Rattle.marks.specs.declared.MarksAnswer.TheVariants.{
-  Marked,
-  NotGood,
-  TooFewClasses,
+use Rattle.stepping.specs.declared.inner.Told.{Told}
+use Rattle.tree.specs.declared.refusal.Refusal.{Refusal}
+use Rattle.tree.specs.declared.refusal.Refusal.TheVariants.{
+  ExpressionEmpty,
+  ExpressionTooLong,
+  OperandMissing,
+  GroupLeftOpen,
+  ClosingWithoutGroup,
+  TooManyGroups,
+  BackslashBeforeNoSign,
+  TooManyPieces,
+  BufferTooShort,
+  ListNotGood,
+  TextTooLong,
   TooFewWords,
-  NotMarks,
+  WordsNotMarks,
+  ClassFaulty,
+  ClassBufferTooShort,
+  CountFaulty,
+  TooManyNodes,
+  TableTooShort,
 }
 
 -- words enough that hold the same set, and are as before past the pieces, are the same
@@ -386,21 +400,53 @@ module _ {list classes : List ℕ} {byte : ℕ} {before : List ℕ} where
           λ (t, good, classed, enough, marks). (t, good, (classed, enough, marks)),
         )
 
--- the answer that has these numbers
-abbrev answer_by : MarksNumbers → MarksAnswer
-answer_by n =
-    cond (eqb n.refusal list_not_good) NotGood
-    (cond (eqb n.refusal class_buffer_too_short) TooFewClasses
-    (cond (eqb n.refusal too_few_words) TooFewWords
-    (cond (eqb n.refusal words_not_marks) NotMarks (Marked n.accepting n.nothing))))
+-- the refusal of a number
+abbrev refusal_of : ℕ → Refusal
+refusal_of n =
+    cond (eqb n 1) ExpressionEmpty
+    (cond (eqb n 2) ExpressionTooLong
+    (cond (eqb n 3) OperandMissing
+    (cond (eqb n 4) GroupLeftOpen
+    (cond (eqb n 5) ClosingWithoutGroup
+    (cond (eqb n 6) TooManyGroups
+    (cond (eqb n 7) BackslashBeforeNoSign
+    (cond (eqb n 8) TooManyPieces
+    (cond (eqb n 9) BufferTooShort
+    (cond (eqb n 10) ListNotGood
+    (cond (eqb n 11) TextTooLong
+    (cond (eqb n 12) TooFewWords
+    (cond (eqb n 13) WordsNotMarks
+    (cond (eqb n 14) ClassFaulty
+    (cond (eqb n 15) ClassBufferTooShort
+    (cond (eqb n 16) CountFaulty
+    (cond (eqb n 17) TooManyNodes TableTooShort))))))))))))))))
 
-answer_back : (r : MarksAnswer) → answer_by (marks_numbers r) ≡ r
-answer_back (Marked marked nothing) = refl
-answer_back NotGood = refl
-answer_back TooFewClasses = refl
-answer_back TooFewWords = refl
-answer_back NotMarks = refl
+-- the answer that has these numbers
+abbrev answer_by : MarksNumbers → Result Told Refusal
+answer_by n =
+    cond (eqb n.refusal 0) (Ok (record { accepting = n.accepting; nothing = n.nothing })) (Err (refusal_of n.refusal))
+
+answer_back : (r : Result Told Refusal) → answer_by (marks_numbers r) ≡ r
+answer_back (Ok told) = refl
+answer_back (Err ExpressionEmpty) = refl
+answer_back (Err ExpressionTooLong) = refl
+answer_back (Err OperandMissing) = refl
+answer_back (Err GroupLeftOpen) = refl
+answer_back (Err ClosingWithoutGroup) = refl
+answer_back (Err TooManyGroups) = refl
+answer_back (Err BackslashBeforeNoSign) = refl
+answer_back (Err TooManyPieces) = refl
+answer_back (Err BufferTooShort) = refl
+answer_back (Err ListNotGood) = refl
+answer_back (Err TextTooLong) = refl
+answer_back (Err TooFewWords) = refl
+answer_back (Err WordsNotMarks) = refl
+answer_back (Err ClassFaulty) = refl
+answer_back (Err ClassBufferTooShort) = refl
+answer_back (Err CountFaulty) = refl
+answer_back (Err TooManyNodes) = refl
+answer_back (Err TableTooShort) = refl
 
 -- an answer is known from its numbers
-pub numbers_injective : (r s : MarksAnswer) → marks_numbers r ≡ marks_numbers s → r ≡ s
+pub numbers_injective : (r s : Result Told Refusal) → marks_numbers r ≡ marks_numbers s → r ≡ s
 numbers_injective r s e = sym (answer_back r) ∙ ap answer_by e ∙ answer_back s

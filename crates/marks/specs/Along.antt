@@ -1,7 +1,6 @@
 -- Steps along many bytes of a good list: each is made from marks and makes marks, so none after the first can be
 -- refused, and where nothing is left or something is refused, one more byte changes nothing.
-use Rattle.std.specs.Prelude.{ℕ, ◌+◌, ◌≤◌, ◌<◌, ◌≡◌, Bool, true, ◌↔◌, List, [], ◌∷◌, ◌++◌, length}
-use Rattle.std.proofs.Common.{◌∙◌}
+use Rattle.std.specs.Prelude.{ℕ, ◌≤◌, ◌≡◌, Bool, true, ◌↔◌, List, length}
 use Rattle.language.specs.Tree.{Tree}
 use Rattle.language.specs.Automaton.{accepting}
 use Rattle.tree.specs.Leaf.{Leaf}

@@ -11,5 +11,7 @@ pub mod ChainFollows
 pub mod States
 -- where nothing is left, nothing comes back
 pub mod NothingLeft
+-- either of them
+pub mod Works
 -- steps along many bytes
 pub mod Along

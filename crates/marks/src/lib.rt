@@ -4,149 +4,80 @@
 mod along;
 pub mod numbers;
 
-ghost use Rattle.std.specs.Prelude.{◌/◌, ◌≤◌, ◌<◌, ◌≡◌, true, false, length};
-ghost use Rattle.tree.specs.Limits.{few_slots, some_slots};
-ghost use Rattle.tree.specs.Layout.{record_size};
-ghost use Rattle.preparing.specs.Made.{PreparedList};
+ghost use Rattle.std.specs.Prelude.{◌*◌, ◌/◌, ◌≤◌, ◌<◌, List, ℕ, length};
+ghost use Rattle.language.specs.Tree.{Tree};
+ghost use Rattle.tree.specs.Limits.{most_pieces};
+ghost use Rattle.tree.specs.Leaf.{Leaf};
+ghost use Rattle.tree.specs.Records.{Good, piece_count};
+ghost use Rattle.tables.specs.Plan.{row_words};
+ghost use Rattle.tables.specs.Tables.{Prepared, Ready};
 ghost use Rattle.marks.specs.Answer.{marks_numbers};
-ghost use Rattle.marks.specs.Promise.{Starts, Steps};
+ghost use Rattle.marks.specs.Promise.{Classed, Starts, Steps};
 ghost use Rattle.marks.specs.StepsEach.{StepsEach};
+ghost use Rattle.marks.specs.Works.{Works};
 
 use along::advance_along;
-use deciding::good::Decided;
-use preparing::prepare_list;
+use preparing::prepare_for;
 use stepping::agree::agreeing;
-use stepping::inner::{FEW_WORDS, SOME_WORDS, begin};
+use stepping::inner::{FEW_WORDS, SOME_WORDS, Told, begin};
 use tables::TABLE_WORDS;
-use tree::layout::{CLASS_RECORD_SIZE, RECORD_SIZE};
-use tree::limits::{FEW_SLOTS, SLOT_COUNT, SOME_SLOTS};
+use tree::layout::RECORD_SIZE;
+use tree::limits::{FEW_SLOTS, SOME_SLOTS};
+use tree::refusal::Refusal;
 
-// What a start or steps answer.
-#[derive(Drop)]
-pub enum MarksAnswer {
-    // The marks are made; whether the root's accepting state is now marked, and whether nothing is left: no state is
-    // marked.
-    Marked { accepting: bool, nothing: bool },
-    // The list is not good.
-    NotGood,
-    // Some class leaf has no record in the class buffer.
-    TooFewClasses,
-    // Fewer words are lent than there are pieces.
-    TooFewWords,
-    // A bit past the last state is set, or the two bits of a shared state differ.
-    NotMarks,
+// What is to be done with the marks in the lent words.
+#[derive(Clone, Copy, Drop)]
+enum Work<'a> {
+    // To mark the root's start.
+    Start,
+    // To step along each of the bytes.
+    Steps(&'a [u8]),
 }
 
-// Starts, or steps along each byte, by what was decided of the list, and by its table where it is good: refuses one
-// that is not, class leaves with no record, too few words, and words to step from that are no marks.
-fn mark_with(
-    list: &[u8],
-    classes: &[u8],
-    decided: Decided,
+// Starts, or steps along each byte, in the rows of a list of so many pieces: refuses too few words, and words to step
+// from that are no marks.
+fn mark_by(
     rows: &[u64],
+    pieces: usize,
+    classes: &[u8],
     words: &mut [u64],
-    stepping: bool,
-    bytes: &[u8],
-) -> MarksAnswer
-    requires { PreparedList list.now decided rows.now }
-    ensures starts { stepping ≡ false
-        → Starts list.now classes.now words.old words.new
-        (marks_numbers result) }
-    ensures steps_each { stepping ≡ true
-        → StepsEach list.now classes.now words.old bytes.now
-        words.new (marks_numbers result) }
+    work: Work,
+) -> Result<Told, Refusal>
+    requires { Ready rows.now pieces }
+    ensures { (list : List ℕ) (t : Tree Leaf) → Prepared t rows.now pieces → Good list t → Classed classes.now t
+        → Works list classes.now words.old words.new work.entry (marks_numbers result) }
 {
-    let Decided::Good {
-        records: _,
-        pieces,
-        classes: leaves,
-    } = decided
-    else {
-        return MarksAnswer::NotGood;
-    };
-    if classes.len() / CLASS_RECORD_SIZE < leaves {
-        return MarksAnswer::TooFewClasses;
-    }
     if words.len() < pieces {
-        return MarksAnswer::TooFewWords;
+        return Err(Refusal::TooFewWords);
     }
-    if !stepping {
-        let accepting = begin(rows, pieces, words);
-        return MarksAnswer::Marked {
-            accepting,
+    let Work::Steps(bytes) = work else {
+        return Ok(Told {
+            accepting: begin(rows, pieces, words),
             nothing: false,
-        };
-    }
+        });
+    };
     if !agreeing(rows, words, pieces) {
-        return MarksAnswer::NotMarks;
+        return Err(Refusal::WordsNotMarks);
     }
-    let told = advance_along(rows, pieces, classes, words, bytes);
-    MarksAnswer::Marked {
-        accepting: told.accepting,
-        nothing: told.nothing,
-    }
+    Ok(advance_along(rows, pieces, classes, words, bytes))
 }
 
-// On a list of few records, in few rows.
-fn mark_few(
+// In so many words for the list's rows, of its own: refuses a list that is not good, and class leaves with no record.
+fn mark_in_rows<const WORDS: usize>(
     list: &[u8],
     classes: &[u8],
+    slots: usize,
     words: &mut [u64],
-    stepping: bool,
-    bytes: &[u8],
-) -> MarksAnswer
-    requires { length list.now / record_size < few_slots }
-    ensures starts { stepping ≡ false
-        → Starts list.now classes.now words.old words.new
-        (marks_numbers result) }
-    ensures steps_each { stepping ≡ true
-        → StepsEach list.now classes.now words.old bytes.now
-        words.new (marks_numbers result) }
+    work: Work,
+) -> Result<Told, Refusal>
+    requires le_slots { 1 ≤ slots }
+    requires room { (t : Tree Leaf) → Good list.now t → row_words * piece_count t ≤ WORDS }
+    requires words_few { WORDS ≤ row_words * most_pieces }
+    ensures { Works list.now classes.now words.old words.new work.entry (marks_numbers result) }
 {
-    let mut rows = [0u64; FEW_WORDS];
-    let decided = prepare_list(list, FEW_SLOTS, &mut rows);
-    mark_with(list, classes, decided, &rows, words, stepping, bytes)
-}
-
-// On a longer one.
-fn mark_some(
-    list: &[u8],
-    classes: &[u8],
-    words: &mut [u64],
-    stepping: bool,
-    bytes: &[u8],
-) -> MarksAnswer
-    requires { length list.now / record_size < some_slots }
-    ensures starts { stepping ≡ false
-        → Starts list.now classes.now words.old words.new
-        (marks_numbers result) }
-    ensures steps_each { stepping ≡ true
-        → StepsEach list.now classes.now words.old bytes.now
-        words.new (marks_numbers result) }
-{
-    let mut rows = [0u64; SOME_WORDS];
-    let decided = prepare_list(list, SOME_SLOTS, &mut rows);
-    mark_with(list, classes, decided, &rows, words, stepping, bytes)
-}
-
-// On a list of any length.
-fn mark_many(
-    list: &[u8],
-    classes: &[u8],
-    words: &mut [u64],
-    stepping: bool,
-    bytes: &[u8],
-) -> MarksAnswer
-    ensures starts { stepping ≡ false
-        → Starts list.now classes.now words.old words.new
-        (marks_numbers result) }
-    ensures steps_each { stepping ≡ true
-        → StepsEach list.now classes.now words.old bytes.now
-        words.new (marks_numbers result) }
-{
-    let mut rows = [0u64; TABLE_WORDS];
-    let decided = prepare_list(list, SLOT_COUNT, &mut rows);
-    mark_with(list, classes, decided, &rows, words, stepping, bytes)
+    let mut rows = [0u64; WORDS];
+    let counts = prepare_for(list, classes, slots, &mut rows)?;
+    mark_by(&rows, counts.pieces, classes, words, work)
 }
 
 // In the fewest rows that are enough, by the number of the records: most of what a short list costs is setting arrays
@@ -156,49 +87,43 @@ fn mark(
     classes: &[u8],
     slots: usize,
     words: &mut [u64],
-    stepping: bool,
-    bytes: &[u8],
-) -> MarksAnswer
+    work: Work,
+) -> Result<Told, Refusal>
     requires { 1 ≤ slots }
-    ensures starts { stepping ≡ false
-        → Starts list.now classes.now words.old words.new
-        (marks_numbers result) }
-    ensures steps_each { stepping ≡ true
-        → StepsEach list.now classes.now words.old bytes.now
-        words.new (marks_numbers result) }
+    ensures { Works list.now classes.now words.old words.new work.entry (marks_numbers result) }
 {
     if slots <= list.len() / RECORD_SIZE {
-        return mark(list, classes, 4 * slots, words, stepping, bytes);
+        return mark(list, classes, 4 * slots, words, work);
     }
     if slots <= FEW_SLOTS {
-        return mark_few(list, classes, words, stepping, bytes);
+        return mark_in_rows::<FEW_WORDS>(list, classes, slots, words, work);
     }
     if slots <= SOME_SLOTS {
-        return mark_some(list, classes, words, stepping, bytes);
+        return mark_in_rows::<SOME_WORDS>(list, classes, slots, words, work);
     }
-    mark_many(list, classes, words, stepping, bytes)
+    mark_in_rows::<TABLE_WORDS>(list, classes, slots, words, work)
 }
 
 // Marks the root's start in the lent words and closes.
-pub fn start(list: &[u8], classes: &[u8], words: &mut [u64]) -> MarksAnswer
+pub fn start(list: &[u8], classes: &[u8], words: &mut [u64]) -> Result<Told, Refusal>
     ensures { Starts list.now classes.now words.old words.new
         (marks_numbers result) }
 {
-    mark(list, classes, FEW_SLOTS, words, false, b"")
+    mark(list, classes, FEW_SLOTS, words, Work::Start)
 }
 
 // Moves the marks in the lent words along the byte and closes.
-pub fn step(list: &[u8], classes: &[u8], words: &mut [u64], byte: u8) -> MarksAnswer
+pub fn step(list: &[u8], classes: &[u8], words: &mut [u64], byte: u8) -> Result<Told, Refusal>
     ensures { Steps list.now classes.now byte words.old words.new
         (marks_numbers result) }
 {
-    mark(list, classes, FEW_SLOTS, words, true, &[byte])
+    mark(list, classes, FEW_SLOTS, words, Work::Steps(&[byte]))
 }
 
 // Moves the marks in the lent words along each byte, one after the other, and closes after each.
-pub fn steps(list: &[u8], classes: &[u8], words: &mut [u64], bytes: &[u8]) -> MarksAnswer
+pub fn steps(list: &[u8], classes: &[u8], words: &mut [u64], bytes: &[u8]) -> Result<Told, Refusal>
     ensures { StepsEach list.now classes.now words.old bytes.now
         words.new (marks_numbers result) }
 {
-    mark(list, classes, FEW_SLOTS, words, true, bytes)
+    mark(list, classes, FEW_SLOTS, words, Work::Steps(bytes))
 }

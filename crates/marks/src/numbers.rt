@@ -2,10 +2,8 @@
 ghost use Rattle.std.specs.Prelude.{◌≡◌};
 ghost use Rattle.marks.specs.Answer.{marks_numbers};
 
-use crate::MarksAnswer;
-use tree::refusal_numbers::{
-    CLASS_BUFFER_TOO_SHORT, LIST_NOT_GOOD, TOO_FEW_WORDS, WORDS_NOT_MARKS,
-};
+use stepping::inner::Told;
+use tree::refusal::Refusal;
 
 // What a start or a step gives back in numbers.
 #[derive(Drop)]
@@ -21,31 +19,21 @@ pub struct MarksNumbers {
 }
 
 // The numbers of an answer.
-pub fn numbers_of(answer: MarksAnswer) -> MarksNumbers
+pub fn numbers_of(answer: Result<Told, Refusal>) -> MarksNumbers
     ensures { result ≡ marks_numbers answer }
 {
     match answer {
-        MarksAnswer::Marked { accepting, nothing } => MarksNumbers {
+        Ok(told) => MarksNumbers {
             refusal: 0,
             place: 0,
-            accepting,
-            nothing,
+            accepting: told.accepting,
+            nothing: told.nothing,
         },
-        MarksAnswer::NotGood => refusing(LIST_NOT_GOOD),
-        MarksAnswer::TooFewClasses => refusing(CLASS_BUFFER_TOO_SHORT),
-        MarksAnswer::TooFewWords => refusing(TOO_FEW_WORDS),
-        MarksAnswer::NotMarks => refusing(WORDS_NOT_MARKS),
-    }
-}
-
-// The numbers of a refusal.
-fn refusing(number: u8) -> MarksNumbers
-    ensures { result ≡ Rattle.marks.specs.Answer.refusing_marks number }
-{
-    MarksNumbers {
-        refusal: number,
-        place: 0,
-        accepting: false,
-        nothing: false,
+        Err(refusal) => MarksNumbers {
+            refusal: refusal.number(),
+            place: 0,
+            accepting: false,
+            nothing: false,
+        },
     }
 }
