@@ -1,7 +1,7 @@
 -- What the readers of a class's items, and of a whole class, promise: the class that the reading finds, with its
 -- values.
-use Rattle.std.specs.Prelude.{ℕ, ◌+◌, ◌≤◌, ◌<◌, ◌≡◌, refl, Bool, true, false, List, [], ◌∷◌, Option, Some, None, length, drop, get_or}
-use Rattle.std.proofs.Common.{ap, ◌∙◌, arith}
+use Rattle.std.specs.Prelude.{ℕ, ◌+◌, ◌≤◌, ◌<◌, ◌≡◌, refl, Bool, true, false, List, [], ◌∷◌, Option, Some, None, length, drop, get_or, set}
+use Rattle.std.proofs.Common.{get_or-set_same, get_or-set_other, length-set, ap, ◌∙◌, arith}
 use Rattle.classes.specs.Class.{Item, from_to, Class, the_dot, unread, opened, item_due}
 use Rattle.classes.specs.ClassRun.{ClassRan, found, failed}
 use Rattle.classes.specs.ClassComplete.{class_of_items}
@@ -20,7 +20,7 @@ use Rattle.classes.specs.ClassReading.{
   opened_plainly,
 }
 use Rattle.classes.specs.ClassAt.{run_at, class_at, ClassHere, dot_here, bracket_here}
-use Rattle.classes.specs.Members.{Members, EveryValue, Put, filled_members, put_members, value_count}
+use Rattle.classes.specs.Members.{Members, EveryValue, filled_members, put_members, value_count}
 
 -- a reading of a class finds one that ends at `next`, and these are its values
 pub record ClassFound (bytes : List ℕ) (at next : ℕ) (ran : ClassRan) (members : List ℕ) : Type 0 where
@@ -234,8 +234,15 @@ pub inside_at : (bytes : List ℕ) (at : ℕ) → ClassHere bytes at → at < le
 inside_at bytes at (dot_here h e) = h
 inside_at bytes at (bracket_here h e f) = h
 
--- the values of the dot
-pub dot_members : (filled after : List ℕ) → length filled ≡ value_count → EveryValue filled 1
-    → length after ≡ length filled → Put filled after 10 11 0 → Members the_dot after
-dot_members filled after long f same put =
-    put_members (class_of_items true []) filled after 10 10 (filled_members true filled long f) same put
+-- the values of the dot: all are taken, and then 10 is not
+pub dot_members : (filled : List ℕ) → length filled ≡ value_count → EveryValue filled 1
+    → Members the_dot (set filled 10 0)
+dot_members filled long f =
+    put_members (class_of_items true []) filled (set filled 10 0) 10 10 (filled_members true filled long f)
+    (length-set filled 10 0)
+    (record {
+      inside = λ v l k.
+          let here : v ≡ 10 = omega arith in rw here (get_or-set_same filled 10 0 0 (omega (arith, long)));
+      below = λ v l. get_or-set_other filled 10 v 0 0 (λ e. omega arith);
+      above = λ v l. get_or-set_other filled 10 v 0 0 (λ e. omega arith);
+    })

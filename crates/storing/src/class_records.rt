@@ -6,10 +6,10 @@ ghost use Rattle.classes.specs.ClassRecord.{class_record, encode_classes};
 ghost use Rattle.classes.specs.ClassAt.{class_at, ClassHere};
 ghost use Rattle.classes.specs.Members.{Members, value_count};
 ghost use Rattle.checker.specs.Relabelled.{class_labels, relabelled, labelled_classes};
-ghost use Rattle.checker.specs.ClassStore.{LabelsPlaced, LabelToStore, LabelStored, LabelNumbered};
+ghost use Rattle.checker.specs.ClassStore.{LabelsPlaced};
 
 use classes::class::class_members;
-use classes::members::{VALUE_COUNT, set_all, set_range, write_class_record};
+use classes::members::{VALUE_COUNT, write_class_record};
 use tree::layout::{CLASS_LABEL, CLASS_RECORD_SIZE, class_label};
 
 // Tells the values of the class written at a place.
@@ -18,11 +18,11 @@ fn class_values(expr: &[u8], at: usize, members: &mut [u8])
     ensures { Members (class_at expr.now at) members.new }
 {
     if expr[at] == b'.' {
-        set_all(members, 1);
-        set_range(members, 10, 10, 0);
-        return;
+        members.fill(1);
+        members[usize::from(b'\n')] = 0;
+    } else {
+        class_members(expr, at, members);
     }
-    class_members(expr, at, members);
 }
 
 // Writes the record of the class at a place, as record k.
@@ -39,18 +39,6 @@ fn store_class(expr: &[u8], at: usize, classes: &mut [u8], k: usize)
     write_class_record(&members, &mut classes[begin..begin + CLASS_RECORD_SIZE]);
 }
 
-// Writes the class record of a class label as record k, and gives the number of the next one.
-fn store_label(expr: &[u8], label: u16, classes: &mut [u8], k: usize) -> usize
-    requires { LabelToStore expr.now label classes.old k }
-    ensures { LabelStored expr.now label k classes.old classes.new result }
-{
-    if label % 8 == CLASS_LABEL {
-        store_class(expr, (label / 8) as usize, classes, k);
-        return k + 1;
-    }
-    k
-}
-
 // Writes the class records, in the order of the class labels.
 pub fn store_classes(expr: &[u8], labels: &[u16], classes: &mut [u8])
     requires placed { LabelsPlaced expr.now labels.now }
@@ -60,23 +48,12 @@ pub fn store_classes(expr: &[u8], labels: &[u16], classes: &mut [u8])
         ++ drop (class_record_size * class_labels labels.now) classes.old }
 {
     let mut k = 0;
-    let mut i = 0;
-    while i < labels.len() {
-        k = store_label(expr, labels[i], classes, k);
-        i += 1;
+    for label in labels {
+        if *label % 8 == CLASS_LABEL {
+            store_class(expr, usize::from(*label / 8), classes, k);
+            k += 1;
+        }
     }
-}
-
-// Puts the number k into label i where it is a class label, and gives the next number.
-fn number_label(labels: &mut [u16], i: usize, k: usize) -> usize
-    requires { (i < length labels.old) × (k ≤ most_labels) }
-    ensures { LabelNumbered i k labels.old labels.new result }
-{
-    if labels[i] % 8 == CLASS_LABEL {
-        labels[i] = class_label(k);
-        return k + 1;
-    }
-    k
 }
 
 // Puts the number of its class into each class label.
@@ -85,9 +62,10 @@ pub fn number_classes(labels: &mut [u16])
     ensures { labels.new ≡ relabelled labels.old 0 }
 {
     let mut k = 0;
-    let mut i = 0;
-    while i < labels.len() {
-        k = number_label(labels, i, k);
-        i += 1;
+    for label in labels.iter_mut() {
+        if *label % 8 == CLASS_LABEL {
+            *label = class_label(k);
+            k += 1;
+        }
     }
 }

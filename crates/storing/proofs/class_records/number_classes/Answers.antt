@@ -1,48 +1,23 @@
--- `storing::class_records::number_classes` meets its contract.
-use mathlib.Core.Path.{refl, ◌∙◌}
+-- `storing::class_records::number_classes` meets its contract: a class label gets the number, another label stays.
 use native.Mathlib.Omega.{arith}
-use Rattle.checker.specs.ClassStore.{none_numbered, next_numbered, number_le, all_numbered}
+use Rattle.std.proofs.lemmas.List.{set-get_or}
+use Rattle.checker.specs.ClassStore.{next_numbered, class_label_numbered, other_label_numbered, number_le}
 use Rattle.storing.proofs.class_records.number_classes.Goals as goal
+use Rattle.storing.proofs.class_records.number_classes.Goals.{then-label-eq-CLASS_LABEL, else-label-eq-CLASS_LABEL}
 
-pub loop-i-init : goal.loop-i-init
-loop-i-init c =
-    (refl, omega arith, none_numbered _)
+pub class_label-requires : goal.class_label-requires
+class_label-requires c =
+    omega (arith, number_le c.loop-label.invariant (omega arith), c.requires)
 
-pub number_label-k-requires : goal.number_label-k-requires
-number_label-k-requires c =
-    let l = c.loop-i in (
-      omega (arith, c.loop-i-test.true),
-      omega (
-        arith,
-        number_le l.invariant.2 (omega (
-          arith,
-          l.invariant.0,
-          c.loop-i-test.true,
-        )),
-        c.requires,
-        l.invariant.1,
-      ),
-    )
-
-pub overflow_add-i : goal.overflow_add-i
-overflow_add-i c =
-    let l = c.loop-i in
-    omega (arith, l.invariant.0, c.loop-i-test.true)
-
-pub loop-i-smaller : goal.loop-i-smaller
-loop-i-smaller c =
-    let l = c.loop-i in
-    omega (arith, l.invariant.0, c.loop-i-test.true)
-
-pub loop-i-preserved : goal.loop-i-preserved
-loop-i-preserved c =
-    let l = c.loop-i in
-    let h = c.loop-i-test.true in (
-      c.number_label-k.auto.labels ∙ l.invariant.0,
-      omega (arith, l.invariant.0, h),
-      next_numbered l.invariant.2 (omega (arith, l.invariant.0, h)) c.number_label-k.ensures,
-    )
-
-pub returns : goal.returns
-returns c =
-    let l = c.loop-i in all_numbered l.invariant.2 (omega (arith, l.invariant.0, l.invariant.1))
+pub loop-label-preserved : goal.loop-label-preserved
+loop-label-preserved c =
+    let l = c.loop-label in
+    let h = c.loop-label-test.true in
+    elim c.if-label-eq-CLASS_LABEL.branch [
+      | then-label-eq-CLASS_LABEL w ↦ rw (w.labels-is, w.k-is, w.class_label.ensures)
+          (next_numbered l.invariant h
+          (class_label_numbered (omega (arith, w.if-label-eq-CLASS_LABEL.true))))
+      | else-label-eq-CLASS_LABEL w ↦ rw (w.labels-is, w.k-is, set-get_or)
+          (next_numbered l.invariant h
+          (other_label_numbered (λ e. w.if-label-eq-CLASS_LABEL.false (omega (arith, e)))))
+    ]

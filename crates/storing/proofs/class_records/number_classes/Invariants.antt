@@ -1,14 +1,7 @@
--- The loop's invariant: the labels before `i` are numbered.
-use Prim.Native.Nat.{◌-◌, ◌≤◌}
-use mathlib.Core.Path.{◌≡◌}
-use lib.ListN.{length}
+-- The loop's invariant: the labels before the one at hand are numbered.
 use Rattle.checker.specs.ClassStore.{LabelsNumbered}
 use Rattle.storing.proofs.class_records.number_classes.Given as goal
 
-abbrev pub invariant-loop-i : goal.invariant-loop-i
-invariant-loop-i l =
-    (length l.labels ≡ length l.initial.labels) × (l.i ≤ length l.initial.labels) × LabelsNumbered l.initial.labels l.labels l.i l.k
-
-abbrev pub decreases-loop-i : goal.decreases-loop-i
-decreases-loop-i l =
-    length l.initial.labels - l.i
+abbrev pub invariant-loop-label : goal.invariant-loop-label
+invariant-loop-label l =
+    LabelsNumbered l.initial.labels l.labels l.label-index l.k

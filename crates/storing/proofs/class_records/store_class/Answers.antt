@@ -5,7 +5,7 @@ use mathlib.Core.List.{List, ◌++◌}
 use native.Mathlib.Omega.{arith}
 use lib.ListN.{length, take, drop, length-drop}
 use lib.Seq.{length-take-le}
-use Rattle.classes.specs.Members.{members_binary, recorded_whole}
+use Rattle.classes.specs.Members.{recorded_whole}
 use Rattle.storing.proofs.class_records.store_class.Goals as goal
 
 -- the part that is lent has 32 bytes
@@ -19,12 +19,6 @@ part_length n list h = rw (part_size n) (length-take-le 32 (drop n list) (omega 
 part_stored : (n : ℕ) (list part one : List ℕ) → part ≡ one
     → take n list ++ (part ++ drop (n + 32 - n) (drop n list)) ≡ take n list ++ (one ++ drop 32 (drop n list))
 part_stored n list part one e = rw (e, part_size n)
-
-pub write_class_record-requires : goal.write_class_record-requires
-write_class_record-requires c = (
-  members_binary c.class_values.ensures,
-  part_length (32 * c.args.k) c.args.classes.now c.requires.room,
-)
 
 pub returns : goal.returns
 returns c =
