@@ -51,13 +51,7 @@ fn most(expr: &[u8], at: usize, fewest: usize) -> Option<Count>
     ensures { RanAnswer expr.now at (count_run_from expr.now at (most_due fewest)) result }
 {
     let Number { value, next } = number(expr, at)?;
-    if !stands_at(expr, next, b'}') {
-        return None;
-    }
-    if value == 0 {
-        return None;
-    }
-    if value < fewest {
+    if !stands_at(expr, next, b'}') || value == 0 || value < fewest {
         return None;
     }
     Some(Count {
