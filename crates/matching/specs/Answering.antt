@@ -1,6 +1,5 @@
 -- From what the marks answer to what search has found so far.
-use Rattle.std.specs.Prelude.{ℕ, ◌+◌, ◌≤◌, ◌<◌, ◌≡◌, ◌↔◌, Bool, true, List, [], ◌∷◌, ◌++◌, length, get_or}
-use Rattle.std.proofs.Math.Option.{Option, none}
+use Rattle.std.specs.Prelude.{ℕ, ◌+◌, ◌≤◌, ◌<◌, ◌≡◌, ◌↔◌, Bool, true, List, [], ◌∷◌, ◌++◌, Option, None, length, get_or}
 use Rattle.std.proofs.Common.{arith}
 use Rattle.language.specs.Tree.{Tree}
 use Rattle.tree.specs.Leaf.{Leaf, Matches}
@@ -35,7 +34,7 @@ module _ (classes : List ℕ) (t : Tree Leaf) (text : List ℕ) where
 
   -- at the beginning the part is empty
   pub standing_first : (s : ℕ) (words : List ℕ) (yes' : Bool) → s ≤ length text → Answered classes t [] words yes'
-      → Looking classes t text s s words (better yes' s none)
+      → Looking classes t text s s words (better yes' s None)
   standing_first s words yes' inside answered =
       let here : Answered classes t (part s s text) words yes' = rw (part_empty s text) answered in
       record {

@@ -1,14 +1,13 @@
 -- How a search comes to its answer: for one start the latest end so far, and no part that begins before that start.
-use Rattle.std.specs.Prelude.{ℕ, ◌+◌, ◌≤◌, ◌<◌, ◌≡◌, refl, Bool, true, false, ◌↔◌, List, length}
+use Rattle.std.specs.Prelude.{ℕ, ◌+◌, ◌≤◌, ◌<◌, ◌≡◌, refl, Bool, true, false, ◌↔◌, List, Option, None, Some, length}
 use Rattle.std.proofs.lemmas.Bool.{false≢true}
-use Rattle.std.proofs.Math.Option.{Option, none, some}
 use Rattle.std.proofs.Math.Decide.{dec_lt}
 use Rattle.std.proofs.Common.{arith}
 use Rattle.matching.specs.Found.{PartInLanguage, NoneBefore, Found, NothingFound}
 
 -- the latest end so far, once a test has looked at the end e
 abbrev pub better : Bool → ℕ → Option ℕ → Option ℕ
-better true e best = some e
+better true e best = Some e
 better false e best = best
 
 module _ (L : List ℕ → Type 0) (text : List ℕ) where
@@ -32,8 +31,8 @@ module _ (L : List ℕ → Type 0) (text : List ℕ) where
 
   -- the latest end so far, at e: of no part, or of one
   abbrev pub BestSoFar : ℕ → ℕ → Option ℕ → Type 0
-  BestSoFar s e none = NoneEnds s s e
-  BestSoFar s e (some best) = Latest s e best
+  BestSoFar s e None = NoneEnds s s e
+  BestSoFar s e (Some best) = Latest s e best
 
   -- the latest end of all parts from s
   pub record Best (s best : ℕ) : Type 0 where
@@ -42,8 +41,8 @@ module _ (L : List ℕ → Type 0) (text : List ℕ) where
 
   -- no part begins at s, or the latest end is known
   abbrev pub Furthest : ℕ → Option ℕ → Type 0
-  Furthest s none = (j : ℕ) → PartInLanguage L text s j → ⊥
-  Furthest s (some best) = Best s best
+  Furthest s None = (j : ℕ) → PartInLanguage L text s j → ⊥
+  Furthest s (Some best) = Best s best
 
   -- one place further where no part ends
   none_ends_next : (s i e : ℕ) → NoneEnds s i e → SaysPart false s (e + 1) → NoneEnds s i (e + 1)
@@ -59,7 +58,7 @@ module _ (L : List ℕ → Type 0) (text : List ℕ) where
   hit s e says = record { reached = omega arith; here = says.0 refl; latest = λ j h k p. absurd (omega arith) }
 
   -- the first place where a part from s can end is s
-  pub so_far_first : (test : Bool) (s : ℕ) → SaysPart test s s → BestSoFar s s (better test s none)
+  pub so_far_first : (test : Bool) (s : ℕ) → SaysPart test s s → BestSoFar s s (better test s None)
   so_far_first true s says = hit s s says
   so_far_first false s says = λ j h k p. let at : j ≡ s = omega arith in false≢true (says.1 (rw at at p))
 
@@ -67,8 +66,8 @@ module _ (L : List ℕ → Type 0) (text : List ℕ) where
   pub so_far_next : (test : Bool) (best : Option ℕ) (s e : ℕ) → BestSoFar s e best → SaysPart test s (e + 1)
       → BestSoFar s (e + 1) (better test (e + 1) best)
   so_far_next true best s e far says = hit s (e + 1) says
-  so_far_next false none s e far says = none_ends_next s s e far says
-  so_far_next false (some best) s e far says =
+  so_far_next false None s e far says = none_ends_next s s e far says
+  so_far_next false (Some best) s e far says =
       record {
         reached = omega (arith, far.reached);
         here = far.here;
@@ -78,9 +77,9 @@ module _ (L : List ℕ → Type 0) (text : List ℕ) where
 
   -- where no part ends any later, the latest end so far is the latest of all
   pub so_far_settled : (best : Option ℕ) (s e : ℕ) → BestSoFar s e best → NoneAfter s e → Furthest s best
-  so_far_settled none s e far after =
+  so_far_settled None s e far after =
       λ j p. elim (dec_lt e j) [ yes l ↦ after j l p | no l ↦ far j p.ordered (omega arith) p ]
-  so_far_settled (some best) s e far after =
+  so_far_settled (Some best) s e far after =
       record {
         here = far.here;
         latest =
@@ -96,11 +95,11 @@ module _ (L : List ℕ → Type 0) (text : List ℕ) where
   none_before_first i j h p = absurd (omega arith)
 
   -- where no part begins before s and the latest end from s is known, that is the answer
-  pub settled_found : (s e : ℕ) → NoneBefore L text s → Furthest s (some e) → Found L text s e
+  pub settled_found : (s e : ℕ) → NoneBefore L text s → Furthest s (Some e) → Found L text s e
   settled_found s e before best = record { here = best.here; earliest = before; latest = best.latest }
 
   -- where none begins at s either, none begins before the next place
-  pub settled_next : (s : ℕ) → NoneBefore L text s → Furthest s none → NoneBefore L text (s + 1)
+  pub settled_next : (s : ℕ) → NoneBefore L text s → Furthest s None → NoneBefore L text (s + 1)
   settled_next s before here i j h p =
       elim (dec_lt i s) [ yes l ↦ before i j l p | no l ↦ let at : i ≡ s = omega arith in here j (rw at at p) ]
 

@@ -7,36 +7,30 @@ ghost use Rattle.tables.specs.Tables.{Prepared, Ready, Answered};
 ghost use Rattle.moving.specs.Remembered.{Remembers};
 ghost use Rattle.matching.specs.Progress.{Furthest, better};
 ghost use Rattle.matching.specs.Found.{Answers};
-ghost use Rattle.matching.specs.SearchAnswers.{end_of, answer_of};
+ghost use Rattle.matching.specs.SearchAnswers.{answer_of};
 
 use moving::memo::MEMO_WORDS;
 use stepping::inner::{begin_in, copy};
 use stepping::memory::advance_by_memo;
 use tree::limits::MOST_PIECES;
 
-// A part of a text, or nothing.
-#[derive(Drop)]
-pub enum Span {
-    At { start: usize, end: usize },
-    Nothing,
+// A part of a text: its start, and its end, the first byte after it.
+#[derive(Clone, Copy, Debug, PartialEq, Eq)]
+pub struct Span {
+    pub start: usize,
+    pub end: usize,
 }
 
-// The furthest end of a part in the language that starts at `start`.
-#[derive(Drop)]
-pub enum End {
-    At(usize),
-    Nowhere,
-}
-
-// The best end so far, after one more answer.
-fn with_end(yes: bool, end: usize, best: End) -> End
-    ensures { end_of result ≡ better yes end (end_of best) }
+// The furthest end so far, after one more answer.
+fn with_end(yes: bool, end: usize, best: Option<usize>) -> Option<usize>
+    ensures { result ≡ better yes end best }
 {
-    if yes { End::At(end) } else { best }
+    if yes { Some(end) } else { best }
 }
 
-// The furthest end, from the marks to start with, which are those of the empty text: `empty` says whether that is in
-// the language. The words are for the marks on the way, the memo for steps of this start and of later ones.
+// The furthest end of a part in the language that starts at `start`, from the marks to start with, which are those of
+// the empty text: `empty` says whether that is in the language. The words are for the marks on the way, the memo for
+// steps of this start and of later ones.
 fn furthest_end(
     rows: &[u64],
     count: usize,
@@ -47,25 +41,21 @@ fn furthest_end(
     words: &mut [u64],
     text: &[u8],
     start: usize,
-) -> End
+) -> Option<usize>
     requires ready { Ready rows.now count × Remembers rows.now classes.now memo.old }
     requires start_in_bounds { (start ≤ length text.now) × (length first.now ≡ most_pieces)
         × (length words.old ≡ most_pieces) }
     requires answered { (t : Tree Leaf) → Prepared t rows.now count → Answered classes.now t [] first.now empty }
     ensures furthest { (t : Tree Leaf) → Prepared t rows.now count
-        → Furthest (Matches classes.now t) text.now start (end_of result) }
+        → Furthest (Matches classes.now t) text.now start result }
     ensures remembers { Remembers rows.now classes.now memo.new }
 {
     copy(first, count, words);
-    let mut best = with_end(empty, start, End::Nowhere);
-    let mut end = start;
-    while end < text.len() {
+    let mut best = with_end(empty, start, None);
+    for end in start..text.len() {
         let told = advance_by_memo(rows, count, classes, memo, words, text[end]);
-        let yes = told.accepting;
-        let over = told.nothing;
-        end += 1;
-        best = with_end(yes, end, best);
-        if over {
+        best = with_end(told.accepting, end + 1, best);
+        if told.nothing {
             return best;
         }
     }
@@ -74,7 +64,7 @@ fn furthest_end(
 
 // The part that starts earliest and then ends furthest, among the parts in the language of the tree that the rows are
 // of. The marks to start with are made once for all places.
-pub fn first_part(rows: &[u64], count: usize, classes: &[u8], text: &[u8]) -> Span
+pub fn first_part(rows: &[u64], count: usize, classes: &[u8], text: &[u8]) -> Option<Span>
     requires { Ready rows.now count }
     ensures { (t : Tree Leaf) → Prepared t rows.now count
         → Answers (Matches classes.now t) text.now (answer_of result) }
@@ -83,15 +73,13 @@ pub fn first_part(rows: &[u64], count: usize, classes: &[u8], text: &[u8]) -> Sp
     let mut words = [0u64; MOST_PIECES];
     let mut memo = [0u64; MEMO_WORDS];
     let empty = begin_in(rows, count, &mut first);
-    let mut start = 0;
-    while start <= text.len() {
+    for start in 0..=text.len() {
         let found = furthest_end(
             rows, count, classes, &first, empty, &mut memo, &mut words, text, start,
         );
-        match found {
-            End::At(end) => return Span::At { start, end },
-            End::Nowhere => start += 1,
+        if let Some(end) = found {
+            return Some(Span { start, end });
         }
     }
-    Span::Nothing
+    None
 }

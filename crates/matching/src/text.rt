@@ -19,14 +19,12 @@ pub fn text_matches(rows: &[u64], count: usize, classes: &[u8], text: &[u8]) -> 
     let mut words = [0u64; MOST_PIECES];
     let mut memo = [0u64; MEMO_WORDS];
     let mut yes = begin_in(rows, count, &mut words);
-    let mut i = 0;
-    while i < text.len() {
-        let told = advance_by_memo(rows, count, classes, &mut memo, &mut words, text[i]);
+    for byte in text {
+        let told = advance_by_memo(rows, count, classes, &mut memo, &mut words, *byte);
         if told.nothing {
             return false;
         }
         yes = told.accepting;
-        i += 1;
     }
     yes
 }

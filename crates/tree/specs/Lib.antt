@@ -3,6 +3,7 @@ pub mod Leaf
 pub mod Limits
 pub mod RefusalNumbers
 pub mod Refusing
+pub mod RefusalBack
 pub mod Layout
 pub mod Places
 pub mod Cut
