@@ -1,2 +1,3 @@
 -- A text that is empty.
 pub mod EmptyText
+pub mod Sought
