@@ -3,6 +3,7 @@ use Rattle.std.specs.Prelude.{ℕ, ◌+◌, ◌≤◌, ◌<◌, ◌≡◌, refl,
 use Rattle.std.proofs.Common.{ap, sym, ◌∙◌, subst, arith, add-one, length-drop, drop-cons, lt-ltb, ne_eqb}
 use Rattle.std.proofs.Math.Decide.{dec_lt}
 use Rattle.std.proofs.Math.Seq.{drop-length}
+use Rattle.std.specs.Bool.{then_some}
 use Rattle.classes.specs.Class.{
   Item,
   from_to,
@@ -66,6 +67,13 @@ pub data BadByte : List ℕ → Type 0 where
 abbrev pub ByteAnswer : (bytes : List ℕ) (at : ℕ) → Option ClassByte → Type 0
 ByteAnswer bytes at (Some byte) = ByteHere bytes at byte.byte byte.next
 ByteAnswer bytes at None = BadByte (drop at bytes)
+
+-- by whether it may stand there
+pub byte_answer : {bytes : List ℕ} {at : ℕ} (may : Bool) (byte : ClassByte)
+    → (may ≡ true → ByteHere bytes at byte.byte byte.next) → (may ≡ false → BadByte (drop at bytes))
+    → ByteAnswer bytes at (then_some may byte)
+byte_answer true byte here bad = here refl
+byte_answer false byte here bad = bad refl
 
 -- an item from `at` up to `next`, whatever was read of the class before it
 pub record ItemHere (bytes : List ℕ) (at first last next : ℕ) : Type 0 where

@@ -43,18 +43,14 @@ fn class_byte(expr: &[u8], at: usize) -> Option<ClassByte>
     let byte = *expr.get(at)?;
     if byte == b'\\' {
         let escaped = *expr.get(at + 1)?;
-        if must_be_escaped(escaped) {
-            return Some(ClassByte {
-                byte: escaped,
-                next: at + 2,
-            });
-        }
-        return None;
+        let read = ClassByte {
+            byte: escaped,
+            next: at + 2,
+        };
+        return must_be_escaped(escaped).then_some(read);
     }
-    if must_be_escaped(byte) {
-        return None;
-    }
-    Some(ClassByte { byte, next: at + 1 })
+    let read = ClassByte { byte, next: at + 1 };
+    (!must_be_escaped(byte)).then_some(read)
 }
 
 // Reads the last byte of a range, from after its `-`.
@@ -95,13 +91,10 @@ fn due(expr: &[u8], at: usize, count: usize) -> Option<Due>
     requires { at ≤ length expr.now }
     ensures { DueAnswer expr.now at count result }
 {
-    if !stands_at(expr, at, b']') {
-        return Some(Due::Item(item(expr, at)?));
+    if stands_at(expr, at, b']') {
+        return may_have(count).then_some(Due::End);
     }
-    if may_have(count) {
-        return Some(Due::End);
-    }
-    None
+    item(expr, at).map(Due::Item)
 }
 
 // Passes over the items of a class up to its `]`. Whether all but those are taken makes no difference here.
