@@ -1,7 +1,7 @@
 // Reading and counting: what can be said of an expression with no buffer lent.
-ghost use Rattle.std.specs.Prelude.{◌≡◌, ◌≤◌, length};
+ghost use Rattle.std.specs.Prelude.{◌≡◌, ◌≤◌, length, IfOk};
 ghost use Rattle.tree.specs.Limits.{most_labels};
-ghost use Rattle.cutting.specs.Measured.{Postorder};
+ghost use Rattle.cutting.specs.Measured.{Postorder, RoomToMeasure, Measured};
 ghost use Rattle.operands.specs.Bytes.{syntax_of};
 ghost use Rattle.checker.specs.Relabelled.{class_labels};
 ghost use Rattle.checker.specs.Counted.{LabelsCounted, CheckAnswer};
@@ -24,18 +24,22 @@ pub fn class_count(labels: &[u16]) -> usize
         .count()
 }
 
-// Counts records, pieces and classes of the tree with these labels: 8 where it has too many pieces. It has its own
-// frame, so that its arrays are not there while the readers go deep.
-#[inline(never)]
-fn count_labels(labels: &[u16]) -> Result<Counts, Refused>
+// Measures the tree with these labels, and counts its records, pieces and classes: 8 where it has too many pieces.
+pub fn measured_counts(
+    labels: &[u16],
+    sizes: &mut [u16],
+    opens: &mut [u16],
+    cuts: &mut [u16],
+) -> Result<Counts, Refused>
     requires tree { Postorder labels.now }
     requires few { length labels.now ≤ most_labels }
-    ensures { LabelsCounted labels.now result }
+    requires room { RoomToMeasure (length labels.now) sizes.old opens.old cuts.old }
+    ensures measured { Measured labels.now sizes.new opens.new cuts.new (length labels.now) }
+    ensures counted { LabelsCounted labels.now result }
+    ensures sizes { IfOk result (λ counts. (counts.records ≡ length labels.now)
+        × (counts.classes ≡ class_labels labels.now)) }
 {
-    let mut sizes = [0u16; SLOT_COUNT];
-    let mut opens = [0u16; SLOT_COUNT];
-    let mut cuts = [0u16; SLOT_COUNT];
-    let pieces = piece_count(labels, &mut sizes, &mut opens, &mut cuts);
+    let pieces = piece_count(labels, sizes, opens, cuts);
     if pieces > MOST_PIECES {
         return Err(Refused {
             refusal: Refusal::TooManyPieces,
@@ -47,6 +51,20 @@ fn count_labels(labels: &[u16]) -> Result<Counts, Refused>
         pieces,
         classes: class_count(labels),
     })
+}
+
+// The same with arrays of its own for the measures. It has its own frame, so that they are not there while the readers
+// go deep.
+#[inline(never)]
+fn count_labels(labels: &[u16]) -> Result<Counts, Refused>
+    requires tree { Postorder labels.now }
+    requires few { length labels.now ≤ most_labels }
+    ensures { LabelsCounted labels.now result }
+{
+    let mut sizes = [0u16; SLOT_COUNT];
+    let mut opens = [0u16; SLOT_COUNT];
+    let mut cuts = [0u16; SLOT_COUNT];
+    measured_counts(labels, &mut sizes, &mut opens, &mut cuts)
 }
 
 // Reads an expression into the labels of its tree and counts: every refusal that needs no buffer, 17 where the tree that
