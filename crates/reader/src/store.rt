@@ -8,15 +8,14 @@ ghost use Rattle.reader.specs.LabelsStored.{LabelsToStore, StoreAnswer};
 ghost use Rattle.reader.specs.PlacesIn.{places_in};
 ghost use Rattle.reader.specs.Placing.{PlacesDue};
 
-use checker::count::class_count;
+use checker::count::measured_counts;
 use lists::write::write_records;
-use measuring::measure::piece_count;
 use operands::syntax::Syntax;
 use scanner::expression::expression;
 use storing::class_records::{number_classes, store_classes};
 use tree::counted::Counts;
 use tree::layout::{CLASS_RECORD_SIZE, RECORD_SIZE, write_places};
-use tree::limits::{MOST_PIECES, SLOT_COUNT};
+use tree::limits::SLOT_COUNT;
 use tree::refusal::{Refusal, Refused};
 
 // Stores the records and the class records of the tree with these labels: 8 where it has too many pieces, then 9 where
@@ -34,22 +33,14 @@ fn store_tree(
     let mut sizes = [0u16; SLOT_COUNT];
     let mut opens = [0u16; SLOT_COUNT];
     let mut cuts = [0u16; SLOT_COUNT];
-    let pieces = piece_count(labels, &mut sizes, &mut opens, &mut cuts);
-    if pieces > MOST_PIECES {
-        return Err(Refused {
-            refusal: Refusal::TooManyPieces,
-            place: 0,
-        });
-    }
-    let count = labels.len();
-    if records.len() < RECORD_SIZE * count {
+    let counts = measured_counts(labels, &mut sizes, &mut opens, &mut cuts)?;
+    if records.len() < RECORD_SIZE * counts.records {
         return Err(Refused {
             refusal: Refusal::BufferTooShort,
             place: 0,
         });
     }
-    let class_total = class_count(labels);
-    if classes.len() < CLASS_RECORD_SIZE * class_total {
+    if classes.len() < CLASS_RECORD_SIZE * counts.classes {
         return Err(Refused {
             refusal: Refusal::ClassBufferTooShort,
             place: 0,
@@ -58,11 +49,7 @@ fn store_tree(
     store_classes(expr, labels, classes);
     number_classes(labels);
     write_records(labels, &sizes, &opens, &cuts, records);
-    Ok(Counts {
-        records: count,
-        pieces,
-        classes: class_total,
-    })
+    Ok(counts)
 }
 
 // The same for the first `count` labels of the scratch. It has its own frame, so that its arrays are not there while
