@@ -21,8 +21,8 @@ use crate::note::note;
 use tree::layout::{CATENATION_LABEL, EMPTY_LABEL, STAR_LABEL, UNION_LABEL};
 use tree::limits::MOST_LABELS;
 
-// The scratch and its count are handed on apart: so the readers of operands and of signs promise of them (`LeafAnswer`,
-// `OneSignAnswer`).
+// The scratch and its count are handed on apart, and `places` and `with_question` are Bools: so `LeafAnswer`,
+// `OneSignAnswer`, `noted` and `copy_end` have them, over which theorems of the readers above are stated.
 
 // The count that says that there is no room.
 const NO_ROOM: usize = MOST_LABELS + 1;
