@@ -57,7 +57,8 @@ fn apart(one: u64, other: u64) -> bool
 }
 
 // Whether a child piece whose run goes from `at` up to `end` has nothing to do: its stand-in's start is not marked, and
-// no mark is in its run, which is a single word without one, or outside of `from` up to `to`.
+// no mark is in its run, which is a single word without one, or outside of `from` up to `to`. One expression in place of
+// the early answers costs each child piece more instructions.
 fn at_rest(
     word: u64,
     stand: usize,
@@ -70,12 +71,13 @@ fn at_rest(
     requires { (stand < word_bits) × (at < most_pieces) }
     ensures { result ≡ true → AtRest word stand first at end from to }
 {
-    let without_marks = if end == at + 1 {
-        first == 0
-    } else {
-        end <= from || to <= at
-    };
-    !has_bit(word, stand) && without_marks
+    if has_bit(word, stand) {
+        return false;
+    }
+    if end == at + 1 {
+        return first == 0;
+    }
+    end <= from || to <= at
 }
 
 // Whether nothing can happen from the child piece at `at` on: the own word has no mark, and those ahead have none.
