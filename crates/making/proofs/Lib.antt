@@ -1,2 +1,2 @@
--- What the proofs of several functions share.
-pub mod Told
+-- What the making of a table tells, by its cases.
+mod Told

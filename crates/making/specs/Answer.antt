@@ -1,8 +1,8 @@
 -- The numbers that the making of a table gives back, for each case of its answer.
-use Rattle.std.specs.Prelude.{ℕ, true, false}
-use Rattle.tree.specs.RefusalNumbers.{list_not_good, class_buffer_too_short}
-use Rattle.making.specs.declared.MakingAnswer.{MakingAnswer}
-use Rattle.making.specs.declared.MakingAnswer.TheVariants.{Made as Is-made, DoesNotFit, NotGood, TooFewClasses}
+use Rattle.std.specs.Prelude.{ℕ, true, false, Option, Some, None, Result, Ok, Err}
+use Rattle.tree.specs.Refusing.{refusal_number}
+use Rattle.tree.specs.declared.refusal.Refusal.{Refusal}
+use Rattle.tabulating.specs.declared.Made.{Made}
 use Rattle.making.specs.declared.numbers.MadeNumbers.{MadeNumbers}
 
 -- no table was made: a refusal gives its number, a table that does not fit 0
@@ -14,8 +14,7 @@ abbrev pub making : (states entries : ℕ) → MadeNumbers
 making states entries = record { refusal = 0; made = true; states = states; entries = entries }
 
 -- the numbers of each answer
-abbrev pub made_numbers : MakingAnswer → MadeNumbers
-made_numbers (Is-made states entries) = making states entries
-made_numbers DoesNotFit = not_made 0
-made_numbers NotGood = not_made list_not_good
-made_numbers TooFewClasses = not_made class_buffer_too_short
+abbrev pub made_numbers : Result (Option Made) Refusal → MadeNumbers
+made_numbers (Ok (Some made)) = making made.states made.entries
+made_numbers (Ok None) = not_made 0
+made_numbers (Err refusal) = not_made (refusal_number refusal)

@@ -1,13 +1,12 @@
 -- What the making of a table promises leaves no choice: the numbers, every entry of the table and every word of the
 -- room are determined.
-use Rattle.std.specs.Prelude.{ℕ, ◌≡◌, refl, List}
+use Rattle.std.specs.Prelude.{ℕ, ◌≡◌, refl, List, Option, Some, None}
 use Rattle.std.proofs.Common.{arith, sym, ap, ◌∙◌, subst}
 use Rattle.language.specs.Tree.{Tree}
 use Rattle.tree.specs.Leaf.{Leaf}
 use Rattle.lists.specs.Readback.{good_unique}
 use Rattle.tabulating.specs.Tabulates.{table_made, does_not_fit}
-use Rattle.tabulating.specs.declared.Tabulated.{Tabulated}
-use Rattle.tabulating.specs.declared.Tabulated.TheVariants.{Made as Is-made, DoesNotFit}
+use Rattle.tabulating.specs.declared.Made.{Made}
 use Rattle.tabulating.specs.TabulatesLaws.{OneResult, tabulates_once}
 use Rattle.making.specs.Answer.{not_made, making}
 use Rattle.making.specs.Promise.{
@@ -23,9 +22,13 @@ use Rattle.making.specs.Promise.{
 use Rattle.making.specs.declared.numbers.MadeNumbers.{MadeNumbers}
 
 -- the numbers of an answer for the tree
-abbrev numbers_for : Tabulated → MadeNumbers
-numbers_for (Is-made states entries) = making states entries
-numbers_for DoesNotFit = not_made 0
+abbrev numbers_for : Option Made → MadeNumbers
+numbers_for (Some it) = making it.states it.entries
+numbers_for None = not_made 0
+
+-- a table of so many states and entries
+abbrev made_of : (states entries : ℕ) → Option Made
+made_of states entries = Some (record { states = states; entries = entries })
 
 -- the same numbers, table and room
 pub record SameMaking (m n : MadeNumbers) (a b c d : List ℕ) : Type 0 where
@@ -51,7 +54,7 @@ module _ {list classes : List ℕ} where
 
   module _ {a b c d : List ℕ} where
     -- two answers for the list's tree
-    one_answer : (r s : Tabulated) {P Q : Tree Leaf → Type 0} → OfGoodClassed list classes P
+    one_answer : (r s : Option Made) {P Q : Tree Leaf → Type 0} → OfGoodClassed list classes P
         → OfGoodClassed list classes Q
         → ((t : Tree Leaf) → P t → Q t → OneResult a b c d r s) → SameMaking (numbers_for r) (numbers_for s) a b c d
     one_answer r s {P} one other same =
@@ -76,14 +79,14 @@ module _ {list classes : List ℕ} where
     makes_once (made x) (refused y g h) = absurd (not_both y x)
     makes_once (unfit x) (refused y g h) = absurd (not_both y x)
     makes_once (made {states = m} {entries = n} x) (made {states = p} {entries = q} y) =
-        one_answer (Is-made m n) (Is-made p q) x y
-        (λ t u v. tabulates_once (Is-made m n) (Is-made p q) (table_made u) (table_made v))
+        one_answer (made_of m n) (made_of p q) x y
+        (λ t u v. tabulates_once (made_of m n) (made_of p q) (table_made u) (table_made v))
     makes_once (made {states = m} {entries = n} x) (unfit y) =
-        one_answer (Is-made m n) DoesNotFit x y
-        (λ t u v. tabulates_once (Is-made m n) DoesNotFit (table_made u) (does_not_fit v))
+        one_answer (made_of m n) None x y
+        (λ t u v. tabulates_once (made_of m n) None (table_made u) (does_not_fit v))
     makes_once (unfit x) (made {states = p} {entries = q} y) =
-        one_answer DoesNotFit (Is-made p q) x y
-        (λ t u v. tabulates_once DoesNotFit (Is-made p q) (does_not_fit u) (table_made v))
+        one_answer None (made_of p q) x y
+        (λ t u v. tabulates_once None (made_of p q) (does_not_fit u) (table_made v))
     makes_once (unfit x) (unfit y) =
-        one_answer DoesNotFit DoesNotFit x y
-        (λ t u v. tabulates_once DoesNotFit DoesNotFit (does_not_fit u) (does_not_fit v))
+        one_answer None None x y
+        (λ t u v. tabulates_once None None (does_not_fit u) (does_not_fit v))

@@ -2,11 +2,11 @@
 ghost use Rattle.std.specs.Prelude.{◌≡◌};
 ghost use Rattle.making.specs.Answer.{made_numbers};
 
-use crate::MakingAnswer;
-use tree::refusal_numbers::{CLASS_BUFFER_TOO_SHORT, LIST_NOT_GOOD};
+use tabulating::Made;
+use tree::refusal::Refusal;
 
 // The refusal's number, 0 for none; whether the table was made; how many states and entries it has.
-#[derive(Drop)]
+#[derive(Clone, Copy, Debug, PartialEq, Eq)]
 pub struct MadeNumbers {
     pub refusal: u8,
     pub made: bool,
@@ -15,19 +15,18 @@ pub struct MadeNumbers {
 }
 
 // The numbers of an answer.
-pub fn numbers_of(answer: MakingAnswer) -> MadeNumbers
+pub fn numbers_of(answer: Result<Option<Made>, Refusal>) -> MadeNumbers
     ensures { result ≡ made_numbers answer }
 {
     match answer {
-        MakingAnswer::Made { states, entries } => MadeNumbers {
+        Ok(Some(made)) => MadeNumbers {
             refusal: 0,
             made: true,
-            states,
-            entries,
+            states: made.states,
+            entries: made.entries,
         },
-        MakingAnswer::DoesNotFit => not_made(0),
-        MakingAnswer::NotGood => not_made(LIST_NOT_GOOD),
-        MakingAnswer::TooFewClasses => not_made(CLASS_BUFFER_TOO_SHORT),
+        Ok(None) => not_made(0),
+        Err(refusal) => not_made(refusal.number()),
     }
 }
 
