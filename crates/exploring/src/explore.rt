@@ -2,7 +2,6 @@
 ghost use Rattle.std.specs.Prelude.{ℕ, ◌+◌, ◌*◌, ◌≤◌, ◌<◌, ◌≡◌, List, length, take};
 ghost use Rattle.language.specs.Tree.{Tree};
 ghost use Rattle.tree.specs.Leaf.{Leaf};
-ghost use Rattle.tree.specs.Limits.{most_pieces};
 ghost use Rattle.tree.specs.Pieces.{cut_up};
 ghost use Rattle.tables.specs.Words.{Clean};
 ghost use Rattle.tables.specs.Tables.{Prepared, Ready, Holding};
@@ -11,6 +10,7 @@ ghost use Rattle.exploring.specs.Room.{marks_of, StatesNumbered, Exploration};
 ghost use Rattle.exploring.specs.FindingStates.{Leading, Progress};
 
 use crate::keys::note_keys;
+use crate::layout::Layout;
 use crate::room::{enter, find, keep};
 use stepping::inner::{advance, begin, copy};
 use tree::limits::MOST_PIECES;
@@ -19,55 +19,52 @@ use tree::limits::MOST_PIECES;
 // number is the next. Leaves the marks of where it leads in the words.
 fn entry_of(
     rows: &[u64],
-    count: usize,
     classes: &[u8],
-    masks: &[u64],
+    layout: &Layout,
     room: &[u64],
-    most: usize,
     states: usize,
     state: usize,
     byte: u8,
-    words: &mut [u64],
+    words: &mut [u64; MOST_PIECES],
 ) -> usize
-    requires ready { Ready rows.now count }
-    requires state_lt_states { (state < states) × (states ≤ most) × (most + count * most ≤ length room.now)
-        × (count ≤ length masks.now) × (length words.old ≡ most_pieces) }
-    requires clean { (t : Tree Leaf) → Prepared t rows.now count
-        → Clean (cut_up t) (marks_of count most room.now state) }
-    ensures { (t : Tree Leaf) (w : List ℕ) → Prepared t rows.now count
-        → Holding classes.now t w (marks_of count most room.now state)
-        → Leading classes.now t w byte masks.now count most states room.now
+    requires ready { Ready rows.now layout.now.count }
+    requires state_lt_states { (state < states) × (states ≤ layout.now.most)
+        × (layout.now.most + layout.now.count * layout.now.most ≤ length room.now) }
+    requires clean { (t : Tree Leaf) → Prepared t rows.now layout.now.count
+        → Clean (cut_up t) (marks_of layout.now.count layout.now.most room.now state) }
+    ensures { (t : Tree Leaf) (w : List ℕ) → Prepared t rows.now layout.now.count
+        → Holding classes.now t w (marks_of layout.now.count layout.now.most room.now state)
+        → Leading classes.now t w byte layout.now.masks layout.now.count layout.now.most states room.now
         words.new result }
 {
-    let at = most + count * state;
-    copy(&room[at..at + count], count, words);
-    let told = advance(rows, count, classes, words, byte);
+    let at = layout.most + layout.count * state;
+    copy(&room[at..at + layout.count], layout.count, words);
+    let told = advance(rows, layout.count, classes, words, byte);
     if told.nothing {
         return 0;
     }
-    1 + find(room, most, states, words, masks, count)
+    1 + find(room, layout, states, words)
 }
 
 // Goes on from the state of the empty text, which is kept. Answers how many states there are, or that there is no room
 // for all.
 fn explore_on(
     rows: &[u64],
-    count: usize,
     classes: &[u8],
-    masks: &[u64],
+    layout: &Layout,
     firsts: &[u8],
     columns: usize,
-    most: usize,
     room: &mut [u64],
 ) -> Option<usize>
-    requires ready { Ready rows.now count }
-    requires le_columns { (1 ≤ columns) × (columns ≤ length firsts.now) × (1 ≤ most)
-        × ((1 + count + columns) * most ≤ length room.old) × (count ≤ length masks.now) }
-    requires keys { Keys rows.now count masks.now × StatesNumbered masks.now count most 1 room.old }
-    requires progress { (t : Tree Leaf) → Prepared t rows.now count
-        → Progress classes.now t (take columns firsts.now) count most room.old 1 0 }
-    ensures { (t : Tree Leaf) → Prepared t rows.now count
-        → Exploration classes.now t (take columns firsts.now) count most room.new result }
+    requires ready { Ready rows.now layout.now.count }
+    requires le_columns { (1 ≤ columns) × (columns ≤ length firsts.now) × (1 ≤ layout.now.most)
+        × ((1 + layout.now.count + columns) * layout.now.most ≤ length room.old) }
+    requires keys { Keys rows.now layout.now.count layout.now.masks
+        × StatesNumbered layout.now.masks layout.now.count layout.now.most 1 room.old }
+    requires progress { (t : Tree Leaf) → Prepared t rows.now layout.now.count
+        → Progress classes.now t (take columns firsts.now) layout.now.count layout.now.most room.old 1 0 }
+    ensures { (t : Tree Leaf) → Prepared t rows.now layout.now.count
+        → Exploration classes.now t (take columns firsts.now) layout.now.count layout.now.most room.new result }
 {
     let mut words = [0u64; MOST_PIECES];
     let mut states = 1;
@@ -76,13 +73,11 @@ fn explore_on(
     while p < states * columns {
         let state = p / columns;
         let byte = firsts[p % columns];
-        let entry = entry_of(
-            rows, count, classes, masks, room, most, states, state, byte, &mut words,
-        );
-        if entry > most {
+        let entry = entry_of(rows, classes, layout, room, states, state, byte, &mut words);
+        if entry > layout.most {
             return None;
         }
-        states = enter(room, most, states, p, entry, &words, masks, count);
+        states = enter(room, layout, states, p, entry, &words);
         p += 1;
     }
     Some(states)
@@ -106,10 +101,14 @@ pub fn explore(
     ensures { (t : Tree Leaf) → Prepared t rows.now count
         → Exploration classes.now t (take columns firsts.now) count most room.new result }
 {
-    let mut masks = [0u64; MOST_PIECES];
-    note_keys(rows, count, &mut masks);
+    let mut layout = Layout {
+        masks: [0; MOST_PIECES],
+        count,
+        most,
+    };
+    note_keys(rows, count, &mut layout.masks);
     let mut words = [0u64; MOST_PIECES];
     begin(rows, count, &mut words);
-    keep(room, most, 0, &words, &masks, count);
-    explore_on(rows, count, classes, &masks, firsts, columns, most, room)
+    keep(room, &layout, 0, &words);
+    explore_on(rows, classes, &layout, firsts, columns, room)
 }

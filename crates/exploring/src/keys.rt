@@ -1,10 +1,9 @@
 // What of a state's marks counts: the starts of leaves, and the root's accepting state.
-ghost use Rattle.std.specs.Prelude.{◌≤◌, ◌<◌, ◌≡◌, length};
+ghost use Rattle.std.specs.Prelude.{◌≤◌, ◌<◌, length};
 ghost use Rattle.tables.specs.Words.{word_bits};
 ghost use Rattle.tables.specs.Plan.{top_of};
 ghost use Rattle.tables.specs.Tables.{Roomy};
-ghost use Rattle.closing.specs.BitsOfWords.Bits.{Tells};
-ghost use Rattle.exploring.specs.Keys.{Keys, SameUnder, number_under};
+ghost use Rattle.exploring.specs.Keys.{Keys};
 
 use closing::bits::with_bit;
 use tables::ROW_WORDS;
@@ -22,25 +21,4 @@ pub fn note_keys(rows: &[u64], count: usize, masks: &mut [u64])
     let top = top_of(rows, 0);
     let leaves = masks[0];
     masks[0] = with_bit(leaves, top);
-}
-
-// The number by which words are found again: where words agree under the masks, their numbers do.
-pub fn number_of(words: &[u64], masks: &[u64], count: usize) -> u64
-    requires { (count ≤ length words.now) × (count ≤ length masks.now) }
-    ensures { result ≡ number_under masks.now words.now count }
-{
-    let mut number: u64 = 0;
-    for k in 0..count {
-        let joined = number ^ (words[k] & masks[k]);
-        number = joined ^ (joined << 13) ^ (joined >> 7);
-    }
-    number
-}
-
-// Whether two runs of words agree under the masks.
-pub fn same_under(kept: &[u64], words: &[u64], masks: &[u64], count: usize) -> bool
-    requires { (count ≤ length kept.now) × (count ≤ length words.now) × (count ≤ length masks.now) }
-    ensures { Tells (SameUnder masks.now count kept.now words.now) result }
-{
-    (0..count).all(|k| kept[k] & masks[k] == words[k] & masks[k])
 }

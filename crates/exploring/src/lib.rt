@@ -3,4 +3,5 @@
 
 pub mod explore;
 mod keys;
+mod layout;
 mod room;

@@ -1,9 +1,7 @@
 -- `exploring::explore::entry_of` meets its contract: the marks of the state are copied out and moved along the byte;
 -- where something is left, it is sought among the states.
-use mathlib.Core.Path.{sym, ◌∙◌}
-use mathlib.Core.Bool.{false≢true}
-use native.Mathlib.Omega.{arith}
-use lib.ListN.{drop}
+use Rattle.std.proofs.Common.{arith, sym, ◌∙◌, drop}
+use Rattle.std.proofs.lemmas.Bool.{false≢true}
 use Rattle.stepping.specs.Inner.{running, holding_marks, answered_next}
 use Rattle.exploring.specs.Leads.{copied_clean, copied_holding, leads_nowhere, leads_on_to}
 use Rattle.exploring.proofs.explore.entry_of.Goals as goal
@@ -12,8 +10,8 @@ pub advance-told-requires : goal.advance-told-requires
 advance-told-requires c =
     let a = c.args in
     let pre = c.requires in
-    running pre.ready (c.copy.auto.to ∙ pre.state_lt_states.4)
-    (λ t prepared. copied_clean prepared (drop a.count a.words.now) a.most a.room.now a.state
+    running pre.ready (omega arith)
+    (λ t prepared. copied_clean prepared (drop a.layout.now.count a.words.now) a.layout.now.most a.room.now a.state
     (omega (arith, pre.state_lt_states.0, pre.state_lt_states.1)) pre.state_lt_states.2 c.copy.ensures (pre.clean t prepared))
 
 pub returns-then-told : goal.returns-then-told
@@ -21,7 +19,7 @@ returns-then-told c =
     λ t w prepared holding.
     let a = c.args in
     let pre = c.requires in
-    let held = copied_holding prepared (drop a.count a.words.now) a.most a.room.now a.state
+    let held = copied_holding prepared (drop a.layout.now.count a.words.now) a.layout.now.most a.room.now a.state
     (omega (arith, pre.state_lt_states.0, pre.state_lt_states.1)) pre.state_lt_states.2 c.copy.ensures holding in
     let stepped = c.advance-told.ensures t prepared (holding_marks held) in
     leads_nowhere (answered_next held stepped).holding _ _ _ _ _ (stepped.left.0 c.if-told.true)
@@ -31,7 +29,7 @@ returns c =
     λ t w prepared holding.
     let a = c.args in
     let pre = c.requires in
-    let held = copied_holding prepared (drop a.count a.words.now) a.most a.room.now a.state
+    let held = copied_holding prepared (drop a.layout.now.count a.words.now) a.layout.now.most a.room.now a.state
     (omega (arith, pre.state_lt_states.0, pre.state_lt_states.1)) pre.state_lt_states.2 c.copy.ensures holding in
     let stepped = c.advance-told.ensures t prepared (holding_marks held) in
     leads_on_to (answered_next held stepped).holding

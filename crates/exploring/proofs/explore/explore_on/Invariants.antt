@@ -11,11 +11,11 @@ use Rattle.exploring.proofs.explore.explore_on.Given as goal
 
 abbrev pub invariant-loop-p : goal.invariant-loop-p
 invariant-loop-p l =
-    Exploring l.rows l.count l.masks l.firsts l.columns l.most l.room l.words l.states l.p
+    Exploring l.rows l.layout.count l.layout.masks l.firsts l.columns l.layout.most l.room l.words l.states l.p
     × (length l.room ≡ length l.initial.room)
-    × ((t : Tree Leaf) → Prepared t l.rows l.count
-    → Progress l.classes t (take l.columns l.firsts) l.count l.most l.room l.states l.p)
+    × ((t : Tree Leaf) → Prepared t l.rows l.layout.count
+    → Progress l.classes t (take l.columns l.firsts) l.layout.count l.layout.most l.room l.states l.p)
 
 abbrev pub decreases-loop-p : goal.decreases-loop-p
 decreases-loop-p l =
-    l.columns * l.most - l.p
+    l.columns * l.layout.most - l.p

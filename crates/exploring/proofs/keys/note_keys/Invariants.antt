@@ -1,5 +1,4 @@
--- `exploring::keys::note_keys` meets its contract: the masks of the leaves of the first k pieces are noted. The measure
--- is how many are left.
+-- `exploring::keys::note_keys` meets its contract: the masks of the leaves of the first k pieces are noted.
 use Prim.Native.Nat.{◌≤◌}
 use mathlib.Core.Path.{◌≡◌}
 use Rattle.tables.specs.Plan.{leaves_mask}

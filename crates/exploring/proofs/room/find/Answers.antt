@@ -1,5 +1,4 @@
--- `exploring::room::find` meets its contract: none of the first i states has the number and agrees. The measure is how
--- many states are left.
+-- `exploring::room::find` meets its contract: none of the first i states has the number and agrees.
 use Rattle.exploring.specs.RoomLaws.{sought_none}
 use Rattle.exploring.proofs.room.find.Goals as goal
 

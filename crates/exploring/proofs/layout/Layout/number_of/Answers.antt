@@ -1,10 +1,9 @@
--- `exploring::keys::number_of` meets its contract: the number is that of the first k words. The measure is how many are
--- left.
+-- `exploring::layout::Layout::number_of` meets its contract: the number is that of the first k words.
 use mathlib.Core.Path.{sym}
 use native.Mathlib.Omega.{arith}
 use borrow.Author.Rules.{rules}
 use Rattle.exploring.specs.KeysLaws.{number_none, number_next}
-use Rattle.exploring.proofs.keys.number_of.Goals as goal
+use Rattle.exploring.proofs.layout.Layout.number_of.Goals as goal
 
 pub loop-k-init : goal.loop-k-init
 loop-k-init c =
