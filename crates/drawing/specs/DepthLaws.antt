@@ -1,21 +1,19 @@
 -- The level of a record and the table after it told its children, by the tests that the code makes.
-use Rattle.std.specs.Prelude.{ℕ, ◌+◌, ◌≤◌, ◌<◌, ◌≡◌, List, get_or, set, replicate}
+use Rattle.std.specs.Prelude.{ℕ, ◌+◌, ◌≤◌, ◌≡◌, Bool, true, false, cond, ltb, List, get_or, set, replicate}
 use Rattle.std.proofs.Math.Path.{refl}
-use Rattle.std.proofs.Common.{ap, ◌∙◌, lt-ltb, le-ltb, eq-eqb, ne_eqb}
+use Rattle.std.proofs.Common.{ap, ◌∙◌, arith, ltb-false, eq-eqb, ne_eqb}
 use Rattle.tree.specs.Layout.{class_kind, kind_at, left_at, right_at}
 use Rattle.tree.specs.Limits.{most_records}
 use Rattle.record_line.specs.Depth.{most_level, untold, level, told_children}
 
-module _ (table : List ℕ) (i : ℕ) where
-  -- a record that lies deeper than is drawn
-  pub level_deep : most_level < get_or table i 0 → most_level ≡ level table i
-  unfolding level
-  level_deep h = rw (lt-ltb most_level (get_or table i 0) h) refl
-
-  -- another one
-  pub level_plain : get_or table i 0 ≤ most_level → get_or table i 0 ≡ level table i
-  unfolding level
-  level_plain h = rw (le-ltb most_level (get_or table i 0) h) refl
+-- no record is drawn deeper than that
+pub level_low : (table : List ℕ) (i : ℕ) → level table i ≤ most_level
+unfolding level
+level_low table i = go (ltb most_level (get_or table i 0)) refl
+  where
+    go : (deep : Bool) → ltb most_level (get_or table i 0) ≡ deep → cond deep most_level (get_or table i 0) ≤ most_level
+    go true e = omega arith
+    go false e = ltb-false most_level (get_or table i 0) e
 
 module _ (list table : List ℕ) (i depth : ℕ) where
   -- a class tells nothing

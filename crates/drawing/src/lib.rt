@@ -4,67 +4,60 @@
 pub mod depth;
 pub mod marks;
 
-ghost use Rattle.std.specs.Prelude.{◌+◌, ◌*◌, ◌≤◌, ◌≡◌, length};
+ghost use Rattle.std.specs.Prelude.{◌*◌, ◌≤◌, ◌≡◌, length};
 ghost use Rattle.tree.specs.Layout.{record_size};
 ghost use Rattle.tree.specs.Limits.{longest_expression, most_records};
-ghost use Rattle.printing.specs.Printing.{Prints};
-ghost use Rattle.record_line.specs.Node.{most_line};
+ghost use Rattle.printing.specs.Printer.{HasRoom, Puts};
 ghost use Rattle.drawing.specs.Drawing.{gap, record_lines, drawing, most_drawn};
 
 use depth::{level, tell_children};
 use marks::put_marks;
-use printing::print::put;
+use printing::print::Printer;
 use record_line::line::put_line;
 use showing::bytes::put_shown;
 use tree::layout::piece_at;
 use tree::limits::MOST_RECORDS;
 
 // Prints an empty line where a piece is not that of the line above.
-fn put_gap(out: &mut [u8], at: usize, above: usize, piece: usize) -> usize
-    requires { at + 1 ≤ length out.old }
-    ensures { Prints out.old at (gap above piece) out.new result }
+fn put_gap(printer: &mut Printer, above: usize, piece: usize)
+    requires { HasRoom printer.old (length (gap above piece)) }
+    ensures { Puts printer.old (gap above piece) printer.new }
 {
-    if above == piece {
-        return at;
+    if above != piece {
+        printer.put(b"\n");
     }
-    put(out, at, b"\n")
 }
 
 // Prints a line for each record, the root's first, with an empty line between two of different pieces.
-fn put_records(out: &mut [u8], at: usize, list: &[u8], records: usize) -> usize
+fn put_records(printer: &mut Printer, list: &[u8], records: usize)
     requires few { records ≤ most_records }
     requires long { length list.now ≡ record_size * records }
-    requires room { at + most_line * records ≤ length out.old }
-    ensures { Prints out.old at (record_lines list.now records) out.new result }
+    requires room { HasRoom printer.old (length (record_lines list.now records)) }
+    ensures { Puts printer.old (record_lines list.now records) printer.new }
 {
     let mut table = [0usize; MOST_RECORDS];
-    let mut next = at;
     let mut above = 0;
-    let mut i = records;
-    while i > 0 {
-        i -= 1;
+    for i in (0..records).rev() {
         let piece = piece_at(list, i);
-        next = put_gap(out, next, above, piece);
+        put_gap(printer, above, piece);
         let depth = level(&table, i);
-        next = put_line(out, next, list, i, depth);
+        put_line(printer, list, i, depth);
         tell_children(&mut table, list, i, depth);
         above = piece;
     }
-    next
 }
 
 // Prints the rule, its marks and its records.
-pub fn draw(out: &mut [u8], at: usize, rule: &[u8], list: &[u8], records: usize) -> usize
+pub fn draw(printer: &mut Printer, rule: &[u8], list: &[u8], records: usize)
     requires few { records ≤ most_records }
     requires long { length list.now ≡ record_size * records }
     requires short { length rule.now ≤ longest_expression }
-    requires room { at + most_drawn ≤ length out.old }
-    ensures { Prints out.old at (drawing rule.now list.now records)
-        out.new result }
+    requires room { HasRoom printer.old most_drawn }
+    ensures { Puts printer.old (drawing rule.now list.now records) printer.new }
 {
-    let after_rule = put_shown(out, at, rule);
-    let after_end = put(out, after_rule, b"\n");
-    let after_marks = put_marks(out, after_end, rule, list, records);
-    let after_head = put(out, after_marks, b"\n\nrecord piece  place  node\n");
-    put_records(out, after_head, list, records)
+    put_shown(printer, rule);
+    printer.put(b"\n");
+    put_marks(printer, rule, list, records);
+    printer.put(b"\n\nrecord piece  place  node\n");
+    put_records(printer, list, records);
 }

@@ -1,25 +1,24 @@
 // The marks under the places that made a node.
-ghost use Rattle.std.specs.Prelude.{◌+◌, ◌*◌, ◌≤◌, ◌<◌, ◌≡◌, length, get_or};
+ghost use Rattle.std.specs.Prelude.{◌*◌, ◌≤◌, ◌≡◌, length};
 ghost use Rattle.tree.specs.Layout.{record_size};
-ghost use Rattle.printing.specs.Printing.{Prints};
+ghost use Rattle.printing.specs.Printer.{HasRoom, Puts};
 ghost use Rattle.drawing.specs.Marks.{placed, mark, mark_at, marks};
 
+use printing::print::Printer;
 use showing::bytes::{put_spaces, shown_width};
 use tree::layout::place_at;
 
 // The byte of a mark, and the one where there is none.
-const MARK: u8 = 94;
+const MARK: u8 = b'^';
 
-const NO_MARK: u8 = 32;
+const NO_MARK: u8 = b' ';
 
 // Whether one of the first records has this place.
 fn placed(list: &[u8], records: usize, place: usize) -> bool
     requires { record_size * records ≤ length list.now }
     ensures { result ≡ placed list.now records place }
 {
-    let mut i = records;
-    while i > 0 {
-        i -= 1;
+    for i in (0..records).rev() {
         if place_at(list, i) == place {
             return true;
         }
@@ -28,38 +27,36 @@ fn placed(list: &[u8], records: usize, place: usize) -> bool
 }
 
 // The byte under a place.
+#[tactic(auto, unfolding(crate::specs::Marks::mark))]
 fn mark(list: &[u8], records: usize, place: usize) -> u8
     requires { record_size * records ≤ length list.now }
     ensures { result ≡ mark list.now records place }
 {
     if placed(list, records, place) {
-        return MARK;
+        MARK
+    } else {
+        NO_MARK
     }
-    NO_MARK
 }
 
 // Prints the mark under a byte of the rule, as wide as that byte is shown.
-fn put_mark(out: &mut [u8], at: usize, byte: u8, marked: u8) -> usize
-    requires { at + 4 ≤ length out.old }
-    ensures { Prints out.old at (mark_at marked byte) out.new result }
+#[tactic(auto, unfolding(crate::specs::Marks::mark_at))]
+fn put_mark(printer: &mut Printer, byte: u8, marked: u8)
+    requires { HasRoom printer.old (length (mark_at marked byte)) }
+    ensures { Puts printer.old (mark_at marked byte) printer.new }
 {
-    let columns = shown_width(byte);
-    out[at] = marked;
-    put_spaces(out, at + 1, columns - 1)
+    printer.put(&[marked]);
+    put_spaces(printer, shown_width(byte) - 1);
 }
 
 // Prints the marks under a rule.
-pub fn put_marks(out: &mut [u8], at: usize, rule: &[u8], list: &[u8], records: usize) -> usize
+pub fn put_marks(printer: &mut Printer, rule: &[u8], list: &[u8], records: usize)
     requires inside { record_size * records ≤ length list.now }
-    requires room { at + 4 * length rule.now ≤ length out.old }
-    ensures { Prints out.old at
-        (marks rule.now list.now records (length rule.now)) out.new result }
+    requires room { HasRoom printer.old
+        (length (marks rule.now list.now records (length rule.now))) }
+    ensures { Puts printer.old (marks rule.now list.now records (length rule.now)) printer.new }
 {
-    let mut next = at;
-    let mut i = 0;
-    while i < rule.len() {
-        next = put_mark(out, next, rule[i], mark(list, records, i));
-        i += 1;
+    for (i, byte) in rule.iter().enumerate() {
+        put_mark(printer, *byte, mark(list, records, i));
     }
-    next
 }

@@ -5,5 +5,7 @@ pub mod Digits
 pub mod ReportLines
 -- how the code comes to its answer
 pub mod DigitLaws
+pub mod Printer
 pub mod Printing
 pub mod PrintingLaws
+pub mod PrinterLaws

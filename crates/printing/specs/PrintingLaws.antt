@@ -71,18 +71,6 @@ prints_byte before at byte h = record {
   written = set_split before at byte h ∙ sym (append_snoc (take at before) byte (drop (suc at) before)) ∙ rw add-one;
 }
 
--- bytes copied one by one, up to the last
-pub prints_copied : (before : List ℕ) (at : ℕ) (bytes after : List ℕ) (i : ℕ) → at + length bytes ≤ length before
-    → i ≡ length bytes → length after ≡ length before → after ≡ paste before at bytes i
-    → Prints before at bytes after (at + length bytes)
-unfolding printed
-prints_copied before at bytes after i within whole kept copied = record {
-  within = within;
-  next_place = refl;
-  kept_length = kept;
-  written = copied ∙ rw (whole, take-length);
-}
-
 module _ (before : List ℕ) (at n : ℕ) (room : at + length (digits n) ≤ length before) where
   -- a number below 10 is printed as its digit
   pub prints_small : {after : List ℕ} {next : ℕ} → n < 10 → Prints before at (digit n ∷ []) after next

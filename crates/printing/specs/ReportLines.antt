@@ -14,6 +14,10 @@ total_line count yes_lines =
     bytes "total " ++ digits count ++ bytes " yes " ++ digits yes_lines ++ bytes " no " ++ digits (count - yes_lines)
     ++ bytes "\n"
 
+-- a refusal: its number, and its place
+abbrev pub refused_at : (number place : ℕ) → List ℕ
+refused_at number place = bytes "refused " ++ digits number ++ bytes " at " ++ digits place
+
 -- the only line for an expression that is refused
 abbrev pub refusal_line : (number place : ℕ) → List ℕ
 refusal_line number place = bytes "refused " ++ digits number ++ bytes " at " ++ digits place ++ bytes "\n"

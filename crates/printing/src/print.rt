@@ -1,39 +1,42 @@
 // Bytes and numbers printed into a buffer, one after the other.
-ghost use Rattle.std.specs.Prelude.{◌+◌, ◌≤◌, ◌<◌, [], ◌∷◌, length};
-ghost use Rattle.printing.specs.Digits.{digit, digits};
-ghost use Rattle.printing.specs.Printing.{Prints};
+ghost use Rattle.std.specs.Prelude.{◌≡◌, length};
+ghost use Rattle.printing.specs.Digits.{digits};
+ghost use Rattle.printing.specs.Printer.{HasRoom, Puts};
 
-// Prints bytes at a place, and answers the place after them.
-pub fn put(out: &mut [u8], at: usize, bytes: &[u8]) -> usize
-    requires { at + length bytes.now ≤ length out.old }
-    ensures { Prints out.old at bytes.now out.new result }
-{
-    let mut i = 0;
-    while i < bytes.len() {
-        out[at + i] = bytes[i];
-        i += 1;
-    }
-    at + bytes.len()
+// A buffer, and the place in it up to which it is printed.
+#[derive(Drop)]
+pub struct Printer<'a> {
+    pub out: &'a mut [u8],
+    pub at: usize,
 }
 
-// Prints one digit at a place, and answers the place after it.
-fn put_digit(out: &mut [u8], at: usize, d: usize) -> usize
-    requires small { d < 10 }
-    requires room { at < length out.old }
-    ensures { Prints out.old at (digit d ∷ []) out.new result }
-{
-    out[at] = 48 + d as u8;
-    at + 1
-}
-
-// Prints a number in decimal digits, those of its tenth before its last, and answers the place after them.
-pub fn put_number(out: &mut [u8], at: usize, n: usize) -> usize
-    requires { at + length (digits n) ≤ length out.old }
-    ensures { Prints out.old at (digits n) out.new result }
-{
-    if n < 10 {
-        return put_digit(out, at, n);
+impl<'a> Printer<'a> {
+    // A printer that has printed nothing yet.
+    pub fn new(out: &'a mut [u8]) -> Printer<'a>
+        ensures same_buffer { result.out.ghost_name ≡ out.entry.ghost_name }
+        ensures front { (result.out.now ≡ out.old) × (result.at ≡ 0) }
+    {
+        Printer { out, at: 0 }
     }
-    let last = put_number(out, at, n / 10);
-    put_digit(out, last, n % 10)
+
+    // Prints bytes.
+    pub fn put(&mut self, bytes: &[u8])
+        requires { HasRoom self.old (length bytes.now) }
+        ensures { Puts self.old bytes.now self.new }
+    {
+        let end = self.at + bytes.len();
+        self.out[self.at..end].copy_from_slice(bytes);
+        self.at = end;
+    }
+
+    // Prints a number in decimal digits, those of its tenth before its last.
+    pub fn put_number(&mut self, n: usize)
+        requires { HasRoom self.old (length (digits n)) }
+        ensures { Puts self.old (digits n) self.new }
+    {
+        if n >= 10 {
+            self.put_number(n / 10);
+        }
+        self.put(&[b'0' + (n % 10) as u8]);
+    }
 }

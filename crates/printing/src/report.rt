@@ -1,47 +1,71 @@
-// The lines of the output, each printed at a place.
-ghost use Rattle.std.specs.Prelude.{◌+◌, ◌≤◌, length};
-ghost use Rattle.printing.specs.ReportLines.{text_line, total_line, refusal_line};
+// The lines of the output.
+ghost use Rattle.std.specs.Prelude.{◌≤◌, length};
+ghost use Rattle.tree.specs.Refusing.{refusal_number};
+ghost use Rattle.printing.specs.ReportLines.{text_line, total_line, refused_at, refusal_line, too_long_line};
 ghost use Rattle.printing.specs.Printing.{Prints};
+ghost use Rattle.printing.specs.Printer.{HasRoom, Puts};
 
-use crate::print::{put, put_number};
+use crate::print::Printer;
+use tree::refusal::Refused;
 
 // Prints the line of a text: its number, `yes` and its rank, or `no`.
-pub fn text_line(out: &mut [u8], at: usize, yes: bool, number: usize, rank: usize) -> usize
-    requires { at + length (text_line yes number rank) ≤ length out.old }
-    ensures { Prints out.old at (text_line yes number rank) out.new result }
+pub fn text_line(printer: &mut Printer, yes: bool, number: usize, rank: usize)
+    requires { HasRoom printer.old (length (text_line yes number rank)) }
+    ensures { Puts printer.old (text_line yes number rank) printer.new }
 {
-    let after_number = put_number(out, at, number);
+    printer.put_number(number);
     if yes {
-        let after_yes = put(out, after_number, b" yes ");
-        let after_rank = put_number(out, after_yes, rank);
-        return put(out, after_rank, b"\n");
+        printer.put(b" yes ");
+        printer.put_number(rank);
+        printer.put(b"\n");
+    } else {
+        printer.put(b" no -\n");
     }
-    put(out, after_number, b" no -\n")
+}
+
+// Prints a refusal: its number, and its place.
+pub fn put_refused(printer: &mut Printer, refused: Refused)
+    requires { HasRoom printer.old
+        (length (refused_at (refusal_number refused.refusal) refused.place)) }
+    ensures { Puts printer.old (refused_at (refusal_number refused.refusal) refused.place) printer.new }
+{
+    printer.put(b"refused ");
+    printer.put_number(usize::from(refused.refusal.number()));
+    printer.put(b" at ");
+    printer.put_number(refused.place);
 }
 
 // Prints the only line for an expression that is refused.
-pub fn refusal_line(out: &mut [u8], at: usize, number: u8, place: usize) -> usize
-    requires { at + length (refusal_line number place) ≤ length out.old }
-    ensures { Prints out.old at (refusal_line number place) out.new result }
+pub fn refusal_line(printer: &mut Printer, refused: Refused)
+    requires { HasRoom printer.old
+        (length (refusal_line (refusal_number refused.refusal) refused.place)) }
+    ensures { Puts printer.old (refusal_line (refusal_number refused.refusal) refused.place) printer.new }
 {
-    let after_refused = put(out, at, b"refused ");
-    let after_number = put_number(out, after_refused, number as usize);
-    let after_at = put(out, after_number, b" at ");
-    let after_place = put_number(out, after_at, place);
-    put(out, after_place, b"\n")
+    put_refused(printer, refused);
+    printer.put(b"\n");
 }
 
 // Prints the last line: how many texts, yes lines and no lines.
-pub fn total_line(out: &mut [u8], at: usize, count: usize, yes: usize) -> usize
+pub fn total_line(printer: &mut Printer, count: usize, yes: usize)
     requires ordered { yes ≤ count }
-    requires room { at + length (total_line count yes) ≤ length out.old }
-    ensures { Prints out.old at (total_line count yes) out.new result }
+    requires room { HasRoom printer.old (length (total_line count yes)) }
+    ensures { Puts printer.old (total_line count yes) printer.new }
 {
-    let after_total = put(out, at, b"total ");
-    let after_count = put_number(out, after_total, count);
-    let after_yes = put(out, after_count, b" yes ");
-    let after_yes_count = put_number(out, after_yes, yes);
-    let after_no = put(out, after_yes_count, b" no ");
-    let after_no_count = put_number(out, after_no, count - yes);
-    put(out, after_no_count, b"\n")
+    printer.put(b"total ");
+    printer.put_number(count);
+    printer.put(b" yes ");
+    printer.put_number(yes);
+    printer.put(b" no ");
+    printer.put_number(count - yes);
+    printer.put(b"\n");
+}
+
+// Writes the only line for an input that is too long to the front of a buffer, and answers its length.
+pub fn too_long_line(out: &mut [u8]) -> usize
+    requires { length too_long_line ≤ length out.old }
+    ensures { Prints out.old 0 too_long_line out.new result }
+{
+    let mut printer = Printer::new(out);
+    printer.put(b"input too long\n");
+    printer.at
 }

@@ -1,6 +1,6 @@
 -- How long the parts of a record's line can be.
 use Rattle.std.specs.Prelude.{ℕ, ◌+◌, ◌*◌, ◌-◌, ◌≤◌, ◌<◌, ◌≡◌, refl, Bool, true, false, cond, List, [], ◌∷◌, length, get_or, ltb}
-use Rattle.std.proofs.Common.{ap, arith, length-append}
+use Rattle.std.proofs.Common.{ap, arith, length-append, le-ltb}
 use Rattle.tree.specs.Layout.{number_at, kind_at, character_at, left_at, right_at, piece_at, place_at}
 use Rattle.tree.specs.Limits.{most_records}
 use Rattle.operands.specs.Text.{bytes}
@@ -23,6 +23,13 @@ use Rattle.record_line.specs.Node.{
   record_line,
   most_line,
 }
+
+-- a record of a kind past a class holds nothing
+pub holds_nothing : (list : List ℕ) (i : ℕ) → 6 ≤ kind_at list i → holds list i ≡ []
+unfolding holds
+holds_nothing list i k =
+    rw (le-ltb (kind_at list i) 2 (omega arith), le-ltb (kind_at list i) 4 (omega arith), le-ltb (kind_at list i) 6 k)
+    refl
 
 -- each element of a list is a byte
 abbrev pub AllBytes : List ℕ → Type 0

@@ -1,21 +1,12 @@
 // The line of a record.
-ghost use Rattle.std.specs.Prelude.{◌+◌, ◌*◌, ◌≤◌, ◌<◌, length};
+ghost use Rattle.std.specs.Prelude.{◌+◌, ◌*◌, ◌≤◌, length};
 ghost use Rattle.tree.specs.Layout.{record_size};
-ghost use Rattle.tree.specs.Limits.{most_records};
-ghost use Rattle.printing.specs.Printing.{Prints};
+ghost use Rattle.printing.specs.Printer.{HasRoom, Puts};
 ghost use Rattle.record_line.specs.Depth.{most_level};
-ghost use Rattle.record_line.specs.Node.{
-  column,
-  column_width,
-  most_number,
-  numbers_of,
-  node_of,
-  record_line,
-  most_line,
-};
+ghost use Rattle.record_line.specs.Node.{column, numbers_of, node_of, record_line};
 
-use crate::node::{put_held, put_kind};
-use printing::print::{put, put_number};
+use crate::node::{kind_word, put_held};
+use printing::print::Printer;
 use showing::bytes::put_spaces;
 use tree::layout::{kind_at, piece_at, place_at};
 
@@ -23,47 +14,50 @@ use tree::layout::{kind_at, piece_at, place_at};
 const COLUMN: usize = 7;
 
 // Prints a number, and spaces up to the next column.
-fn put_column(out: &mut [u8], at: usize, n: usize) -> usize
-    requires small { n < most_number }
-    requires room { at + column_width ≤ length out.old }
-    ensures { Prints out.old at (column n) out.new result }
+#[tactic(auto, unfolding(crate::specs::Node::column))]
+fn put_column(printer: &mut Printer, n: usize)
+    requires { HasRoom printer.old (length (column n)) }
+    ensures { Puts printer.old (column n) printer.new }
 {
-    let after_number = put_number(out, at, n);
-    put_spaces(out, after_number, COLUMN - (after_number - at))
+    let start = printer.at;
+    printer.put_number(n);
+    let digits = printer.at - start;
+    put_spaces(printer, COLUMN.saturating_sub(digits));
 }
 
 // Prints the numbers of a record: its own, its piece and its place.
-fn put_numbers(out: &mut [u8], at: usize, list: &[u8], i: usize) -> usize
-    requires few { i < most_records }
+#[tactic(auto, unfolding(crate::specs::Node::numbers_of))]
+fn put_numbers(printer: &mut Printer, list: &[u8], i: usize)
     requires inside { record_size * i + record_size ≤ length list.now }
-    requires room { at + 3 * column_width ≤ length out.old }
-    ensures { Prints out.old at (numbers_of list.now i) out.new result }
+    requires room { HasRoom printer.old (length (numbers_of list.now i)) }
+    ensures { Puts printer.old (numbers_of list.now i) printer.new }
 {
-    let after_record = put_column(out, at, i);
-    let after_piece = put_column(out, after_record, piece_at(list, i));
-    put_column(out, after_piece, place_at(list, i))
+    put_column(printer, i);
+    put_column(printer, piece_at(list, i));
+    put_column(printer, place_at(list, i));
 }
 
 // Prints what a record is and what it holds.
-fn put_node(out: &mut [u8], at: usize, list: &[u8], i: usize) -> usize
+#[tactic(auto, unfolding(crate::specs::Node::node_of))]
+fn put_node(printer: &mut Printer, list: &[u8], i: usize)
     requires inside { record_size * i + record_size ≤ length list.now }
-    requires room { at + 30 ≤ length out.old }
-    ensures { Prints out.old at (node_of list.now i) out.new result }
+    requires room { HasRoom printer.old (length (node_of list.now i)) }
+    ensures { Puts printer.old (node_of list.now i) printer.new }
 {
-    let after_kind = put_kind(out, at, kind_at(list, i));
-    let after_held = put_held(out, after_kind, list, i);
-    put(out, after_held, b"\n")
+    printer.put(kind_word(kind_at(list, i)));
+    put_held(printer, list, i);
+    printer.put(b"\n");
 }
 
 // Prints the line of a record, its node indented by its level.
-pub fn put_line(out: &mut [u8], at: usize, list: &[u8], i: usize, level: usize) -> usize
-    requires few { i < most_records }
+#[tactic(auto, unfolding(crate::specs::Node::record_line))]
+pub fn put_line(printer: &mut Printer, list: &[u8], i: usize, level: usize)
     requires inside { record_size * i + record_size ≤ length list.now }
     requires low { level ≤ most_level }
-    requires room { at + most_line ≤ length out.old + 1 }
-    ensures { Prints out.old at (record_line list.now i level) out.new result }
+    requires room { HasRoom printer.old (length (record_line list.now i level)) }
+    ensures { Puts printer.old (record_line list.now i level) printer.new }
 {
-    let after_numbers = put_numbers(out, at, list, i);
-    let after_spaces = put_spaces(out, after_numbers, 2 * level);
-    put_node(out, after_spaces, list, i)
+    put_numbers(printer, list, i);
+    put_spaces(printer, 2 * level);
+    put_node(printer, list, i);
 }

@@ -1,63 +1,52 @@
 // What a record is, in words, and what it holds.
-ghost use Rattle.std.specs.Prelude.{◌+◌, ◌*◌, ◌≤◌, ◌<◌, length};
+ghost use Rattle.std.specs.Prelude.{◌+◌, ◌*◌, ◌≤◌, ◌≡◌, length};
 ghost use Rattle.tree.specs.Layout.{record_size};
-ghost use Rattle.printing.specs.Printing.{Prints};
-ghost use Rattle.record_line.specs.Node.{kind_word, pair, holds, most_word, most_held, most_number};
+ghost use Rattle.printing.specs.Printer.{HasRoom, Puts};
+ghost use Rattle.record_line.specs.Node.{kind_word, pair, holds};
 
-use printing::print::{put, put_number};
+use printing::print::Printer;
 use showing::bytes::put_byte;
-use tree::layout::{character_at, kind_at, left_at, right_at};
+use tree::layout::{
+    CATENATION, CHARACTER, CLASS, STAR, UNION, character_at, kind_at, left_at, right_at,
+};
 
-// Prints the word for a kind.
-pub fn put_kind(out: &mut [u8], at: usize, kind: u8) -> usize
-    requires { at + most_word ≤ length out.old }
-    ensures { Prints out.old at (kind_word kind) out.new result }
+// The word for a kind.
+#[tactic(auto, unfolding(crate::specs::Node::kind_word))]
+pub fn kind_word(kind: u8) -> &'static [u8]
+    ensures { result.now ≡ kind_word kind }
 {
-    if kind < 2 {
-        return put(out, at, b"character ");
+    match kind {
+        0..=CHARACTER => b"character ",
+        CATENATION => b"catenation of ",
+        UNION => b"union of ",
+        STAR => b"star of ",
+        CLASS => b"class ",
+        _ => b"empty text",
     }
-    if kind < 3 {
-        return put(out, at, b"catenation of ");
-    }
-    if kind < 4 {
-        return put(out, at, b"union of ");
-    }
-    if kind < 5 {
-        return put(out, at, b"star of ");
-    }
-    if kind < 6 {
-        return put(out, at, b"class ");
-    }
-    put(out, at, b"empty text")
 }
 
 // Prints the numbers of two children.
-fn put_pair(out: &mut [u8], at: usize, left: usize, right: usize) -> usize
-    requires small_left { left < most_number }
-    requires small_right { right < most_number }
-    requires room { at + most_held ≤ length out.old }
-    ensures { Prints out.old at (pair left right) out.new result }
+#[tactic(auto, unfolding(crate::specs::Node::pair))]
+fn put_pair(printer: &mut Printer, left: usize, right: usize)
+    requires { HasRoom printer.old (length (pair left right)) }
+    ensures { Puts printer.old (pair left right) printer.new }
 {
-    let after_left = put_number(out, at, left);
-    let after_and = put(out, after_left, b" and ");
-    put_number(out, after_and, right)
+    printer.put_number(left);
+    printer.put(b" and ");
+    printer.put_number(right);
 }
 
 // Prints what a record holds: a character, the numbers of its children, or that of its class.
-pub fn put_held(out: &mut [u8], at: usize, list: &[u8], i: usize) -> usize
+#[tactic(auto, unfolding(crate::specs::Node::holds))]
+pub fn put_held(printer: &mut Printer, list: &[u8], i: usize)
     requires inside { record_size * i + record_size ≤ length list.now }
-    requires room { at + most_held ≤ length out.old }
-    ensures { Prints out.old at (holds list.now i) out.new result }
+    requires room { HasRoom printer.old (length (holds list.now i)) }
+    ensures { Puts printer.old (holds list.now i) printer.new }
 {
-    let kind = kind_at(list, i);
-    if kind < 2 {
-        return put_byte(out, at, character_at(list, i));
+    match kind_at(list, i) {
+        0..=CHARACTER => put_byte(printer, character_at(list, i)),
+        CATENATION | UNION => put_pair(printer, left_at(list, i), right_at(list, i)),
+        STAR | CLASS => printer.put_number(left_at(list, i)),
+        _ => {}
     }
-    if kind < 4 {
-        return put_pair(out, at, left_at(list, i), right_at(list, i));
-    }
-    if kind < 6 {
-        return put_number(out, at, left_at(list, i));
-    }
-    at
 }

@@ -264,29 +264,6 @@ module _ (bytes : List ℕ) (place : ℕ) (inside : place ≤ length bytes) wher
       ap (λ (l : List ℕ). shown l ++ dots (ltb (cut_end bytes place) (length bytes)))
       (sym (lent_part place (cut_end bytes place) bytes cut_fits.reaches inside))
 
-  -- each fits in a line
-  pub before_room : length (dots (ltb 0 (cut_start bytes place)))
-      + length (shown (take (place - cut_start bytes place) (drop (cut_start bytes place) bytes))) ≤ most_columns
-  before_room =
-      omega (
-        arith,
-        cut_fits.narrow,
-        ap length before_lent,
-        length-append (dots (ltb 0 (cut_start bytes place)))
-            (shown (take (place - cut_start bytes place) (drop (cut_start bytes place) bytes))),
-      )
-
-  pub from_room : length (shown (take (cut_end bytes place - place) (drop place bytes)))
-      + length (dots (ltb (cut_end bytes place) (length bytes))) ≤ most_columns
-  from_room =
-      omega (
-        arith,
-        cut_fits.narrow,
-        ap length from_lent,
-        length-append (shown (take (cut_end bytes place - place) (drop place bytes)))
-            (dots (ltb (cut_end bytes place) (length bytes))),
-      )
-
 module _ (bytes : List ℕ) (place : ℕ) where
   -- the caret stands in the expression or at its end
   pub caret_inside : caret_place bytes place ≤ length bytes
@@ -305,6 +282,13 @@ module _ (bytes : List ℕ) (place : ℕ) where
       ap (marked_at bytes) (sym e)
       ∙ ap (λ (n : ℕ). before_place bytes under ++ from_place bytes under ++ letters "\n" ++ spaces n ++ letters "^\n")
       (sym f)
+
+  -- how long the two lines are
+  pub marked_parts : (under : ℕ) → under ≡ caret_place bytes place → length (marked_lines bytes place)
+      ≡ length (before_place bytes under) + length (from_place bytes under) + length (before_place bytes under) + 3
+  marked_parts under e =
+      rw (marked_is under (length (before_place bytes under)) e refl)
+      (simp (length-append, spaces_length) (omega arith))
 
 -- the two lines have at most 159 bytes
 pub marked_length : (bytes : List ℕ) (place : ℕ) → length (marked_lines bytes place) ≤ most_marked

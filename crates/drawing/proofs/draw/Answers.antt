@@ -1,87 +1,41 @@
 -- `drawing::draw` meets its contract: its parts are printed one after the other.
-use Prim.Native.Nat.{◌+◌, ◌*◌, ◌≤◌}
-use native.Mathlib.Omega.{arith}
-use borrow.Author.Rules.{rules}
-use lib.ListN.{length}
-use Rattle.printing.specs.PrintingLaws.{prints_join}
+use Rattle.std.proofs.Common.{arith}
+use Rattle.printing.specs.PrinterLaws.{puts_join}
+use Rattle.record_line.specs.NodeLaws.{AllBytes}
 use Rattle.drawing.specs.Drawing.{drawing}
-use Rattle.record_line.specs.NodeLaws.{shown_length}
-use Rattle.drawing.specs.MarksLaws.{marks_length}
+use Rattle.drawing.specs.DrawingLaws.{parts_length}
 use Rattle.drawing.proofs.draw.Goals as goal
-use Rattle.drawing.proofs.draw.Goals.{After-put_marks-after_marks}
 
--- after the marks there is room for the names of the columns and all records
-room : (c : After-put_marks-after_marks) → c.put_marks-after_marks.result + 28 + 176640 ≤ length c.put_marks-after_marks.new.out
-room c =
-    omega (
-      arith,
-      c.requires.short,
-      c.requires.room,
-      c.put_shown-after_rule.ensures.next_place,
-      c.put_shown-after_rule.ensures.kept_length,
-      c.put-after_end.ensures.next_place,
-      c.put-after_end.ensures.kept_length,
-      c.put_marks-after_marks.ensures.next_place,
-      c.put_marks-after_marks.ensures.kept_length,
-      shown_length c.args.rule.now,
-      marks_length c.args.rule.now c.args.list.now c.args.records
-          (length c.args.rule.now),
-    )
+pub put_shown-requires : goal.put_shown-requires
+put_shown-requires c =
+    let small : AllBytes c.args.list.now = λ j. omega (arith, c.type_inv.list j) in
+    omega (arith, parts_length c.args.rule.now c.args.list.now c.args.records small c.requires.few c.requires.short)
 
-pub put_shown-after_rule-requires : goal.put_shown-after_rule-requires
-put_shown-after_rule-requires c =
-    omega (arith, c.requires.short, c.requires.room, shown_length c.args.rule.now)
+pub put-requires : goal.put-requires
+put-requires c =
+    let small : AllBytes c.args.list.now = λ j. omega (arith, c.type_inv.list j) in
+    omega (arith, parts_length c.args.rule.now c.args.list.now c.args.records small c.requires.few c.requires.short)
 
-pub put-after_end-requires : goal.put-after_end-requires
-put-after_end-requires c =
-    omega (
-      arith,
-      c.requires.short,
-      c.requires.room,
-      c.put_shown-after_rule.ensures.next_place,
-      c.put_shown-after_rule.ensures.kept_length,
-      shown_length c.args.rule.now,
-    )
+pub put_marks-requires-clause-room : goal.put_marks-requires-clause-room
+put_marks-requires-clause-room c =
+    let small : AllBytes c.args.list.now = λ j. omega (arith, c.type_inv.list j) in
+    omega (arith, parts_length c.args.rule.now c.args.list.now c.args.records small c.requires.few c.requires.short)
 
-pub put_marks-after_marks-requires : goal.put_marks-after_marks-requires
-put_marks-after_marks-requires c =
-    record {
-      inside = omega (arith, c.requires.long);
-      room = omega (
-        arith,
-        c.requires.short,
-        c.requires.room,
-        c.put_shown-after_rule.ensures.next_place,
-        c.put_shown-after_rule.ensures.kept_length,
-        c.put-after_end.ensures.next_place,
-        c.put-after_end.ensures.kept_length,
-        shown_length c.args.rule.now,
-      );
-    }
+pub put-requires-2 : goal.put-requires-2
+put-requires-2 c =
+    let small : AllBytes c.args.list.now = λ j. omega (arith, c.type_inv.list j) in
+    omega (arith, parts_length c.args.rule.now c.args.list.now c.args.records small c.requires.few c.requires.short)
 
-pub put-after_head-requires : goal.put-after_head-requires
-put-after_head-requires c =
-    omega (arith, room (goal.at.put-after_head-requires c).After-put_marks-after_marks)
-
-pub put_records-requires : goal.put_records-requires
-put_records-requires c =
-    record {
-      few = c.requires.few;
-      long = c.requires.long;
-      room = omega (
-        arith,
-        c.requires.few,
-        room (goal.at.put_records-requires c).After-put_marks-after_marks,
-        c.put-after_head.ensures.next_place,
-        c.put-after_head.ensures.kept_length,
-      );
-    }
+pub put_records-requires-clause-room : goal.put_records-requires-clause-room
+put_records-requires-clause-room c =
+    let small : AllBytes c.args.list.now = λ j. omega (arith, c.type_inv.list j) in
+    omega (arith, parts_length c.args.rule.now c.args.list.now c.args.records small c.requires.few c.requires.short)
 
 pub returns : goal.returns
 unfolding drawing
 returns c =
-    prints_join
-    (prints_join
-    (prints_join (prints_join c.put_shown-after_rule.ensures c.put-after_end.ensures) c.put_marks-after_marks.ensures)
-    c.put-after_head.ensures)
+    puts_join
+    (puts_join
+    (puts_join (puts_join c.put_shown.ensures c.put.ensures) c.put_marks.ensures)
+    c.put-2.ensures)
     c.put_records.ensures

@@ -1,15 +1,16 @@
--- `showing::cut::cut_end` meets its contract: it tests as the definition does.
-use mathlib.Core.Path.{sym, ◌∙◌}
-use native.Mathlib.Omega.{arith}
-use borrow.Author.Rules.{rules}
-use Rattle.showing.specs.CutShortLaws.{end_whole, end_part}
+-- `showing::cut::cut_end` meets its contract: what fits from the place on lies within the bytes.
+use Rattle.std.proofs.Common.{arith, ◌-◌, length, take, drop, length-take, length-drop}
+use Rattle.showing.specs.CutShort.{side_columns}
+use Rattle.showing.specs.CutShortLaws.{fitting_fits}
 use Rattle.showing.proofs.cut.cut_end.Goals as goal
 
-pub returns-then-part_end-bytes : goal.returns-then-part_end-bytes
-returns-then-part_end-bytes c =
-    sym (end_whole _ _ (omega (arith, c.part_end.ensures)))
-
-pub returns : goal.returns
-returns c =
-    c.part_end-2.ensures
-    ∙ sym (end_part _ _ (λ whole. c.if-part_end-bytes.false (omega (arith, c.part_end.ensures))))
+pub overflow_add-result : goal.overflow_add-result
+overflow_add-result c =
+    let rest = drop c.args.place c.args.bytes.now in
+    let count = length c.args.bytes.now - c.args.place in
+    omega (
+      arith,
+      length-drop c.args.place c.args.bytes.now,
+      length-take count rest,
+      (fitting_fits side_columns (take count rest)).inside,
+    )
