@@ -3,11 +3,11 @@
 
 ghost use Rattle.explain.specs.Space.{ExplainSpace};
 
-use explaining::{Explained, MOST_EXPLAINED};
+use explaining::MOST_EXPLAINED;
 use std::alloc::Global;
 use std::io::Read;
 use std::process::ExitCode;
-use streams::{Input, fail, read_input};
+use streams::{fail, read_input};
 
 // Writes the output for an input, by way of a buffer that is long enough for every output.
 fn write_output(
@@ -17,8 +17,7 @@ fn write_output(
     input: &[u8],
     output: &mut [u8],
 ) -> ExitCode {
-    let explained = explaining::explain(input, output);
-    let Explained::Written { length } = explained else {
+    let Ok(length) = explaining::explain(input, output) else {
         return ExitCode::SUCCESS;
     };
     if let Err(error) = stdout.write_all(&output[..length]) {
@@ -39,8 +38,8 @@ fn run(
     requires space { ExplainSpace input.old }
 {
     match read_input(stdin, input) {
-        Input::Read { count } => write_output(stdout, stderr, alloc, &input[..count], output),
-        Input::Failed { error } => fail(stderr, alloc, "standard input", error),
+        Ok(count) => write_output(stdout, stderr, alloc, &input[..count], output),
+        Err(error) => fail(stderr, alloc, "standard input", error),
     }
 }
 

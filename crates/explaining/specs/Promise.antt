@@ -1,8 +1,8 @@
 -- What `explain` promises of a lent buffer: every byte of it.
-use Rattle.std.specs.Prelude.{ℕ, ◌≤◌, ◌<◌, ◌≡◌, List, ◌++◌, length, drop}
+use Rattle.std.specs.Prelude.{ℕ, ◌≤◌, ◌<◌, ◌≡◌, Result, Ok, Err, List, ◌++◌, length, drop}
+use Rattle.tree.specs.declared.refusal.Refusal.{Refusal}
+use Rattle.tree.specs.declared.refusal.Refusal.TheVariants.{BufferTooShort}
 use Rattle.explaining.specs.Explained.{explained, most_explained}
-use Rattle.explaining.specs.declared.Explained.{Explained}
-use Rattle.explaining.specs.declared.Explained.TheVariants.{Written, NoRoom}
 
 -- the output stands at the front of the buffer, and what stood after it is kept
 pub record ExplanationWritten (input before after : List ℕ) (size : ℕ) : Type 0 where
@@ -17,6 +17,6 @@ pub record NoRoomToExplain (before after : List ℕ) : Type 0 where
   pub kept : after ≡ before
 
 -- what each answer says
-abbrev pub Explains : (input before after : List ℕ) → Explained → Type 0
-Explains input before after (Written size) = ExplanationWritten input before after size
-Explains input before after NoRoom = NoRoomToExplain before after
+abbrev pub Explains : (input before after : List ℕ) → Result ℕ Refusal → Type 0
+Explains input before after (Ok size) = ExplanationWritten input before after size
+Explains input before after (Err refusal) = (refusal ≡ BufferTooShort) × NoRoomToExplain before after

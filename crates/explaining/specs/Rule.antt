@@ -1,9 +1,10 @@
 -- From what reading a rule answers to what is printed for it.
-use Rattle.std.specs.Prelude.{ℕ, ◌*◌, ◌≤◌, ◌<◌, ◌≡◌, refl, Bool, true, false, cond, List, ◌++◌, length, take, drop}
+use Rattle.std.specs.Prelude.{ℕ, ◌*◌, ◌≤◌, ◌<◌, ◌≡◌, refl, Bool, true, false, cond, Result, Ok, List, ◌++◌, length, take, drop}
 use Rattle.std.proofs.Common.{sym, ap, ◌∙◌, subst, arith, length-append, ltb-true, ltb-false, le-ltb, lt-ltb}
 use Rattle.language.specs.Tree.{Tree, leaf, catenation, union, star, nodes}
 use Rattle.tree.specs.Leaf.{Leaf}
 use Rattle.tree.specs.RefusalNumbers.{too_many_pieces}
+use Rattle.tree.specs.declared.refusal.Refusal.{Refusal}
 use Rattle.tree.specs.Layout.{record_size, class_record_size}
 use Rattle.tree.specs.Limits.{most_pieces, most_records, longest_expression}
 use Rattle.tree.specs.Lengths.{nodes_positive}
@@ -26,8 +27,6 @@ use Rattle.showing.specs.Refusal.{most_shown, refusal_lines, lent_refusal}
 use Rattle.drawing.specs.Drawing.{drawing}
 use Rattle.explaining.specs.Explained.{most_explained, records_of, explained_for, explained_rule, explained}
 use Rattle.explaining.specs.Promise.{ExplanationWritten, Explains}
-use Rattle.explaining.specs.declared.Explained.{Explained}
-use Rattle.explaining.specs.declared.Explained.TheVariants.{Written}
 
 -- a tree has no more class leaves than nodes
 few_classes : (t : Tree Leaf) → class_count t ≤ nodes t
@@ -138,8 +137,8 @@ unfolding explained
 explained_short input h = rw (le-ltb longest_input (length input) h) refl
 
 -- where the output was written, it lies within the buffer
-pub written_within : (input before after : List ℕ) (r : Explained) (size : ℕ) → Explains input before after r
-    → r ≡ Written size → size ≤ length before
+pub written_within : (input before after : List ℕ) (r : Result ℕ Refusal) (size : ℕ) → Explains input before after r
+    → r ≡ Ok size → size ≤ length before
 written_within input before after r size p e =
     let w : ExplanationWritten input before after size = subst (Explains input before after) e p in
     w.inside

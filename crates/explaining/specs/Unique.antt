@@ -1,17 +1,17 @@
 -- What `explain` promises leaves no choice: its answer and every byte of the buffer are determined.
-use Rattle.std.specs.Prelude.{ℕ, ◌≡◌, refl, List, ◌++◌, drop}
+use Rattle.std.specs.Prelude.{ℕ, ◌≡◌, Result, Ok, Err, List, ◌++◌, drop}
 use Rattle.std.proofs.Common.{sym, ap, ◌∙◌, arith}
+use Rattle.tree.specs.declared.refusal.Refusal.{Refusal}
 use Rattle.explaining.specs.Explained.{explained}
 use Rattle.explaining.specs.Promise.{Explains}
-use Rattle.explaining.specs.declared.Explained.{Explained}
-use Rattle.explaining.specs.declared.Explained.TheVariants.{Written, NoRoom}
 
 -- two answers with two buffers that both fit the promise are the same
-pub explains_unique : (input before after after' : List ℕ) (r r' : Explained) → Explains input before after r
+pub explains_unique : (input before after after' : List ℕ) (r r' : Result ℕ Refusal) → Explains input before after r
     → Explains input before after' r' → (r ≡ r') × (after ≡ after')
-explains_unique input before after after' (Written size) (Written size') p q =
+explains_unique input before after after' (Ok size) (Ok size') p q =
     let same : size ≡ size' = p.sized ∙ sym q.sized in
-    (ap Written same, p.whole ∙ ap (λ (n : ℕ). explained input ++ drop n before) same ∙ sym q.whole)
-explains_unique input before after after' NoRoom NoRoom p q = (refl, p.kept ∙ sym q.kept)
-explains_unique input before after after' (Written size) NoRoom p q = absurd (omega (arith, p.room, q.short))
-explains_unique input before after after' NoRoom (Written size) p q = absurd (omega (arith, q.room, p.short))
+    (ap Ok same, p.whole ∙ ap (λ (n : ℕ). explained input ++ drop n before) same ∙ sym q.whole)
+explains_unique input before after after' (Err refusal) (Err refusal') p q =
+    (ap Err (p.0 ∙ sym q.0), p.1.kept ∙ sym q.1.kept)
+explains_unique input before after after' (Ok size) (Err refusal) p q = absurd (omega (arith, p.room, q.1.short))
+explains_unique input before after after' (Err refusal) (Ok size) p q = absurd (omega (arith, q.room, p.1.short))

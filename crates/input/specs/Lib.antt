@@ -4,3 +4,4 @@ pub mod Lines
 pub mod Ends
 pub mod EndLaws
 pub mod Left
+pub mod First

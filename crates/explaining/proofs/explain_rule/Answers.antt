@@ -1,59 +1,60 @@
 -- `explaining::explain_rule` meets its contract: what reading the rule answers is its outcome, and that is printed.
-use Prim.Native.Nat.{◌*◌}
-use mathlib.Core.Path.{◌≡◌, sym, ap, ◌∙◌}
-use native.Mathlib.Omega.{arith}
-use borrow.Author.Rules.{rules}
-use lib.ListN.{length, take, replicate}
-use lib.Seq.{length-take-le}
+use Rattle.std.proofs.Common.{rules, arith, sym, ap, ◌∙◌, ◌*◌, ◌≡◌, length, take, replicate}
+use Rattle.std.proofs.Math.Seq.{length-take-le}
 use Rattle.tree.specs.Limits.{most_records}
 use Rattle.tree.specs.Layout.{record_size, class_record_size}
+use Rattle.tree.specs.Refusing.{refusal_number}
 use Rattle.checker.specs.Checked.{counted_numbers}
+use Rattle.printing.specs.PrinterLaws.{puts_front}
 use Rattle.reader.specs.SecondKept.{SecondKept}
 use Rattle.reader.proofs.SecondKept.{second_kept}
 use Rattle.showing.specs.Refusal.{refusal_lines}
 use Rattle.explaining.specs.Explained.{explained_rule}
 use Rattle.explaining.specs.Rule.{told_refusal, read_rule, lent_long}
 use Rattle.explaining.proofs.explain_rule.Goals as goal
-use Rattle.explaining.proofs.explain_rule.Goals.{In-Counted, In-Refused}
+use Rattle.explaining.proofs.explain_rule.Goals.{In-Ok, In-Err}
 
 -- the refusal is the rule's outcome
-refusal : (c : In-Refused) → explained_rule c.args.rule.now
-    ≡ refusal_lines c.args.rule.now c.in-Refused.number c.in-Refused.place
-refusal c = told_refusal _ _ _ (sym (ap counted_numbers c.in-Refused.is) ∙ c.read_second-answer.ensures.answer)
+refusal : (c : In-Err) → explained_rule c.args.rule.now
+    ≡ refusal_lines c.args.rule.now (refusal_number c.in-Err.refused.refusal) c.in-Err.refused.place
+refusal c = told_refusal _ _ _ c.in-Err.ensures.answer
 
 -- the records of the rule stand in the list
-records : (c : In-Counted)
+records : (c : In-Ok)
     → SecondKept c.args.rule.now (replicate (record_size * most_records) 0)
-    (replicate (class_record_size * most_records) 0) c.read_second-answer.new.records
-    c.read_second-answer.new.classes c.in-Counted.records c.in-Counted.pieces
-    c.in-Counted.classes
+    (replicate (class_record_size * most_records) 0) c.read_second.new.records
+    c.read_second.new.classes c.in-Ok.counts.records c.in-Ok.counts.pieces
+    c.in-Ok.counts.classes
 records c =
     second_kept _ (replicate (record_size * most_records) 0) (replicate (class_record_size * most_records) 0) _ _ _ _ _
-    (sym (ap counted_numbers c.in-Counted.is) ∙ c.read_second-answer.ensures.answer)
-    c.read_second-answer.ensures.record_buffer c.read_second-answer.ensures.class_buffer
+    c.in-Ok.ensures.answer c.in-Ok.ensures.record_buffer c.in-Ok.ensures.class_buffer
 
 pub overflow_mul-list : goal.overflow_mul-list
-overflow_mul-list c =
-    record { fits = omega (arith, (records (goal.at.overflow_mul-list c).In-Counted).fits) }
+overflow_mul-list c = record { fits = omega (arith, (records (goal.at.overflow_mul-list c).In-Ok).fits) }
 
 pub slice_bounds-list-end : goal.slice_bounds-list-end
 slice_bounds-list-end c =
-    omega (arith, (records (goal.at.slice_bounds-list-end c).In-Counted).fits, c.read_second-answer.auto)
-
-pub slice_bounds-draw-end : goal.slice_bounds-draw-end
-slice_bounds-draw-end c =
-    sym (length-take-le _ _ (omega (arith, (records (goal.at.slice_bounds-draw-end c).In-Counted).fits, c.read_second-answer.auto)))
+    omega (arith, (records (goal.at.slice_bounds-list-end c).In-Ok).fits, c.read_second.auto)
 
 pub draw-requires : goal.draw-requires
 draw-requires c =
-    let rule = read_rule (records (goal.at.draw-requires c).In-Counted) in record { few = rule.few; long = length-take-le _ _ (omega (arith, (records (goal.at.draw-requires c).In-Counted).fits, c.read_second-answer.auto)); short = rule.short; room = c.requires }
+    let kept = records (goal.at.draw-requires c).In-Ok in
+    let rule = read_rule kept in
+    record {
+      few = rule.few;
+      long = length-take-le _ _ (omega (arith, kept.fits, c.read_second.auto));
+      short = rule.short;
+      room = omega (arith, c.new-printer.ensures.front, ap length c.new-printer.ensures.front.0);
+    }
 
-pub returns-in-Refused : goal.returns-in-Refused
-returns-in-Refused c =
-    let long = lent_long (length c.args.out.now) c.args.rule.now _ _ (omega (arith, c.requires)) in
-    rw (refusal (goal.at.returns-in-Refused c).In-Refused ∙ sym long)
-    c.refusal.ensures
+pub returns-in-Err : goal.returns-in-Err
+returns-in-Err c =
+    let told = refusal (goal.at.returns-in-Err c).In-Err in
+    let long = lent_long (length c.args.out.now) c.args.rule.now (refusal_number c.in-Err.refused.refusal)
+    c.in-Err.refused.place c.requires in
+    rw (told ∙ sym long) c.refusal.ensures
 
-pub returns-in-Counted : goal.returns-in-Counted
-returns-in-Counted c =
-    rw (read_rule (records (goal.at.returns-in-Counted c).In-Counted)).drawn c.draw.ensures
+pub returns-in-Ok : goal.returns-in-Ok
+returns-in-Ok c =
+    let drawn = (read_rule (records (goal.at.returns-in-Ok c).In-Ok)).drawn in
+    puts_front c.new-printer.ensures.front (rw (← drawn) at c.draw.ensures) (search rules)
