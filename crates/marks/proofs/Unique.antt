@@ -47,26 +47,7 @@ use Rattle.marks.specs.StepsEach.{
 }
 use Rattle.stepping.specs.declared.inner.Told.{Told}
 use Rattle.tree.specs.declared.refusal.Refusal.{Refusal}
-use Rattle.tree.specs.declared.refusal.Refusal.TheVariants.{
-  ExpressionEmpty,
-  ExpressionTooLong,
-  OperandMissing,
-  GroupLeftOpen,
-  ClosingWithoutGroup,
-  TooManyGroups,
-  BackslashBeforeNoSign,
-  TooManyPieces,
-  BufferTooShort,
-  ListNotGood,
-  TextTooLong,
-  TooFewWords,
-  WordsNotMarks,
-  ClassFaulty,
-  ClassBufferTooShort,
-  CountFaulty,
-  TooManyNodes,
-  TableTooShort,
-}
+use Rattle.tree.specs.RefusalBack.{refusal_of, refusal_back, some_number}
 
 -- words enough that hold the same set, and are as before past the pieces, are the same
 hold_unique : (t : Tree Leaf) (X : States) (before after after' : List ℕ) → piece_count t ≤ length before
@@ -400,27 +381,6 @@ module _ {list classes : List ℕ} {byte : ℕ} {before : List ℕ} where
           λ (t, good, classed, enough, marks). (t, good, (classed, enough, marks)),
         )
 
--- the refusal of a number
-abbrev refusal_of : ℕ → Refusal
-refusal_of n =
-    cond (eqb n 1) ExpressionEmpty
-    (cond (eqb n 2) ExpressionTooLong
-    (cond (eqb n 3) OperandMissing
-    (cond (eqb n 4) GroupLeftOpen
-    (cond (eqb n 5) ClosingWithoutGroup
-    (cond (eqb n 6) TooManyGroups
-    (cond (eqb n 7) BackslashBeforeNoSign
-    (cond (eqb n 8) TooManyPieces
-    (cond (eqb n 9) BufferTooShort
-    (cond (eqb n 10) ListNotGood
-    (cond (eqb n 11) TextTooLong
-    (cond (eqb n 12) TooFewWords
-    (cond (eqb n 13) WordsNotMarks
-    (cond (eqb n 14) ClassFaulty
-    (cond (eqb n 15) ClassBufferTooShort
-    (cond (eqb n 16) CountFaulty
-    (cond (eqb n 17) TooManyNodes TableTooShort))))))))))))))))
-
 -- the answer that has these numbers
 abbrev answer_by : MarksNumbers → Result Told Refusal
 answer_by n =
@@ -428,24 +388,7 @@ answer_by n =
 
 answer_back : (r : Result Told Refusal) → answer_by (marks_numbers r) ≡ r
 answer_back (Ok told) = refl
-answer_back (Err ExpressionEmpty) = refl
-answer_back (Err ExpressionTooLong) = refl
-answer_back (Err OperandMissing) = refl
-answer_back (Err GroupLeftOpen) = refl
-answer_back (Err ClosingWithoutGroup) = refl
-answer_back (Err TooManyGroups) = refl
-answer_back (Err BackslashBeforeNoSign) = refl
-answer_back (Err TooManyPieces) = refl
-answer_back (Err BufferTooShort) = refl
-answer_back (Err ListNotGood) = refl
-answer_back (Err TextTooLong) = refl
-answer_back (Err TooFewWords) = refl
-answer_back (Err WordsNotMarks) = refl
-answer_back (Err ClassFaulty) = refl
-answer_back (Err ClassBufferTooShort) = refl
-answer_back (Err CountFaulty) = refl
-answer_back (Err TooManyNodes) = refl
-answer_back (Err TableTooShort) = refl
+answer_back (Err refusal) = rw (some_number refusal, refusal_back refusal)
 
 -- an answer is known from its numbers
 pub numbers_injective : (r s : Result Told Refusal) → marks_numbers r ≡ marks_numbers s → r ≡ s
