@@ -1,5 +1,5 @@
 -- Where an entry leads: the marks of a state, copied out and moved, are sought among those of the states.
-use Rattle.std.specs.Prelude.{ℕ, ◌+◌, ◌-◌, ◌*◌, ◌≤◌, ◌<◌, ◌≡◌, ◌↔◌, List, ◌∷◌, [], ◌++◌, get_or, drop, length, take}
+use Rattle.std.specs.Prelude.{ℕ, ◌+◌, ◌-◌, ◌*◌, ◌≤◌, ◌<◌, ◌≡◌, ◌↔◌, List, ◌∷◌, [], ◌++◌, get_or, length, take}
 use Rattle.std.proofs.Common.{sym, subst, arith}
 use Rattle.std.proofs.Math.Logic.Iff
 use Rattle.language.specs.Nested.{origin}
@@ -87,8 +87,7 @@ holding_front {t} {count = count} prepared {classes} {w} words = (
 module _ {t : Tree Leaf} {rows : List ℕ} {count : ℕ}
     (prepared : Prepared t rows count) {words : List ℕ} (rest : List ℕ) (most : ℕ)
     (room : List ℕ) (i : ℕ) (few : i < most) (fits : most + count * most ≤ length room)
-    (put : words ≡ take count (take (most + count * i + count - (most + count * i)) (drop (most + count * i) room))
-    ++ rest) where
+    (put : words ≡ take count (marks_of count most room i) ++ rest) where
   pub copied_clean : Clean (cut_up t) (marks_of count most room i) → Clean (cut_up t) words
   copied_clean clean = (front_clean (cut_up t) count words (prepared_count prepared)).0
       (subst (Clean (cut_up t)) (sym (marks_copied rest count most room i few fits put)) clean)

@@ -31,18 +31,16 @@ same_part {masks} {words} {n} count most room i = (
   subst (λ (l : List ℕ). SameUnder masks n l words) (sym (marks_part count most room i)),
 )
 
--- where that part is copied out, the first words are the marks
+-- where they are copied out, the first words are the marks
 pub marks_copied : {words : List ℕ} (rest : List ℕ) (count most : ℕ) (room : List ℕ) (i : ℕ) → i < most
     → most + count * most ≤ length room
-    → words ≡ take count (take (most + count * i + count - (most + count * i)) (drop (most + count * i) room)) ++ rest
-    → take count words ≡ marks_of count most room i
+    → words ≡ take count (marks_of count most room i) ++ rest → take count words ≡ marks_of count most room i
 marks_copied {words} rest count most room i few fits put =
     let whole : length (marks_of count most room i) ≡ count =
     length-take-le count (drop (most + count * i) room)
     (simp length-drop (omega (arith, marks_inside count most i few))) in
     let out : words ≡ marks_of count most room i ++ rest =
-    put ∙ ap (λ (l : List ℕ). take count l ++ rest) (marks_part count most room i)
-    ∙ ap (λ (l : List ℕ). l ++ rest) (take_all count (marks_of count most room i) (omega arith)) in
+    put ∙ ap (λ (l : List ℕ). l ++ rest) (take_all count (marks_of count most room i) (omega arith)) in
     ap (take count) out ∙ take_at (marks_of count most room i) rest count whole
 
 -- the parts of a list with words pasted into it

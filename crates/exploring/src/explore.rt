@@ -37,13 +37,12 @@ fn entry_of(
         → Leading classes.now t w byte layout.now.masks layout.now.count layout.now.most states room.now
         words.new result }
 {
-    let at = layout.most + layout.count * state;
-    copy(&room[at..at + layout.count], layout.count, words);
+    copy(layout.marks(room, state), layout.count, words);
     let told = advance(rows, layout.count, classes, words, byte);
     if told.nothing {
         return 0;
     }
-    1 + find(room, layout, states, words)
+    1 + find(room, layout, states, words).unwrap_or(states)
 }
 
 // Goes on from the state of the empty text, which is kept. Answers how many states there are, or that there is no room

@@ -1,8 +1,9 @@
 // How the room is shared out among the states, and how their marks are compared.
-ghost use Rattle.std.specs.Prelude.{◌≤◌, ◌≡◌, length};
+ghost use Rattle.std.specs.Prelude.{◌+◌, ◌*◌, ◌≤◌, ◌<◌, ◌≡◌, length};
 ghost use Rattle.tree.specs.Limits.{most_pieces};
 ghost use Rattle.closing.specs.BitsOfWords.Bits.{Tells};
 ghost use Rattle.exploring.specs.Keys.{SameUnder, number_under};
+ghost use Rattle.exploring.specs.Room.{marks_of};
 
 use tree::limits::MOST_PIECES;
 
@@ -27,6 +28,15 @@ impl Layout {
             number = joined ^ (joined << 13) ^ (joined >> 7);
         }
         number
+    }
+
+    // The marks of state 1 + i.
+    pub fn marks<'r>(&self, room: &'r [u64], i: usize) -> &'r [u64]
+        requires { (i < self.now.most) × (self.now.most + self.now.count * self.now.most ≤ length room.now) }
+        ensures { result.now ≡ marks_of self.now.count self.now.most room.now i }
+    {
+        let at = self.most + self.count * i;
+        &room[at..at + self.count]
     }
 
     // Whether the marks of a state agree with the words under the masks.

@@ -1,27 +1,30 @@
 // The states that were found, in the room: numbers first, then marks.
-ghost use Rattle.std.specs.Prelude.{◌+◌, ◌*◌, ◌≤◌, ◌<◌, ◌≡◌, length};
+ghost use Rattle.std.specs.Prelude.{◌+◌, ◌*◌, ◌≤◌, ◌<◌, ◌≡◌, length, unwrap_or};
 ghost use Rattle.exploring.specs.Room.{Sought, with_state, EntryWritten};
 
 use crate::layout::Layout;
 use stepping::inner::copy;
 use tree::limits::MOST_PIECES;
 
-// The place among the states of the one whose marks agree with the words under the masks; where there is none, how many
-// states there are. The marks of a state are looked at only where its number is that of the words.
-pub fn find(room: &[u64], layout: &Layout, states: usize, words: &[u64; MOST_PIECES]) -> usize
+// The place among the states of the one whose marks agree with the words under the masks. The marks of a state are
+// looked at only where its number is that of the words.
+pub fn find(
+    room: &[u64],
+    layout: &Layout,
+    states: usize,
+    words: &[u64; MOST_PIECES],
+) -> Option<usize>
     requires { (states ≤ layout.now.most) × (layout.now.most + layout.now.count * layout.now.most ≤ length room.now) }
-    ensures { Sought layout.now.masks layout.now.count layout.now.most states room.now words.now result }
+    ensures { Sought layout.now.masks layout.now.count layout.now.most states room.now words.now
+        (unwrap_or result states) }
 {
     let number = layout.number_of(words);
     for i in 0..states {
-        if room[i] == number {
-            let at = layout.most + layout.count * i;
-            if layout.agree(&room[at..at + layout.count], words) {
-                return i;
-            }
+        if room[i] == number && layout.agree(layout.marks(room, i), words) {
+            return Some(i);
         }
     }
-    states
+    None
 }
 
 // Keeps the marks of state 1 + i, and the number by which it is found again.
