@@ -97,13 +97,15 @@ fn due(expr: &[u8], at: usize, count: usize) -> Option<Due>
     item(expr, at).map(Due::Item)
 }
 
-// Passes over the items of a class up to its `]`. Whether all but those are taken makes no difference here.
+// Passes over the items of a class up to its `]`. Whether all but those are taken makes no difference here. A function
+// beside `items`, so that passing over a class needs no room for its values.
 fn items_end(expr: &[u8], at: usize) -> Option<usize>
     requires { at ≤ length expr.now }
     ensures { ItemsEndAnswer expr.now at result }
 {
     let mut place = at;
     let mut count = 0;
+    // A while: the place goes to the end of each item.
     while let Due::Item(item) = due(expr, place, count)? {
         count += 1;
         place = item.next;
@@ -134,6 +136,7 @@ fn items(expr: &[u8], at: usize, members: &mut [u8], all_but: bool) -> Option<us
     let value = u8::from(!all_but);
     let mut place = at;
     let mut count = 0;
+    // A while: the place goes to the end of each item.
     while let Due::Item(item) = due(expr, place, count)? {
         set_range(
             members,

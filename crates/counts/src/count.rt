@@ -32,6 +32,7 @@ fn number(expr: &[u8], at: usize) -> Option<Number>
 {
     let mut value = digit(expr, at)?;
     let mut next = at + 1;
+    // A while: the number ends where no digit stands, and that place is a part of the answer.
     while let Some(more) = digit(expr, next) {
         if value == 0 {
             return None;
