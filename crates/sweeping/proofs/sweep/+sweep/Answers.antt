@@ -1,11 +1,16 @@
 -- Each step of the sweep, as the lemmas of its specifications say it.
-use Rattle.std.proofs.Common.{ℕ, ◌<◌, ◌∙◌, sym, subst, List, length, length-set, inr, arith, rules}
+use Rattle.std.proofs.Common.{ℕ, ◌≤◌, ◌<◌, ◌≡◌, ◌⊎◌, get_or, set, ◌∙◌, sym, subst, List, length, length-set, inr, arith, rules}
 use mathlib.Core.Bool.{and-eq-true_iff}
 use Rattle.language.specs.Settled.{Settled}
 use Rattle.tree.specs.Leaf.{byteless}
 use Rattle.tables.specs.Words.{Holds}
 use Rattle.sweeping.specs.Zeros.{begun_zero, all_zeros}
+use Rattle.tables.specs.Plan.{Closes}
+use Rattle.sweeping.specs.Swept.{Sweepable}
+use Rattle.sweeping.specs.RunOfChildren.{ChildWaiting}
 use Rattle.sweeping.specs.Sweeping.{
+  SweepRoom,
+  ChildRead,
   sweeping_begins,
   waits,
   room_for,
@@ -29,6 +34,46 @@ use Rattle.sweeping.specs.Sweeping.{
   zeros_on,
 }
 use Rattle.sweeping.proofs.sweep.+sweep.Goals as goal
+use Rattle.sweeping.proofs.sweep.+sweep.Goals.{In-loop-at, After-run_of}
+
+-- the words as a sweep begins with them are those of the run's pieces
+begun_here : (t : ℕ) (c : In-loop-at t)
+    → Sweepable c.args.rows.now c.requires.tree (set c.args.words.now 0 c.close_from-first.result)
+begun_here t c = begun_sweepable _ _ _ c.close_from-first.ensures _ c.requires.sweepable
+
+-- and the own word is closed
+own_here : (t : ℕ) (c : In-loop-at t)
+    → let closed = get_or (set c.args.words.now 0 c.close_from-first.result) 0 0 in Closes c.requires.tree closed closed
+own_here t c = own_begun _ _ _ c.close_from-first.ensures _ c.requires.sweepable
+
+-- a child piece waits for its visit
+waits_here : (t : ℕ) (c : In-loop-at t) → let at = c.loop-at in
+    ChildWaiting c.args.rows.now c.requires.tree (set c.args.words.now 0 c.close_from-first.result) at.words at.at
+    at.waiting at.settled
+waits_here t c =
+    waits _ _ _ _ _ _ c.loop-at.invariant.0 c.loop-at-test.true _ (begun_here t c) (own_here t c)
+
+-- there is room for its row
+room_here : (t : ℕ) (c : In-loop-at t) → SweepRoom c.args.rows.now c.loop-at.at c.loop-at.words
+room_here t c =
+    room_for _ _ _ _ _ _ c.loop-at.invariant.0 c.loop-at-test.true _ (begun_here t c) (own_here t c)
+    (sized_same _ c.args.words.now _ (c.loop-at.invariant.0.same_length
+    ∙ length-set c.args.words.now 0 c.close_from-first.result) c.requires.sized)
+
+-- outside of the span no word from its own on has a mark
+quiet_here : (t : ℕ) (c : In-loop-at t) (o : ℕ) → c.loop-at.at ≤ o → o < length c.loop-at.words
+    → (o < c.args.from) ⊎ (c.args.to ≤ o) → get_or c.loop-at.words o 0 ≡ 0
+quiet_here t c =
+    quiet_ahead _ c.args.words.now _ c.close_from-first.result _ _ _ c.loop-at.invariant.0 _ _ c.requires.quiet
+    (room_here t c).own_before
+
+-- what was read of it fits the words
+read_here : (t : ℕ) (c : After-run_of t)
+    → ChildRead c.loop-at.at c.loop-at.words c.stand_of-stand.result c.run_of.result
+read_here t c =
+    read_for _ _ _ _ _ _ c.loop-at.invariant.0 c.loop-at-test.true _
+    (begun_sweepable _ _ _ c.close_from-first.ensures _ c.requires.sweepable)
+    (own_begun _ _ _ c.close_from-first.ensures _ c.requires.sweepable) _ _ c.stand_of-stand.ensures c.run_of.ensures
 
 pub loop-at-init : goal.loop-at-init
 loop-at-init t c =
@@ -41,44 +86,35 @@ pub returns-then-idle-clause-swept : goal.returns-then-idle-clause-swept
 returns-then-idle-clause-swept t c = λ x can.
     let still = c.idle.ensures c.if-idle.true in
     idle_done _ _ _ c.close_from-first.ensures x can _ _ _ _ c.loop-at.invariant.0 still.0
-    (λ o l h. (quiet_ahead _ c.args.words.now _ c.close_from-first.result _ _ _ c.loop-at.invariant.0 _ _ c.requires.quiet
-    (room_for _ _ _ _ _ _ c.loop-at.invariant.0 c.loop-at-test.true _ (begun_sweepable _ _ _ c.close_from-first.ensures _ c.requires.sweepable)
-    (own_begun _ _ _ c.close_from-first.ensures _ c.requires.sweepable) (sized_same _ c.args.words.now _ (c.loop-at.invariant.0.same_length ∙ length-set c.args.words.now 0 c.close_from-first.result) c.requires.sized)).own_before) o l h (inr (omega (arith, still.1))))
+    (λ o l h. quiet_here t (goal.at.returns-then-idle-clause-swept t c).In-loop-at o l h (inr (omega (arith, still.1))))
 
 pub returns-then-idle-clause-settled : goal.returns-then-idle-clause-settled
 returns-then-idle-clause-settled t c = λ x can e.
     let still = c.idle.ensures c.if-idle.true in
     idle_settled _ _ _ c.close_from-first.ensures x can _ _ _ _ c.loop-at.invariant.0 still.0
-    (λ o l h. (quiet_ahead _ c.args.words.now _ c.close_from-first.result _ _ _ c.loop-at.invariant.0 _ _ c.requires.quiet
-    (room_for _ _ _ _ _ _ c.loop-at.invariant.0 c.loop-at-test.true _ (begun_sweepable _ _ _ c.close_from-first.ensures _ c.requires.sweepable)
-    (own_begun _ _ _ c.close_from-first.ensures _ c.requires.sweepable) (sized_same _ c.args.words.now _ (c.loop-at.invariant.0.same_length ∙ length-set c.args.words.now 0 c.close_from-first.result) c.requires.sized)).own_before) o l h (inr (omega (arith, still.1)))) e
+    (λ o l h. quiet_here t (goal.at.returns-then-idle-clause-settled t c).In-loop-at o l h (inr (omega (arith, still.1)))) e
 
 pub returns-then-idle-clause-tells : goal.returns-then-idle-clause-tells
 returns-then-idle-clause-tells t c =
     let still = c.idle.ensures c.if-idle.true in
     all_zeros _ _ c.loop-at.words (c.loop-at.invariant.0.same_length ∙ length-set c.args.words.now 0 c.close_from-first.result)
-    (λ o l h. (quiet_ahead _ c.args.words.now _ c.close_from-first.result _ _ _ c.loop-at.invariant.0 _ _ c.requires.quiet
-    (room_for _ _ _ _ _ _ c.loop-at.invariant.0 c.loop-at-test.true _ (begun_sweepable _ _ _ c.close_from-first.ensures _ c.requires.sweepable)
-    (own_begun _ _ _ c.close_from-first.ensures _ c.requires.sweepable) (sized_same _ c.args.words.now _ (c.loop-at.invariant.0.same_length ∙ length-set c.args.words.now 0 c.close_from-first.result) c.requires.sized)).own_before) o l h (inr (omega (arith, still.1)))) c.loop-at.invariant.1
+    (λ o l h. quiet_here t (goal.at.returns-then-idle-clause-tells t c).In-loop-at o l h (inr (omega (arith, still.1)))) c.loop-at.invariant.1
 
 pub missed-waiting-requires : goal.missed-waiting-requires
 missed-waiting-requires t c = omega (
   arith,
-  (read_for _ _ _ _ _ _ c.loop-at.invariant.0 c.loop-at-test.true _ (begun_sweepable _ _ _ c.close_from-first.ensures _ c.requires.sweepable)
-      (own_begun _ _ _ c.close_from-first.ensures _ c.requires.sweepable) _ _ c.stand_of-stand.ensures c.run_of.ensures).stand_small,
+  (read_here t (goal.at.missed-waiting-requires t c).After-run_of).stand_small,
 )
 
 pub at_rest-requires : goal.at_rest-requires
 at_rest-requires t c = (
   omega (
     arith,
-    (read_for _ _ _ _ _ _ c.loop-at.invariant.0 c.loop-at-test.true _ (begun_sweepable _ _ _ c.close_from-first.ensures _ c.requires.sweepable)
-        (own_begun _ _ _ c.close_from-first.ensures _ c.requires.sweepable) _ _ c.stand_of-stand.ensures c.run_of.ensures).stand_small,
+    (read_here t (goal.at.at_rest-requires t c).After-run_of).stand_small,
   ),
   omega (
     arith,
-    (room_for _ _ _ _ _ _ c.loop-at.invariant.0 c.loop-at-test.true _ (begun_sweepable _ _ _ c.close_from-first.ensures _ c.requires.sweepable)
-        (own_begun _ _ _ c.close_from-first.ensures _ c.requires.sweepable) (sized_same _ c.args.words.now _ (c.loop-at.invariant.0.same_length ∙ length-set c.args.words.now 0 c.close_from-first.result) c.requires.sized)).few_words,
+    (room_here t (goal.at.at_rest-requires t c).In-loop-at).few_words,
     c.loop-at-test.true,
   ),
 )
@@ -87,8 +123,7 @@ pub pass-requires : goal.pass-requires
 pass-requires t c = (
   omega (
     arith,
-    (read_for _ _ _ _ _ _ c.loop-at.invariant.0 c.loop-at-test.true _ (begun_sweepable _ _ _ c.close_from-first.ensures _ c.requires.sweepable)
-        (own_begun _ _ _ c.close_from-first.ensures _ c.requires.sweepable) _ _ c.stand_of-stand.ensures c.run_of.ensures).stand_small,
+    (read_here t (goal.at.pass-requires t c).After-run_of).stand_small,
   ),
   omega arith,
 )
@@ -96,14 +131,12 @@ pass-requires t c = (
 pub slice_bounds-sweep-end-then-not-at_rest : goal.slice_bounds-sweep-end-then-not-at_rest
 slice_bounds-sweep-end-then-not-at_rest t c = search (
   rules,
-  (read_for _ _ _ _ _ _ c.loop-at.invariant.0 c.loop-at-test.true _ (begun_sweepable _ _ _ c.close_from-first.ensures _ c.requires.sweepable)
-      (own_begun _ _ _ c.close_from-first.ensures _ c.requires.sweepable) _ _ c.stand_of-stand.ensures c.run_of.ensures),
+  read_here t (goal.at.slice_bounds-sweep-end-then-not-at_rest t c).After-run_of,
 )
 
 pub sweep-below-requires : goal.sweep-below-requires
 sweep-below-requires t c =
-    let can = (waits _ _ _ _ _ _ c.loop-at.invariant.0 c.loop-at-test.true _ (begun_sweepable _ _ _ c.close_from-first.ensures _ c.requires.sweepable)
-    (own_begun _ _ _ c.close_from-first.ensures _ c.requires.sweepable)).visitable in (
+    let can = (waits_here t (goal.at.sweep-below-requires t c).In-loop-at).visitable in (
       omega (
         arith,
         c.decreases,
@@ -112,38 +145,32 @@ sweep-below-requires t c =
         length-set c.args.words.now 0 c.close_from-first.result,
       ),
       lent_ready _ _ _ _ _ c.stand_of-stand.ensures c.run_of.ensures _ _ can _ c.pass.ensures c.args.from c.args.to _ _
-          c.saturating_sub.ensures c.saturating_sub-then-not-at_rest.ensures (sized_same _ c.args.words.now _ (c.loop-at.invariant.0.same_length ∙ length-set c.args.words.now 0 c.close_from-first.result) c.requires.sized) (quiet_ahead _ c.args.words.now _ c.close_from-first.result _ _ _ c.loop-at.invariant.0 _ _ c.requires.quiet
-          (room_for _ _ _ _ _ _ c.loop-at.invariant.0 c.loop-at-test.true _ (begun_sweepable _ _ _ c.close_from-first.ensures _ c.requires.sweepable)
-          (own_begun _ _ _ c.close_from-first.ensures _ c.requires.sweepable) (sized_same _ c.args.words.now _ (c.loop-at.invariant.0.same_length ∙ length-set c.args.words.now 0 c.close_from-first.result) c.requires.sized)).own_before),
+          c.saturating_sub.ensures c.saturating_sub-then-not-at_rest.ensures (sized_same _ c.args.words.now _ (c.loop-at.invariant.0.same_length ∙ length-set c.args.words.now 0 c.close_from-first.result) c.requires.sized) (quiet_here t (goal.at.sweep-below-requires t c).In-loop-at),
     )
 
 pub pass-raised-requires : goal.pass-raised-requires
 pass-raised-requires t c = (
   omega (
     arith,
-    (room_for _ _ _ _ _ _ c.loop-at.invariant.0 c.loop-at-test.true _ (begun_sweepable _ _ _ c.close_from-first.ensures _ c.requires.sweepable)
-        (own_begun _ _ _ c.close_from-first.ensures _ c.requires.sweepable) (sized_same _ c.args.words.now _ (c.loop-at.invariant.0.same_length ∙ length-set c.args.words.now 0 c.close_from-first.result) c.requires.sized)).top_small,
+    (room_here t (goal.at.pass-raised-requires t c).In-loop-at).top_small,
     c.top_of.ensures,
   ),
   omega (
     arith,
-    (read_for _ _ _ _ _ _ c.loop-at.invariant.0 c.loop-at-test.true _ (begun_sweepable _ _ _ c.close_from-first.ensures _ c.requires.sweepable)
-        (own_begun _ _ _ c.close_from-first.ensures _ c.requires.sweepable) _ _ c.stand_of-stand.ensures c.run_of.ensures).stand_small,
+    (read_here t (goal.at.pass-raised-requires t c).After-run_of).stand_small,
   ),
 )
 
 pub loop-at-smaller-then-not-at_rest : goal.loop-at-smaller-then-not-at_rest
 loop-at-smaller-then-not-at_rest t c =
-    let here = (waits _ _ _ _ _ _ c.loop-at.invariant.0 c.loop-at-test.true _ (begun_sweepable _ _ _ c.close_from-first.ensures _ c.requires.sweepable)
-    (own_begun _ _ _ c.close_from-first.ensures _ c.requires.sweepable)) in
+    let here = waits_here t (goal.at.loop-at-smaller-then-not-at_rest t c).In-loop-at in
     let lent = lent_sweepable _ _ _ _ _ c.stand_of-stand.ensures c.run_of.ensures _ _ here.visitable _ c.pass.ensures in
     let seen = visited _ _ _ _ _ c.stand_of-stand.ensures c.run_of.ensures _ _ here.visitable _ c.pass.ensures _ c.sweep-below.auto.words
     (c.sweep-below.ensures.swept here.child.tree lent) _ _ _ c.top_of.ensures c.pass-raised.ensures
     c.close_after-own.ensures in
     omega (
       arith,
-      (read_for _ _ _ _ _ _ c.loop-at.invariant.0 c.loop-at-test.true _ (begun_sweepable _ _ _ c.close_from-first.ensures _ c.requires.sweepable)
-          (own_begun _ _ _ c.close_from-first.ensures _ c.requires.sweepable) _ _ c.stand_of-stand.ensures c.run_of.ensures),
+      read_here t (goal.at.loop-at-smaller-then-not-at_rest t c).After-run_of,
       seen.same_length,
     )
 
@@ -151,7 +178,7 @@ pub loop-at-preserved-then-not-at_rest : goal.loop-at-preserved-then-not-at_rest
 loop-at-preserved-then-not-at_rest t c =
     let both = and-eq-true_iff c.loop-at.settled c.sweep-below.result.settled in (
       sweeping_on _ _ _ _ _ _ c.loop-at.invariant.0 c.loop-at-test.true _ _ c.stand_of-stand.ensures c.run_of.ensures _ _ _ _
-          (begun_sweepable _ _ _ c.close_from-first.ensures _ c.requires.sweepable) (own_begun _ _ _ c.close_from-first.ensures _ c.requires.sweepable) c.missed-waiting.ensures
+          (begun_here t (goal.at.loop-at-preserved-then-not-at_rest t c).In-loop-at) (own_here t (goal.at.loop-at-preserved-then-not-at_rest t c).In-loop-at) c.missed-waiting.ensures
           (λ e. (both.0 e).0)
           (λ x child can.
           let lent = lent_sweepable _ _ _ _ _ c.stand_of-stand.ensures c.run_of.ensures x child can _ c.pass.ensures in
@@ -164,8 +191,7 @@ loop-at-preserved-then-not-at_rest t c =
                 _ _ _ c.top_of.ensures c.pass-raised.ensures c.close_after-own.ensures))
                 (c.sweep-below.ensures.settled child.tree lent (both.0 e).1);
           }),
-      let here = (waits _ _ _ _ _ _ c.loop-at.invariant.0 c.loop-at-test.true _ (begun_sweepable _ _ _ c.close_from-first.ensures _ c.requires.sweepable)
-          (own_begun _ _ _ c.close_from-first.ensures _ c.requires.sweepable)) in
+      let here = waits_here t (goal.at.loop-at-preserved-then-not-at_rest t c).In-loop-at in
           zeros_on _ _ _ _ _ c.stand_of-stand.ensures c.run_of.ensures _ _ here.visitable _ c.pass.ensures _ c.sweep-below.auto.words
           (c.sweep-below.ensures.swept here.child.tree
           (lent_sweepable _ _ _ _ _ c.stand_of-stand.ensures c.run_of.ensures _ _ here.visitable _ c.pass.ensures)) _ _ _
@@ -176,24 +202,18 @@ loop-at-preserved-then-not-at_rest t c =
 pub loop-at-smaller : goal.loop-at-smaller
 loop-at-smaller t c = omega (
   arith,
-  (read_for _ _ _ _ _ _ c.loop-at.invariant.0 c.loop-at-test.true _ (begun_sweepable _ _ _ c.close_from-first.ensures _ c.requires.sweepable)
-      (own_begun _ _ _ c.close_from-first.ensures _ c.requires.sweepable) _ _ c.stand_of-stand.ensures c.run_of.ensures),
+  read_here t (goal.at.loop-at-smaller t c).After-run_of,
 )
 
 pub loop-at-preserved : goal.loop-at-preserved
 loop-at-preserved t c =
     let rest = c.at_rest.ensures c.if-not-at_rest.false in
-    let here = (waits _ _ _ _ _ _ c.loop-at.invariant.0 c.loop-at-test.true _ (begun_sweepable _ _ _ c.close_from-first.ensures _ c.requires.sweepable)
-    (own_begun _ _ _ c.close_from-first.ensures _ c.requires.sweepable)) in (
+    let here = waits_here t (goal.at.loop-at-preserved t c).In-loop-at in (
       sweeping_on _ _ _ _ _ _ c.loop-at.invariant.0 c.loop-at-test.true _ _ c.stand_of-stand.ensures c.run_of.ensures _ _ _ _
-          (begun_sweepable _ _ _ c.close_from-first.ensures _ c.requires.sweepable) (own_begun _ _ _ c.close_from-first.ensures _ c.requires.sweepable) c.missed-waiting.ensures
+          (begun_here t (goal.at.loop-at-preserved t c).In-loop-at) (own_here t (goal.at.loop-at-preserved t c).In-loop-at) c.missed-waiting.ensures
           (λ e. e)
-          (passed_over _ _ _ _ _ _ c.loop-at.invariant.0 c.loop-at-test.true _ _ c.stand_of-stand.ensures c.run_of.ensures _ _ rest (quiet_ahead _ c.args.words.now _ c.close_from-first.result _ _ _ c.loop-at.invariant.0 _ _ c.requires.quiet
-          (room_for _ _ _ _ _ _ c.loop-at.invariant.0 c.loop-at-test.true _ (begun_sweepable _ _ _ c.close_from-first.ensures _ c.requires.sweepable)
-          (own_begun _ _ _ c.close_from-first.ensures _ c.requires.sweepable) (sized_same _ c.args.words.now _ (c.loop-at.invariant.0.same_length ∙ length-set c.args.words.now 0 c.close_from-first.result) c.requires.sized)).own_before)),
-      zeros_passed _ _ _ _ _ _ c.loop-at.invariant.0 c.loop-at-test.true _ _ c.stand_of-stand.ensures c.run_of.ensures _ _ rest (quiet_ahead _ c.args.words.now _ c.close_from-first.result _ _ _ c.loop-at.invariant.0 _ _ c.requires.quiet
-          (room_for _ _ _ _ _ _ c.loop-at.invariant.0 c.loop-at-test.true _ (begun_sweepable _ _ _ c.close_from-first.ensures _ c.requires.sweepable)
-          (own_begun _ _ _ c.close_from-first.ensures _ c.requires.sweepable) (sized_same _ c.args.words.now _ (c.loop-at.invariant.0.same_length ∙ length-set c.args.words.now 0 c.close_from-first.result) c.requires.sized)).own_before) _ _
+          (passed_over _ _ _ _ _ _ c.loop-at.invariant.0 c.loop-at-test.true _ _ c.stand_of-stand.ensures c.run_of.ensures _ _ rest (quiet_here t (goal.at.loop-at-preserved t c).In-loop-at)),
+      zeros_passed _ _ _ _ _ _ c.loop-at.invariant.0 c.loop-at-test.true _ _ c.stand_of-stand.ensures c.run_of.ensures _ _ rest (quiet_here t (goal.at.loop-at-preserved t c).In-loop-at) _ _
           here.visitable c.loop-at.invariant.1,
     )
 
