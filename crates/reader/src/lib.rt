@@ -40,7 +40,7 @@ fn read_by(
             place: 0,
         });
     }
-    let counts = store(expr, &mut labels, whole.count, records, classes)?;
+    let counts = store(expr, &mut labels[..whole.count], records, classes)?;
     place_records(expr, &mut labels, counts.records, syntax, records);
     Ok(counts)
 }

@@ -19,8 +19,10 @@ use tree::limits::SLOT_COUNT;
 use tree::refusal::{Refusal, Refused};
 
 // Stores the records and the class records of the tree with these labels: 8 where it has too many pieces, then 9 where
-// the records do not fit, then 15 where the class records do not. It is measured once, for all that.
-fn store_tree(
+// the records do not fit, then 15 where the class records do not. It is measured once, for all that. It has its own
+// frame, so that its arrays are not there while the readers go deep.
+#[inline(never)]
+pub fn store(
     expr: &[u8],
     labels: &mut [u16],
     records: &mut [u8],
@@ -50,24 +52,6 @@ fn store_tree(
     number_classes(labels);
     write_records(labels, &sizes, &opens, &cuts, records);
     Ok(counts)
-}
-
-// The same for the first `count` labels of the scratch. It has its own frame, so that its arrays are not there while
-// the readers go deep.
-#[inline(never)]
-pub fn store(
-    expr: &[u8],
-    labels: &mut [u16],
-    count: usize,
-    records: &mut [u8],
-    classes: &mut [u8],
-) -> Result<Counts, Refused>
-    requires inside { count ≤ length labels.old }
-    requires ready { LabelsToStore expr.now (take count labels.old) }
-    ensures { StoreAnswer expr.now (take count labels.old) records.old
-        classes.old records.new classes.new result }
-{
-    store_tree(expr, &mut labels[..count], records, classes)
 }
 
 // Reads the expression once more, for the places of its nodes, and puts them into the records: it was read before, so

@@ -31,10 +31,10 @@ returns-then-whole-gt-MOST_LABELS c = (
   refl,
 )
 
-pub store-requires-clause-ready : goal.store-requires-clause-ready
-store-requires-clause-ready c =
-    ready (tree_read (goal.at.store-requires-clause-ready c).In_ok-whole) c.if-whole-gt-MOST_LABELS.false
-    (within (goal.at.store-requires-clause-ready c).Else-whole-gt-MOST_LABELS)
+pub store-requires : goal.store-requires
+store-requires c =
+    ready (tree_read (goal.at.store-requires c).In_ok-whole) c.if-whole-gt-MOST_LABELS.false
+    (within (goal.at.store-requires c).Else-whole-gt-MOST_LABELS)
 
 pub returns-in_err-counts : goal.returns-in_err-counts
 returns-in_err-counts c =

@@ -1,10 +1,10 @@
--- `reader::store::store_tree` meets its contract: the tree is measured and counted; 8, then 9, then 15; else the class
+-- `reader::store::store` meets its contract: the tree is measured and counted; 8, then 9, then 15; else the class
 -- records are written by the places, the labels are numbered, and the records are written by what was measured.
 use Rattle.std.proofs.Common.{refl, arith}
 use Rattle.checker.specs.ClassStore.{labels_placed}
 use Rattle.checker.specs.Relabelled.{class_labels_le}
 use Rattle.reader.specs.LabelsStored.{no_room, no_class_room, postorder_numbered, measured_again}
-use Rattle.reader.proofs.store.store_tree.Goals as goal
+use Rattle.reader.proofs.store.store.Goals as goal
 
 pub returns-then-records-counts : goal.returns-then-records-counts
 returns-then-records-counts c =
