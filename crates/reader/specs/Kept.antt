@@ -29,7 +29,7 @@ use Rattle.reader.specs.Answer.{
   read_answered,
   records_after,
 }
-use Rattle.reader.specs.RefusalsTold.{number_tells}
+use Rattle.tree.specs.RefusalBack.{refusal_of, refusal_back}
 use Rattle.tree.specs.Refusing.{refusal_number}
 use Rattle.tree.specs.declared.refusal.Refusal.{Refusal}
 use Rattle.tree.specs.declared.refusal.Refused.{Refused}
@@ -43,7 +43,8 @@ read_same e f = rw (e, f)
 -- a refusal is known from its number and its place
 pub fault_same : (fault fault' : Refused) → refusal_number fault.refusal ≡ refusal_number fault'.refusal
     → fault.place ≡ fault'.place → fault ≡ fault'
-fault_same fault fault' e f = of_parts (number_tells fault.refusal fault'.refusal e) f
+fault_same fault fault' e f =
+    of_parts (sym (refusal_back fault.refusal) ∙ ap refusal_of e ∙ refusal_back fault'.refusal) f
   where
     of_parts : {refusal refusal' : Refusal} {place place' : ℕ} → refusal ≡ refusal' → place ≡ place'
         → ◌≡◌ {A = Refused} (record { refusal = refusal; place = place })

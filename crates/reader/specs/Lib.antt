@@ -1,7 +1,6 @@
 -- What reading an expression answers, and what it writes: the records of its tree and its class records.
 pub mod PlacesIn
 pub mod PlacesInLaws
-pub mod RefusalsTold
 pub mod Answer
 pub mod SecondAnswer
 pub mod Kept

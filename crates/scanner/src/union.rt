@@ -29,7 +29,8 @@ fn branch_begin(at: usize, place: usize) -> usize
     if place == at { at } else { place + 1 }
 }
 
-// Reads a union from a place on: the place of its node is its `|`.
+// Reads a union from a place on: the place of its node is its `|`. It is read as a catenation is; one function for both
+// would have to be told when a part is due, where it begins, who reads it, and its label.
 #[cycle(catenation_operand_union)]
 pub fn union(
     expr: &[u8],

@@ -1,8 +1,7 @@
 -- `signs::signs::signs` meets its contract.
-use Rattle.std.proofs.Common.{refl, ◌∙◌, arith}
+use Rattle.std.proofs.Common.{◌∙◌, arith}
 use Rattle.std.proofs.lemmas.Result.{err_from_is_err_and}
 use Rattle.operands.specs.Bytes.{syntax_of}
-use Rattle.operands.specs.Stopping.{at_end}
 use Rattle.operands.specs.Reading.{OneSign}
 use Rattle.signs.specs.OneSign.{breaks_there, all_read, one_more, found}
 use Rattle.signs.proofs.signs.signs.Goals as goal
@@ -13,20 +12,6 @@ one_read : (c : In_ok-part)
     → OneSign (syntax_of c.args.syntax) c.args.places c.args.expr.now c.args.begin c.loop-read.read.next
     c.loop-read.read.count c.loop-read.notes c.in_ok-part.part.next c.in_ok-part.part.count c.sign.new.notes
 one_read c = c.in_ok-part.ensures
-
-pub loop-read-init : goal.loop-read-init
-loop-read-init c =
-    (c.requires.within, c.requires.begun, c.requires.few, refl, λ depth. record { on = λ at start w. w })
-
-pub sign-requires-clause-room : goal.sign-requires-clause-room
-sign-requires-clause-room c =
-    record {
-      within = c.loop-read.invariant.0;
-      short = c.requires.short;
-      long = omega (arith, c.requires.long, c.loop-read.invariant.3);
-      begun = c.loop-read.invariant.1;
-      few = c.loop-read.invariant.2;
-    }
 
 pub returns-in_err-part : goal.returns-in_err-part
 returns-in_err-part c =
@@ -48,13 +33,6 @@ loop-read-preserved c =
       c.sign.auto.notes ∙ c.loop-read.invariant.3,
       one_more c.loop-read.invariant.4 o c.if-part-read.false,
     )
-
-pub returns-after-loop-read : goal.returns-after-loop-read
-returns-after-loop-read c =
-    record {
-      carries = c.loop-read.invariant.4;
-      stops = at_end (omega (arith, c.loop-read.invariant.0, c.loop-read-test.false));
-    }
 
 pub returns-then-part-read : goal.returns-then-part-read
 returns-then-part-read c =
