@@ -1,22 +1,8 @@
 -- The numbers that match and search give back, for each case of their answers.
-use Rattle.std.specs.Prelude.{ℕ, Bool, true, false}
-use Rattle.tree.specs.RefusalNumbers.{list_not_good, text_too_long, class_buffer_too_short}
-use Rattle.finder.specs.declared.Matched.{Matched}
-use Rattle.finder.specs.declared.Matched.TheVariants.{
-  Yes,
-  No,
-  NotGood as Match-not-good,
-  TooFewClasses as Match-too-few-classes,
-  TooLong as Match-too-long,
-}
-use Rattle.finder.specs.declared.Searched.{Searched}
-use Rattle.finder.specs.declared.Searched.TheVariants.{
-  Found,
-  Nothing,
-  NotGood as Search-not-good,
-  TooFewClasses as Search-too-few-classes,
-  TooLong as Search-too-long,
-}
+use Rattle.std.specs.Prelude.{ℕ, Bool, true, false, Option, None, Some, is_some, Result, Ok, Err}
+use Rattle.tree.specs.Refusing.{refusal_number}
+use Rattle.tree.specs.declared.refusal.Refusal.{Refusal}
+use Rattle.matching.specs.declared.part.Span.{Span}
 use Rattle.finder.specs.declared.numbers.FoundNumbers.{FoundNumbers}
 
 -- a refusal gives its number and place 0
@@ -32,25 +18,17 @@ abbrev pub finding : (start end : ℕ) → FoundNumbers
 finding start end = record { refusal = 0; place = 0; matched = true; start = start; end = end }
 
 -- the numbers of each answer of a match
-abbrev pub match_numbers : Matched → FoundNumbers
-match_numbers Yes = answering_match true
-match_numbers No = answering_match false
-match_numbers Match-not-good = refusing_match list_not_good
-match_numbers Match-too-few-classes = refusing_match class_buffer_too_short
-match_numbers Match-too-long = refusing_match text_too_long
+abbrev pub match_numbers : Result Bool Refusal → FoundNumbers
+match_numbers (Ok matched) = answering_match matched
+match_numbers (Err refusal) = refusing_match (refusal_number refusal)
 
 -- a match is a search of the whole text alone: yes where it is found
-abbrev pub as_match : Searched → Matched
-as_match (Found start end) = Yes
-as_match Nothing = No
-as_match Search-not-good = Match-not-good
-as_match Search-too-few-classes = Match-too-few-classes
-as_match Search-too-long = Match-too-long
+abbrev pub as_match : Result (Option Span) Refusal → Result Bool Refusal
+as_match (Ok found) = Ok (is_some found)
+as_match (Err refusal) = Err refusal
 
 -- the numbers of each answer of a search
-abbrev pub search_numbers : Searched → FoundNumbers
-search_numbers (Found start end) = finding start end
-search_numbers Nothing = answering_match false
-search_numbers Search-not-good = refusing_match list_not_good
-search_numbers Search-too-few-classes = refusing_match class_buffer_too_short
-search_numbers Search-too-long = refusing_match text_too_long
+abbrev pub search_numbers : Result (Option Span) Refusal → FoundNumbers
+search_numbers (Ok (Some found)) = finding found.start found.end
+search_numbers (Ok None) = answering_match false
+search_numbers (Err refusal) = refusing_match (refusal_number refusal)

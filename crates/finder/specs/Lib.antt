@@ -2,6 +2,7 @@
 -- First the definitions that the contracts rest on, then what follows from them.
 pub mod Answer
 pub mod Promise
+pub mod Finds
 pub mod Refusals
 mod SearchUnique
 pub mod Unique

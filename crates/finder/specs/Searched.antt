@@ -1,8 +1,7 @@
 -- Every text has a right answer, and it can be computed: the starts from the first on, for each the ends from the start
 -- on.
 use Prim.Native.Nat.{ℕ, zero, suc, ◌+◌, ◌-◌, ◌≤◌}
-use Rattle.std.specs.Prelude.{◌≡◌, Bool, true, ◌↔◌, List}
-use Rattle.std.proofs.Math.Option.{Option, none, some}
+use Rattle.std.specs.Prelude.{◌≡◌, Bool, true, ◌↔◌, List, Option, None, Some}
 use native.Mathlib.Omega.{arith}
 use Rattle.std.proofs.Math.ListN.{length}
 use Rattle.matching.specs.Found.{part, NoneBefore, SearchOutcome, at, nothing, Answers}
@@ -24,13 +23,13 @@ use Rattle.matching.specs.Progress.{
 
 -- the latest end among the n + 1 places from s on
 unfoldable pub latest_end : (List ℕ → Bool) → List ℕ → ℕ → ℕ → Option ℕ
-latest_end test text s zero = better (test (part s s text)) s none
+latest_end test text s zero = better (test (part s s text)) s None
 latest_end test text s (suc n) = better (test (part s (s + n + 1) text)) (s + n + 1) (latest_end test text s n)
 
 -- the answer where a part begins at s: with its latest end, or as it is from the next start on
 abbrev pub answer_at : ℕ → Option ℕ → SearchOutcome → SearchOutcome
-answer_at s none later = later
-answer_at s (some e) later = at s e
+answer_at s None later = later
+answer_at s (Some e) later = at s e
 
 -- the answer among the n starts from s on
 unfoldable pub answer_from : (List ℕ → Bool) → List ℕ → ℕ → ℕ → SearchOutcome
@@ -72,8 +71,8 @@ module _ (L : List ℕ → Type 0) (test : List ℕ → Bool) (exactly : (w : Li
     -- at one start: the answer there, or one from the next start on
     answer_settled : (s : ℕ) (best : Option ℕ) (later : SearchOutcome) → NoneBefore L text s → Furthest L text s best
         → (NoneBefore L text (s + 1) → Answers L text later) → Answers L text (answer_at s best later)
-    answer_settled s none later before settled go = go (settled_next L text s before settled)
-    answer_settled s (some e) later before settled go = settled_found L text s e before settled
+    answer_settled s None later before settled go = go (settled_next L text s before settled)
+    answer_settled s (Some e) later before settled go = settled_found L text s e before settled
 
     -- by induction on the starts that are left
     answers_from : (s n : ℕ) → s + n ≡ length text + 1 → NoneBefore L text s

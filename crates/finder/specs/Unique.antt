@@ -1,12 +1,14 @@
 -- What match and search promise leaves no choice: the numbers given back are determined, and with them the answer.
-use Rattle.std.specs.Prelude.{ℕ, ◌≡◌, refl, Bool, true, false, cond, ◌↔◌, List, eqb}
+use Rattle.std.specs.Prelude.{ℕ, ◌≡◌, refl, Bool, true, false, cond, ◌↔◌, List, Option, None, Some, Result, Ok, Err, eqb}
 use Rattle.std.proofs.Common.{arith, sym, ap, ◌∙◌, subst}
 use Rattle.std.proofs.Math.Logic.Iff
 use Rattle.language.specs.Tree.{Tree}
-use Rattle.tree.specs.RefusalNumbers.{list_not_good, text_too_long, class_buffer_too_short}
+use Rattle.tree.specs.RefusalBack.{refusal_of, refusal_back, some_number}
+use Rattle.tree.specs.declared.refusal.Refusal.{Refusal}
 use Rattle.tree.specs.Leaf.{Leaf, Matches}
 use Rattle.lists.specs.Readback.{good_unique}
 use Rattle.matching.specs.Found.{SearchOutcome, at, nothing}
+use Rattle.matching.specs.declared.part.Span.{Span}
 use Rattle.finder.specs.SearchUnique.{search_unique}
 use Rattle.finder.specs.Answer.{refusing_match, answering_match, finding, match_numbers, search_numbers}
 use Rattle.finder.specs.Promise.{
@@ -25,51 +27,25 @@ use Rattle.finder.specs.Promise.{
 }
 use Rattle.finder.specs.Refusals.{Answerable, reason_unique, too_few_classes_exactly, fine, refused}
 use Rattle.finder.specs.declared.numbers.FoundNumbers.{FoundNumbers}
-use Rattle.finder.specs.declared.Matched.{Matched}
-use Rattle.finder.specs.declared.Matched.TheVariants.{
-  Yes,
-  No,
-  NotGood as Match-not-good,
-  TooFewClasses as Match-too-few-classes,
-  TooLong as Match-too-long,
-}
-use Rattle.finder.specs.declared.Searched.{Searched}
-use Rattle.finder.specs.declared.Searched.TheVariants.{
-  Found as Found_at,
-  Nothing,
-  NotGood as Search-not-good,
-  TooFewClasses as Search-too-few-classes,
-  TooLong as Search-too-long,
-}
 
 -- the answer of a match, from its numbers
-abbrev matched_by : FoundNumbers → Matched
-matched_by n =
-    cond (eqb n.refusal list_not_good) Match-not-good
-    (cond (eqb n.refusal class_buffer_too_short) Match-too-few-classes
-    (cond (eqb n.refusal text_too_long) Match-too-long (cond n.matched Yes No)))
+abbrev matched_by : FoundNumbers → Result Bool Refusal
+matched_by n = cond (eqb n.refusal 0) (Ok n.matched) (Err (refusal_of n.refusal))
 
-matched_back : (r : Matched) → matched_by (match_numbers r) ≡ r
-matched_back Yes = refl
-matched_back No = refl
-matched_back Match-not-good = refl
-matched_back Match-too-few-classes = refl
-matched_back Match-too-long = refl
+matched_back : (r : Result Bool Refusal) → matched_by (match_numbers r) ≡ r
+matched_back (Ok matched) = refl
+matched_back (Err refusal) = rw (some_number refusal, refusal_back refusal)
 
 -- the answer of a search, from its numbers
-abbrev searched_by : FoundNumbers → Searched
+abbrev searched_by : FoundNumbers → Result (Option Span) Refusal
 searched_by n =
-    cond (eqb n.refusal list_not_good) Search-not-good
-    (cond (eqb n.refusal class_buffer_too_short) Search-too-few-classes
-    (cond (eqb n.refusal text_too_long) Search-too-long
-    (cond n.matched (Found_at n.start n.end) Nothing)))
+    cond (eqb n.refusal 0) (Ok (cond n.matched (Some (record { start = n.start; end = n.end })) None))
+    (Err (refusal_of n.refusal))
 
-searched_back : (r : Searched) → searched_by (search_numbers r) ≡ r
-searched_back (Found_at start end) = refl
-searched_back Nothing = refl
-searched_back Search-not-good = refl
-searched_back Search-too-few-classes = refl
-searched_back Search-too-long = refl
+searched_back : (r : Result (Option Span) Refusal) → searched_by (search_numbers r) ≡ r
+searched_back (Ok (Some found)) = refl
+searched_back (Ok None) = refl
+searched_back (Err refusal) = rw (some_number refusal, refusal_back refusal)
 
 -- two tests of one thing give the same
 pub same_test : (a b : Bool) → (a ≡ true) ↔ (b ≡ true) → a ≡ b
@@ -114,7 +90,7 @@ module _ (list classes text : List ℕ) where
       ap answering_match (same_test m n (Iff.trans p (Iff.symm q)))
 
   -- and are the same answer
-  pub match_answer_unique : (r s : Matched) → MatchAnswers list classes text (match_numbers r)
+  pub match_answer_unique : (r s : Result Bool Refusal) → MatchAnswers list classes text (match_numbers r)
       → MatchAnswers list classes text (match_numbers s) → r ≡ s
   match_answer_unique r s a b = sym (matched_back r) ∙ ap matched_by (match_unique a b) ∙ matched_back s
 
@@ -141,6 +117,6 @@ module _ (list classes text : List ℕ) where
   search_unique_numbers (search_nothing a) (search_nothing b) = refl
 
   -- and are the same answer
-  pub search_answer_unique : (r s : Searched) → SearchAnswers list classes text (search_numbers r)
+  pub search_answer_unique : (r s : Result (Option Span) Refusal) → SearchAnswers list classes text (search_numbers r)
       → SearchAnswers list classes text (search_numbers s) → r ≡ s
   search_answer_unique r s a b = sym (searched_back r) ∙ ap searched_by (search_unique_numbers a b) ∙ searched_back s

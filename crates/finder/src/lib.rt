@@ -1,167 +1,85 @@
-// Whole-text match and search over good lists.
+// Match and search by a record list and its class records: refusals, and what is found in the text.
 #![tactic(auto)]
 
 pub mod numbers;
 
-ghost use Rattle.std.specs.Prelude.{◌/◌, ◌≤◌, ◌<◌, ◌≡◌, true, false, length};
-ghost use Rattle.tree.specs.Limits.{few_slots, some_slots};
-ghost use Rattle.tree.specs.Layout.{record_size};
-ghost use Rattle.preparing.specs.Made.{PreparedList};
-ghost use Rattle.finder.specs.Answer.{as_match, match_numbers, search_numbers};
+ghost use Rattle.std.specs.Prelude.{◌*◌, ◌≤◌};
+ghost use Rattle.language.specs.Tree.{Tree};
+ghost use Rattle.tree.specs.Leaf.{Leaf};
+ghost use Rattle.tree.specs.Limits.{most_pieces};
+ghost use Rattle.tree.specs.Records.{Good, piece_count};
+ghost use Rattle.tables.specs.Plan.{row_words};
+ghost use Rattle.finder.specs.Answer.{match_numbers, search_numbers};
 ghost use Rattle.finder.specs.Promise.{MatchAnswers, SearchAnswers};
+ghost use Rattle.finder.specs.Finds.{FindAnswers};
 
-use deciding::good::Decided;
-use finding::find_part;
+use finding::{Sought, find_part};
 use matching::part::Span;
-use preparing::prepare_list;
+use preparing::prepare_for;
 use stepping::inner::{FEW_WORDS, SOME_WORDS};
 use tables::TABLE_WORDS;
-use tree::layout::{CLASS_RECORD_SIZE, RECORD_SIZE};
-use tree::limits::{FEW_SLOTS, LONGEST_TEXT, SLOT_COUNT, SOME_SLOTS};
+use tree::layout::RECORD_SIZE;
+use tree::limits::{FEW_SLOTS, LONGEST_TEXT, SOME_SLOTS};
+use tree::refusal::Refusal;
 
-// What a match answers.
-#[derive(Drop)]
-pub enum Matched {
-    // The whole text is in the language.
-    Yes,
-    No,
-    // The list is not good.
-    NotGood,
-    // Some class leaf has no record in the class buffer.
-    TooFewClasses,
-    // The text is over 65,536 bytes.
-    TooLong,
-}
-
-// What a search answers.
-#[derive(Drop)]
-pub enum Searched {
-    // The part of the text that was found: its start, and its end, the first byte after it.
-    Found { start: usize, end: usize },
-    // No part of the text is in the language.
-    Nothing,
-    // The list is not good.
-    NotGood,
-    // Some class leaf has no record in the class buffer.
-    TooFewClasses,
-    // The text is over 65,536 bytes.
-    TooLong,
-}
-
-// A search, or a match of the whole text where `whole` says so, by what was decided of the list, and by its table where
-// it is good.
-fn find_with(
+// In so many words for the list's rows, of its own: refuses a list that is not good, class leaves with no record, and a
+// text that is too long.
+fn find_in_rows<const WORDS: usize>(
     list: &[u8],
     classes: &[u8],
-    decided: Decided,
-    rows: &[u64],
+    slots: usize,
     text: &[u8],
-    whole: bool,
-) -> Searched
-    requires { PreparedList list.now decided rows.now }
-    ensures cases { whole ≡ true
-        → MatchAnswers list.now classes.now text.now (match_numbers (as_match result)) }
-    ensures search_answers { whole ≡ false
-        → SearchAnswers list.now classes.now text.now (search_numbers result) }
+    sought: Sought,
+) -> Result<Option<Span>, Refusal>
+    requires le_slots { 1 ≤ slots }
+    requires room { (t : Tree Leaf) → Good list.now t → row_words * piece_count t ≤ WORDS }
+    requires words_few { WORDS ≤ row_words * most_pieces }
+    ensures { FindAnswers list.now classes.now text.now sought result }
 {
-    let Decided::Good {
-        records: _,
-        pieces,
-        classes: leaves,
-    } = decided
-    else {
-        return Searched::NotGood;
-    };
-    if classes.len() / CLASS_RECORD_SIZE < leaves {
-        return Searched::TooFewClasses;
-    }
+    let mut rows = [0u64; WORDS];
+    let counts = prepare_for(list, classes, slots, &mut rows)?;
     if LONGEST_TEXT < text.len() {
-        return Searched::TooLong;
+        return Err(Refusal::TextTooLong);
     }
-    let part = find_part(rows, pieces, classes, text, whole);
-    match part {
-        Span::At { start, end } => Searched::Found { start, end },
-        Span::Nothing => Searched::Nothing,
-    }
-}
-
-// On a list of few records, in few rows.
-fn find_few(list: &[u8], classes: &[u8], text: &[u8], whole: bool) -> Searched
-    requires { length list.now / record_size < few_slots }
-    ensures cases { whole ≡ true
-        → MatchAnswers list.now classes.now text.now (match_numbers (as_match result)) }
-    ensures search_answers { whole ≡ false
-        → SearchAnswers list.now classes.now text.now (search_numbers result) }
-{
-    let mut rows = [0u64; FEW_WORDS];
-    let decided = prepare_list(list, FEW_SLOTS, &mut rows);
-    find_with(list, classes, decided, &rows, text, whole)
-}
-
-// On a longer one.
-fn find_some(list: &[u8], classes: &[u8], text: &[u8], whole: bool) -> Searched
-    requires { length list.now / record_size < some_slots }
-    ensures cases { whole ≡ true
-        → MatchAnswers list.now classes.now text.now (match_numbers (as_match result)) }
-    ensures search_answers { whole ≡ false
-        → SearchAnswers list.now classes.now text.now (search_numbers result) }
-{
-    let mut rows = [0u64; SOME_WORDS];
-    let decided = prepare_list(list, SOME_SLOTS, &mut rows);
-    find_with(list, classes, decided, &rows, text, whole)
-}
-
-// On a list of any length.
-fn find_many(list: &[u8], classes: &[u8], text: &[u8], whole: bool) -> Searched
-    ensures cases { whole ≡ true
-        → MatchAnswers list.now classes.now text.now (match_numbers (as_match result)) }
-    ensures search_answers { whole ≡ false
-        → SearchAnswers list.now classes.now text.now (search_numbers result) }
-{
-    let mut rows = [0u64; TABLE_WORDS];
-    let decided = prepare_list(list, SLOT_COUNT, &mut rows);
-    find_with(list, classes, decided, &rows, text, whole)
+    Ok(find_part(&rows, counts.pieces, classes, text, sought))
 }
 
 // In the fewest rows that are enough, by the number of the records: most of what a short list costs is setting arrays
 // to 0. It calls itself with more slots, so that each size has a stack frame of its own.
-fn find(list: &[u8], classes: &[u8], slots: usize, text: &[u8], whole: bool) -> Searched
+fn find(
+    list: &[u8],
+    classes: &[u8],
+    slots: usize,
+    text: &[u8],
+    sought: Sought,
+) -> Result<Option<Span>, Refusal>
     requires { 1 ≤ slots }
-    ensures cases { whole ≡ true
-        → MatchAnswers list.now classes.now text.now (match_numbers (as_match result)) }
-    ensures search_answers { whole ≡ false
-        → SearchAnswers list.now classes.now text.now (search_numbers result) }
+    ensures { FindAnswers list.now classes.now text.now sought result }
 {
     if slots <= list.len() / RECORD_SIZE {
-        return find(list, classes, 4 * slots, text, whole);
+        return find(list, classes, 4 * slots, text, sought);
     }
     if slots <= FEW_SLOTS {
-        return find_few(list, classes, text, whole);
+        return find_in_rows::<FEW_WORDS>(list, classes, slots, text, sought);
     }
     if slots <= SOME_SLOTS {
-        return find_some(list, classes, text, whole);
+        return find_in_rows::<SOME_WORDS>(list, classes, slots, text, sought);
     }
-    find_many(list, classes, text, whole)
+    find_in_rows::<TABLE_WORDS>(list, classes, slots, text, sought)
 }
 
 // Whether the whole text is in the language of the list's tree.
-pub fn is_match(list: &[u8], classes: &[u8], text: &[u8]) -> Matched
+pub fn is_match(list: &[u8], classes: &[u8], text: &[u8]) -> Result<bool, Refusal>
     ensures { MatchAnswers list.now classes.now text.now (match_numbers result) }
 {
-    let found = find(list, classes, FEW_SLOTS, text, true);
-    match found {
-        Searched::Found { start: _, end: _ } => Matched::Yes,
-        Searched::Nothing => Matched::No,
-        Searched::NotGood => Matched::NotGood,
-        Searched::TooFewClasses => Matched::TooFewClasses,
-        Searched::TooLong => Matched::TooLong,
-    }
+    let found = find(list, classes, FEW_SLOTS, text, Sought::WholeText)?;
+    Ok(found.is_some())
 }
 
 // The part of the text that starts earliest and then ends furthest, of those in the language of the list's tree.
-pub fn search(list: &[u8], classes: &[u8], text: &[u8]) -> Searched
+pub fn search(list: &[u8], classes: &[u8], text: &[u8]) -> Result<Option<Span>, Refusal>
     ensures { SearchAnswers list.now classes.now text.now
         (search_numbers result) }
 {
-    find(list, classes, FEW_SLOTS, text, false)
+    find(list, classes, FEW_SLOTS, text, Sought::FirstPart)
 }

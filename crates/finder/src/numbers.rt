@@ -1,9 +1,10 @@
 // The numbers that a match and a search give back.
 ghost use Rattle.std.specs.Prelude.{◌≡◌};
+ghost use Rattle.tree.specs.Refusing.{refusal_number};
 ghost use Rattle.finder.specs.Answer.{refusing_match, answering_match, match_numbers, search_numbers};
 
-use crate::{Matched, Searched};
-use tree::refusal_numbers::{CLASS_BUFFER_TOO_SHORT, LIST_NOT_GOOD, TEXT_TOO_LONG};
+use matching::part::Span;
+use tree::refusal::Refusal;
 
 // The refusal's number, 0 for none, and its place; whether the text matches, or a part of it; that part's start and
 // end.
@@ -16,11 +17,11 @@ pub struct FoundNumbers {
     pub end: usize,
 }
 
-fn refusing(number: u8) -> FoundNumbers
-    ensures { result ≡ refusing_match number }
+fn refusing(refusal: Refusal) -> FoundNumbers
+    ensures { result ≡ refusing_match (refusal_number refusal) }
 {
     FoundNumbers {
-        refusal: number,
+        refusal: refusal.number(),
         place: 0,
         matched: false,
         start: 0,
@@ -41,33 +42,26 @@ fn answering(matched: bool) -> FoundNumbers
 }
 
 // The numbers of a match's answer.
-pub fn match_numbers(answer: Matched) -> FoundNumbers
+pub fn match_numbers(answer: Result<bool, Refusal>) -> FoundNumbers
     ensures { result ≡ match_numbers answer }
 {
     match answer {
-        Matched::Yes => answering(true),
-        Matched::No => answering(false),
-        Matched::NotGood => refusing(LIST_NOT_GOOD),
-        Matched::TooFewClasses => refusing(CLASS_BUFFER_TOO_SHORT),
-        Matched::TooLong => refusing(TEXT_TOO_LONG),
+        Ok(matched) => answering(matched),
+        Err(refusal) => refusing(refusal),
     }
 }
 
 // The numbers of a search's answer.
-pub fn search_numbers(answer: Searched) -> FoundNumbers
+pub fn search_numbers(answer: Result<Option<Span>, Refusal>) -> FoundNumbers
     ensures { result ≡ search_numbers answer }
 {
     match answer {
-        Searched::Found { start, end } => FoundNumbers {
-            refusal: 0,
-            place: 0,
-            matched: true,
+        Ok(Some(Span { start, end })) => FoundNumbers {
             start,
             end,
+            ..answering(true)
         },
-        Searched::Nothing => answering(false),
-        Searched::NotGood => refusing(LIST_NOT_GOOD),
-        Searched::TooFewClasses => refusing(CLASS_BUFFER_TOO_SHORT),
-        Searched::TooLong => refusing(TEXT_TOO_LONG),
+        Ok(None) => answering(false),
+        Err(refusal) => refusing(refusal),
     }
 }
