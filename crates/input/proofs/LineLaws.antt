@@ -72,6 +72,29 @@ lines_count (b ∷ rest) = go (eqb b 10) (begins_end b rest) (lines rest) (lines
     go false false [] h = omega arith
     go false false (line ∷ later) h = omega arith
 
+-- no line has more than so many bytes
+abbrev pub NoneLonger : ℕ → List (List ℕ) → Type 0
+NoneLonger most [] = Unit {0}
+NoneLonger most (line ∷ later) = (length line ≤ most) × NoneLonger most later
+
+-- no line is longer than the bytes
+pub lines_within : (input : List ℕ) → NoneLonger (length input) (lines input)
+unfolding lines
+lines_within [] = tt
+lines_within (b ∷ rest) = go (eqb b 10) (begins_end b rest) (lines rest) (lines_within rest)
+  where
+    longer : (later : List (List ℕ)) → NoneLonger (length rest) later
+        → NoneLonger (suc (length rest)) later
+    longer [] each = tt
+    longer (line ∷ later) each = (omega (arith, each.0), longer later each.1)
+
+    go : (ten begins : Bool) (later : List (List ℕ)) → NoneLonger (length rest) later
+        → NoneLonger (suc (length rest)) (lines_from b ten begins later)
+    go true begins later each = (omega arith, longer later each)
+    go false true later each = longer later each
+    go false false [] each = (omega arith, tt)
+    go false false (line ∷ later) each = (omega (arith, each.0), longer later each.1)
+
 -- the texts take a byte each, and the expression one more than it has, but where it is the only line
 pub texts_count : (input : List ℕ) → length (texts (lines input))
     ≤ length input - (length (expression (lines input)) + 1)

@@ -1,5 +1,4 @@
 -- A flag as a number.
-use Prim.Native.Nat.{ℕ}
 use mathlib.Core.Path.{◌≡◌, refl}
 use mathlib.Core.Bool.{Bool, true, false, cond}
 use mir.Val.{bool_byte}

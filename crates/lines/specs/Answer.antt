@@ -1,8 +1,8 @@
 -- The numbers that matching the lines of a text gives back: one definition for each case of its answer.
-use Rattle.std.specs.Prelude.{ℕ}
-use Rattle.tree.specs.RefusalNumbers.{list_not_good, text_too_long, class_buffer_too_short, buffer_too_short}
-use Rattle.lines.specs.declared.LinesAnswer.{LinesAnswer}
-use Rattle.lines.specs.declared.LinesAnswer.TheVariants.{Answered, NotGood, TooFewClasses, TooLong, NoRoom}
+use Rattle.std.specs.Prelude.{ℕ, Result, Ok, Err}
+use Rattle.tree.specs.Refusing.{refusal_number}
+use Rattle.tree.specs.declared.refusal.Refusal.{Refusal}
+use Rattle.tree.specs.declared.counted.LineCounts.{LineCounts}
 
 -- the refusal's number, 0 for none, and its place; how many lines there are, and how many of them are yes
 pub record LinesNumbers : Type 0 where
@@ -20,9 +20,6 @@ abbrev pub counting_lines : (line_count yes_lines : ℕ) → LinesNumbers
 counting_lines line_count yes_lines = record { refusal = 0; place = 0; line_count = line_count; yes_lines = yes_lines }
 
 -- the numbers that each case of an answer gives back
-abbrev pub lines_numbers : LinesAnswer → LinesNumbers
-lines_numbers (Answered line_count yes_lines) = counting_lines line_count yes_lines
-lines_numbers NotGood = refusing_lines list_not_good
-lines_numbers TooFewClasses = refusing_lines class_buffer_too_short
-lines_numbers TooLong = refusing_lines text_too_long
-lines_numbers NoRoom = refusing_lines buffer_too_short
+abbrev pub lines_numbers : Result LineCounts Refusal → LinesNumbers
+lines_numbers (Ok counts) = counting_lines counts.lines counts.yes
+lines_numbers (Err refusal) = refusing_lines (refusal_number refusal)

@@ -1,24 +1,20 @@
 -- `lines::room::has_room` meets its contract: there are no more lines than bytes, and else they are counted.
-use Prim.Native.Nat.{ℕ, ◌≤◌}
-use native.Mathlib.Omega.{arith}
-use lib.Dec.{leb}
-use borrow.Author.Tests.{leb-true, leb-false}
-use borrow.Author.Rules.{rules}
-use Rattle.closing.specs.BitsOfWords.Bits.{Tells, told_yes}
+use Rattle.std.proofs.Common.{ℕ, ◌≤◌, List, length, leb, arith, ap, inl, leb-false}
+use Rattle.closing.specs.BitsOfWords.Bits.{Tells}
+use Rattle.input.specs.Lines.{lines}
 use Rattle.input.proofs.LineLaws.{lines_count}
-use Rattle.lines.proofs.room.has_room.Reads as reads
-use Rattle.lines.proofs.room.has_room.Lts as lts
 use Rattle.lines.proofs.room.has_room.Goals as goal
 
--- what a test of order tells
-told_order : (m n : ℕ) → Tells (m ≤ n) (leb m n)
-told_order m n = record { holds = leb-true m n; fails = λ e h. omega (arith, leb-false m n e) }
+-- a byte for each byte of the text is enough
+no_more_lines : (text : List ℕ) (room : ℕ) → length text ≤ room
+    → Tells (length (lines text) ≤ room) (leb (length text) room)
+no_more_lines text room h = record {
+  holds = λ e. omega (arith, h, lines_count text);
+  fails = λ e k. absurd (omega (arith, h, leb-false (length text) room e));
+}
+
+pub count-requires-clause-fits : goal.count-requires-clause-fits
+count-requires-clause-fits c = inl (omega (arith, ap length c.of.ensures, lines_count c.args.text.now))
 
 pub returns-then-text-room : goal.returns-then-text-room
-returns-then-text-room c =
-    told_yes (omega (arith, c.if-text-room.true, lines_count c.args.text.now))
-
-pub returns : goal.returns
-returns c =
-    rw (← c.count_lines.ensures)
-    (told_order c.count_lines.result c.args.room)
+returns-then-text-room c = no_more_lines c.args.text.now c.args.room c.if-text-room.true
