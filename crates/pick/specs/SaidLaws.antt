@@ -17,12 +17,10 @@ use Rattle.checker.specs.Checked.{
   checked_for,
   checked,
   counted_numbers,
+  counted_as,
 }
-use Rattle.checker.specs.declared.answer.CountedAnswer.TheVariants.{Counted}
-use Rattle.matching.specs.Found.{part}
 use Rattle.printing.specs.OutputLimits.{longest_input}
-use Rattle.input.specs.Ends.{Ends}
-use Rattle.input.proofs.EndLaws.{first_line}
+use Rattle.input.specs.Lines.{lines, expression}
 use Rattle.reporting.specs.Print.{refusing_many_pieces}
 use Rattle.showing.specs.Refusal.{most_shown, refusal_lines, lent_refusal}
 use Rattle.pick.specs.Said.{said_of, said_of_expression, too_long_said, said}
@@ -49,7 +47,7 @@ said_refused bytes number place e = ap (said_of bytes) (refused_for number place
 
 -- a tree that is counted has at most 128 pieces
 counted_tree : (bytes : List ℕ) (t : Tree Atom) (records pieces classes : ℕ) (many : Bool)
-    → counted_numbers (Counted records pieces classes) ≡ cond many (refusing_counts too_many_pieces 0) (counting t)
+    → counted_numbers (counted_as records pieces classes) ≡ cond many (refusing_counts too_many_pieces 0) (counting t)
     → said_of bytes (cond many (refused too_many_pieces 0) (tree (recorded t))) ≡ []
 counted_tree bytes t records pieces classes true e =
     absurd (omega (arith, ap (λ (n : CountedNumbers). n.refusal) e))
@@ -57,7 +55,7 @@ counted_tree bytes t records pieces classes false e = refl
 
 counted_for : (bytes : List ℕ) (records pieces classes : ℕ) (outcome : Outcome (Tree Atom))
     → expanded first bytes ≡ outcome
-    → counted_numbers (Counted records pieces classes) ≡ checked_for outcome
+    → counted_numbers (counted_as records pieces classes) ≡ checked_for outcome
     → said_of bytes (refusing_many_pieces (drawn outcome)) ≡ []
 counted_for bytes records pieces classes (refused number place) scans e =
     absurd (omega (
@@ -69,7 +67,7 @@ counted_for bytes records pieces classes (tree t) scans e = counted_tree bytes t
 
 -- where a check counts, nothing is said
 pub said_counted : (bytes : List ℕ) (records pieces classes : ℕ)
-    → counted_numbers (Counted records pieces classes) ≡ checked first bytes → said_of_expression bytes ≡ []
+    → counted_numbers (counted_as records pieces classes) ≡ checked first bytes → said_of_expression bytes ≡ []
 said_counted bytes records pieces classes e = counted_for bytes records pieces classes (expanded first bytes) refl e
 
 -- a buffer that is long enough gets all lines of a refusal
@@ -83,7 +81,7 @@ unfolding said
 said_long input h = rw (lt-ltb longest_input (length input) h)
 
 -- of another what is said of its first line
-pub said_short : (input : List ℕ) (end : ℕ) → length input ≤ longest_input → Ends input 0 end
-    → said input ≡ said_of_expression (part 0 end input)
+pub said_short : (input : List ℕ) → length input ≤ longest_input
+    → said input ≡ said_of_expression (expression (lines input))
 unfolding said
-said_short input end h ends = rw (le-ltb longest_input (length input) h, (first_line input end ends).is_expression)
+said_short input h = rw (le-ltb longest_input (length input) h)

@@ -8,26 +8,25 @@ ghost use Rattle.showing.specs.Refusal.{most_shown};
 ghost use Rattle.pick.specs.Space.{Space};
 ghost use Rattle.pick.specs.Said.{said_of_expression, said};
 
-use checker::{CountedAnswer, check};
-use input::line::line_end;
-use picker::{LONGEST_INPUT, MOST_OUTPUT, Picked};
-use printing::print::put;
+use checker::check;
+use input::line::Lines;
+use picker::{LONGEST_INPUT, MOST_OUTPUT};
+use printing::print::Printer;
 use showing::{MOST_SHOWN, refusal};
 use std::alloc::Global;
 use std::io::Read;
 use std::process::ExitCode;
-use streams::{Input, fail, read_input};
+use streams::{fail, read_input};
 
 // Puts what is said of an expression into a buffer: where and why it is refused, nothing where it is not.
 fn put_refusal(expression: &[u8], out: &mut [u8]) -> usize
     requires room { most_shown ≤ length out.old }
     ensures { Prints out.old 0 (said_of_expression expression.now) out.new result }
 {
-    let answer = check(expression);
-    let CountedAnswer::Refused { number, place } = answer else {
-        return 0;
-    };
-    refusal(expression, number, place, out)
+    match check(expression) {
+        Ok(_) => 0,
+        Err(refused) => refusal(expression, refused, out),
+    }
 }
 
 // Puts what is said of an input into a buffer.
@@ -36,10 +35,12 @@ fn put_said(input: &[u8], out: &mut [u8]) -> usize
     ensures { Prints out.old 0 (said input.now) out.new result }
 {
     if input.len() > LONGEST_INPUT {
-        return put(out, 0, b"refused: the input has more than 65,536 bytes\n");
+        let mut printer = Printer::new(out);
+        printer.put(b"refused: the input has more than 65,536 bytes\n");
+        return printer.at;
     }
-    let end = line_end(input, 0);
-    put_refusal(&input[..end], out)
+    let expression = Lines::of(input).next().unwrap_or(b"");
+    put_refusal(expression, out)
 }
 
 // Says on standard error why an input is refused.
@@ -57,8 +58,7 @@ fn write_output(
     input: &[u8],
     output: &mut [u8],
 ) -> ExitCode {
-    let picked = picker::pick(input, output);
-    let Picked::Written { length } = picked else {
+    let Ok(length) = picker::pick(input, output) else {
         return ExitCode::SUCCESS;
     };
     if let Err(error) = stdout.write_all(&output[..length]) {
@@ -80,8 +80,8 @@ fn run(
     requires space { Space input.old }
 {
     match read_input(stdin, input) {
-        Input::Read { count } => write_output(stdout, stderr, alloc, &input[..count], output),
-        Input::Failed { error } => fail(stderr, alloc, "standard input", error),
+        Ok(count) => write_output(stdout, stderr, alloc, &input[..count], output),
+        Err(error) => fail(stderr, alloc, "standard input", error),
     }
 }
 

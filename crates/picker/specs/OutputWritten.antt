@@ -1,14 +1,13 @@
 -- An output printed at the front of a buffer is what is promised, and lies within the buffer.
-use Rattle.std.specs.Prelude.{ℕ, ◌≤◌, ◌≡◌, List, [], ◌++◌, length, drop}
+use Rattle.std.specs.Prelude.{ℕ, ◌≤◌, ◌≡◌, Result, Ok, List, [], ◌++◌, length, drop}
 use Rattle.std.proofs.Common.{sym, ap, ◌∙◌, subst, arith}
+use Rattle.tree.specs.declared.refusal.Refusal.{Refusal}
 use Rattle.finder.specs.Decide.{matches}
 use Rattle.printing.specs.OutputLimits.{most_output}
 use Rattle.reporting.specs.Print.{picked}
 use Rattle.reporting.specs.OutputBound.{output_length}
 use Rattle.printing.specs.Printing.{Prints, printed}
 use Rattle.picker.specs.Promise.{Wrote, Picks}
-use Rattle.picker.specs.declared.Picked.{Picked}
-use Rattle.picker.specs.declared.Picked.TheVariants.{Written}
 
 -- an output printed at the front is all that is promised
 pub wrote : {input before after : List ℕ} {size : ℕ} → most_output ≤ length before
@@ -24,8 +23,8 @@ wrote {input} {before} {after} {size} room p =
     }
 
 -- where the output was written, it lies within the buffer
-pub written_within : (input before after : List ℕ) (r : Picked) (size : ℕ) → Picks input before after r
-    → r ≡ Written size → size ≤ length before
+pub written_within : (input before after : List ℕ) (r : Result ℕ Refusal) (size : ℕ) → Picks input before after r
+    → r ≡ Ok size → size ≤ length before
 written_within input before after r size p e =
     let w : Wrote input before after size = subst (Picks input before after) e p in
     omega (arith, w, output_length (matches []) input)

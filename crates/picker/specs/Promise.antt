@@ -1,9 +1,9 @@
 -- What `pick` promises of a lent buffer: every byte of it.
-use Rattle.std.specs.Prelude.{ℕ, ◌≤◌, ◌<◌, ◌≡◌, List, ◌++◌, length, drop}
+use Rattle.std.specs.Prelude.{ℕ, ◌≤◌, ◌<◌, ◌≡◌, Result, Ok, Err, List, ◌++◌, length, drop}
+use Rattle.tree.specs.declared.refusal.Refusal.{Refusal}
+use Rattle.tree.specs.declared.refusal.Refusal.TheVariants.{BufferTooShort}
 use Rattle.printing.specs.OutputLimits.{most_output}
 use Rattle.reporting.specs.Print.{picked}
-use Rattle.picker.specs.declared.Picked.{Picked}
-use Rattle.picker.specs.declared.Picked.TheVariants.{Written, NoRoom}
 
 -- the output stands at the front of the buffer, and what stood after it is kept
 pub record Wrote (input before after : List ℕ) (size : ℕ) : Type 0 where
@@ -17,6 +17,6 @@ pub record HasNoRoom (before after : List ℕ) : Type 0 where
   pub kept : after ≡ before
 
 -- what each answer says
-abbrev pub Picks : (input before after : List ℕ) → Picked → Type 0
-Picks input before after (Written size) = Wrote input before after size
-Picks input before after NoRoom = HasNoRoom before after
+abbrev pub Picks : (input before after : List ℕ) → Result ℕ Refusal → Type 0
+Picks input before after (Ok size) = Wrote input before after size
+Picks input before after (Err refusal) = (refusal ≡ BufferTooShort) × HasNoRoom before after

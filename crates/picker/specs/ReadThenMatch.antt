@@ -19,8 +19,8 @@ use Rattle.operands.specs.Agree.{written_counted}
 use Rattle.operands.proofs.Agree.{grammar_unique}
 use Rattle.checker.specs.Drawn.{recorded, classes_of, classes_in, MatchesSigns}
 use Rattle.classes.specs.ClassRecord.{encode_classes}
-use Rattle.reader.specs.Answer.{read_numbers, read_answered, records_after}
-use Rattle.checker.specs.Checked.{counted_numbers}
+use Rattle.reader.specs.Answer.{read_numbers, read_as, read_answered, records_after}
+use Rattle.checker.specs.Checked.{counted_numbers, counted_as}
 use Rattle.reader.specs.SecondAnswer.{second_answered, second_records_after, second_classes_after}
 use Rattle.classes.specs.ClassRecordLaws.{encode_classes_length}
 use Rattle.checker.specs.DrawnLaws.{first_has_no_class, drawn_tree}
@@ -30,8 +30,6 @@ use Rattle.checker.proofs.SameLanguage.{same_as_signs}
 use Rattle.reader.specs.Kept.{kept}
 use Rattle.reader.specs.SecondKept.{SecondKept}
 use Rattle.reader.proofs.SecondKept.{second_kept}
-use Rattle.reader.specs.declared.answer.ReadAnswer.TheVariants.{Read}
-use Rattle.checker.specs.declared.answer.CountedAnswer.TheVariants.{Counted}
 use Rattle.marks.specs.Promise.{Classed}
 use Rattle.matching.specs.Found.{PartInLanguage, Found, NothingFound}
 use Rattle.finder.specs.Answer.{answering_match, finding}
@@ -44,13 +42,13 @@ InExpression syntax bytes text = (s : SignedTree Atom) × Written syntax bytes s
 
 -- `read` answered that the expression's records were written
 pub record Accepted (bytes before after : List ℕ) (records pieces : ℕ) : Type 0 where
-  pub answer : read_numbers (Read records pieces) ≡ read_answered bytes (length before)
+  pub answer : read_numbers (read_as records pieces) ≡ read_answered bytes (length before)
   pub buffer : after ≡ records_after bytes before
 
 -- `read_second` answered that the expression's records and classes were written
 pub record AcceptedSecond (bytes before classes-before after classes-after : List ℕ) (records pieces classes : ℕ) :
     Type 0 where
-  pub answer : counted_numbers (Counted records pieces classes)
+  pub answer : counted_numbers (counted_as records pieces classes)
       ≡ second_answered bytes (length before) (length classes-before)
   pub buffer : after ≡ second_records_after bytes before classes-before
   pub class_buffer : classes-after ≡ second_classes_after bytes before classes-before

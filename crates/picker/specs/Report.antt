@@ -1,5 +1,5 @@
 -- From what reading the first line answers to what is reported for the input.
-use Rattle.std.specs.Prelude.{ℕ, ◌+◌, ◌*◌, ◌-◌, ◌≤◌, ◌<◌, ◌≡◌, refl, Bool, true, false, cond, List, [], length, drop, ltb}
+use Rattle.std.specs.Prelude.{ℕ, suc, ◌*◌, ◌≤◌, ◌<◌, ◌≡◌, refl, Bool, true, false, cond, List, [], ◌∷◌, length, ltb, eqb}
 use Rattle.std.proofs.Common.{ap, arith, ltb-true, ltb-false, le-ltb}
 use Rattle.language.specs.Tree.{Tree, nodes}
 use Rattle.tree.specs.RefusalNumbers.{too_many_pieces, buffer_too_short}
@@ -16,16 +16,10 @@ use Rattle.checker.specs.Drawn.{drawn}
 use Rattle.checker.specs.DrawnLaws.{first_drawn_size, first_drawn_refusal}
 use Rattle.reader.specs.Answer.{ReadNumbers, refusing_read, reading, answer_for, read_answered as answers}
 use Rattle.reader.specs.Kept.{Kept}
-use Rattle.matching.specs.Found.{part}
-use Rattle.finder.specs.Decide.{matches}
-use Rattle.input.specs.Lines.{lines, expression, texts}
+use Rattle.input.specs.Lines.{in_line, begins_end, lines, expression, texts}
 use Rattle.input.proofs.LineLaws.{texts_count}
-use Rattle.input.specs.Ends.{Ends, after_end}
-use Rattle.input.proofs.EndLaws.{after_inside, first_line}
 use Rattle.printing.specs.OutputLimits.{longest_input, most_output}
-use Rattle.printing.specs.ReportLines.{refusal_line}
-use Rattle.reporting.specs.Print.{refusing_many_pieces, reading_outcome, text_lines, reported}
-use Rattle.printing.specs.Printing.{Prints}
+use Rattle.reporting.specs.Print.{refusing_many_pieces, reading_outcome}
 use Rattle.picker.specs.Loop.{PrintSpace}
 
 -- reading refused the expression: that is its outcome, by a small number at a small place
@@ -85,36 +79,27 @@ pub read_outcome : {bytes before after : List ℕ} {records pieces : ℕ} (k : K
     → reading_outcome bytes ≡ tree k.read
 read_outcome k = rw (k.scans, le-ltb most_pieces (piece_count k.read) k.good.few)
 
-module _ (input : List ℕ) (end : ℕ) (ends : Ends input 0 end) where
-  -- the line of a refusal is what is reported
-  pub reports_refusal : {number place : ℕ} {before out : List ℕ} {size : ℕ}
-      → RefusalRead (part 0 end input) number place
-      → Prints before 0 (refusal_line number place) out size
-      → Prints before 0 (reported (matches []) (reading_outcome (expression (lines input))) (texts (lines input))) out
-      size
-  reports_refusal t p = rw ((first_line input end ends).is_expression, t.outcome) p
+-- the first line is not longer than the input
+pub expression_short : (input : List ℕ) → length (expression (lines input)) ≤ length input
+unfolding lines
+expression_short [] = omega arith
+expression_short (b ∷ rest) = go (eqb b 10) (begins_end b rest) (lines rest) (expression_short rest)
+  where
+    go : (ten begins : Bool) (later : List (List ℕ)) → length (expression later) ≤ length rest
+        → length (expression (cond ten ([] ∷ later) (cond begins later (in_line b later)))) ≤ suc (length rest)
+    go true begins later h = omega arith
+    go false true later h = omega arith
+    go false false [] h = omega arith
+    go false false (line ∷ later) h = omega arith
 
-  -- the lines of the texts and the last line are what is reported
-  pub reports_texts : {t : Tree Leaf} {before out : List ℕ} {size : ℕ} → reading_outcome (part 0 end input) ≡ tree t
-      → Prints before 0 (text_lines (matches []) t 0 0 (lines (drop (after_end input end) input))) out size
-      → Prints before 0 (reported (matches []) (reading_outcome (expression (lines input))) (texts (lines input))) out
-      size
-  reports_texts outcome p = rw ((first_line input end ends).is_expression, outcome, (first_line input end ends).are_texts)
-      p
-
-  -- an expression that is read has a byte, and an end where a text follows: so there are at most 65,534 texts
-  pub texts_space : {before after-reading out : List ℕ} {records pieces : ℕ} → length input ≤ longest_input
-      → most_output ≤ length out → Kept (part 0 end input) before after-reading records pieces
-      → PrintSpace input (after_end input end) 0 0 0 out
-  texts_space short room k =
-      let line = first_line input end ends in
-      let long = first_drawn_size (part 0 end input) k.read k.scans in
-      let count : length (lines (drop (after_end input end) input)) ≤ length input - (length (part 0 end input) + 1) =
-      rw (line.is_expression, line.are_texts) at (texts_count input) in
-      record {
-        inside = after_inside input end ends.inside;
-        ranked = omega arith;
-        few = omega arith;
-        enough =
-            omega (arith, long, nodes_positive k.read);
-      }
+-- an expression that is read has a byte, and an end where a text follows: so there are at most 65,534 texts
+pub texts_space : (input bytes : List ℕ) {before after-reading : List ℕ} {records pieces room : ℕ}
+    → expression (lines input) ≡ bytes → length input ≤ longest_input → most_output ≤ room
+    → Kept bytes before after-reading records pieces → PrintSpace (texts (lines input)) room
+texts_space input bytes e short room k =
+    let long = first_drawn_size bytes k.read k.scans in
+    let same = ap length e in
+    record {
+      few = omega (arith, texts_count input);
+      enough = omega (arith, texts_count input, same, long, nodes_positive k.read);
+    }

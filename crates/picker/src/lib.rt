@@ -11,28 +11,20 @@ ghost use Rattle.reporting.specs.Print.{reading_outcome, reported, picked};
 ghost use Rattle.printing.specs.Printing.{Prints};
 ghost use Rattle.picker.specs.Promise.{Picks};
 
-use input::line::{line_end, next_line};
-use printing::print::put;
-use printing::report::refusal_line;
-use reader::{ReadAnswer, read};
+use input::line::Lines;
+use printing::print::Printer;
+use printing::report::{refusal_line, too_long_line};
+use reader::read;
 use texts::list_texts;
 use tree::layout::RECORD_SIZE;
 use tree::limits::MOST_RECORDS;
+use tree::refusal::Refusal;
 
 // The most bytes that an input may have.
 pub const LONGEST_INPUT: usize = 65536;
 
 // The most bytes that the output can have.
 pub const MOST_OUTPUT: usize = 1048575;
-
-// What picking answers.
-#[derive(Drop)]
-pub enum Picked {
-    // The output stands in the buffer: how many bytes it has.
-    Written { length: usize },
-    // The buffer is shorter than the longest output.
-    NoRoom,
-}
 
 // Prints what is reported for an input: the expression is read once, and its tables are made once for all texts.
 fn report_lines(input: &[u8], out: &mut [u8]) -> usize
@@ -43,29 +35,32 @@ fn report_lines(input: &[u8], out: &mut [u8]) -> usize
         (texts (lines input.now)))
         out.new result }
 {
-    let end = line_end(input, 0);
+    let mut lines = Lines::of(input);
+    let expression = lines.next().unwrap_or(b"");
     let mut list = [0u8; RECORD_SIZE * MOST_RECORDS];
-    let answer = read(&input[..end], &mut list);
-    match answer {
-        ReadAnswer::Refused { number, place } => refusal_line(out, 0, number, place),
-        ReadAnswer::Read { records, pieces: _ } => {
-            let start = next_line(input, end);
-            list_texts(&list[..RECORD_SIZE * records], input, start, out)
+    match read(expression, &mut list) {
+        Ok(read) => {
+            let bytes = input.len() - expression.len();
+            list_texts(&list[..RECORD_SIZE * read.records], bytes, lines, out)
+        }
+        Err(refused) => {
+            let mut printer = Printer::new(out);
+            refusal_line(&mut printer, refused);
+            printer.at
         }
     }
 }
 
-// Writes the whole output of `pick` for an input into a buffer.
-pub fn pick(input: &[u8], output: &mut [u8]) -> Picked
+// Writes the whole output of `pick` for an input into a buffer, and answers how many bytes it has; or the buffer is
+// shorter than the longest output.
+pub fn pick(input: &[u8], output: &mut [u8]) -> Result<usize, Refusal>
     ensures { Picks input.now output.old output.new result }
 {
     if output.len() < MOST_OUTPUT {
-        return Picked::NoRoom;
+        return Err(Refusal::BufferTooShort);
     }
     if input.len() > LONGEST_INPUT {
-        let length = put(output, 0, b"input too long\n");
-        return Picked::Written { length };
+        return Ok(too_long_line(output));
     }
-    let length = report_lines(input, output);
-    Picked::Written { length }
+    Ok(report_lines(input, output))
 }

@@ -7,8 +7,7 @@ use Rattle.picker.proofs.pick.Goals as goal
 
 pub returns-then-input-gt-LONGEST_INPUT : goal.returns-then-input-gt-LONGEST_INPUT
 returns-then-input-gt-LONGEST_INPUT c =
-    wrote (omega arith) (rw (output_long (matches []) c.args.input.now (omega arith)) c.put-length.ensures)
+    wrote (omega arith) (rw (output_long (matches []) c.args.input.now (omega arith)) c.too_long_line.ensures)
 
 pub returns : goal.returns
-returns c =
-    wrote (omega arith) (rw (output_short (matches []) c.args.input.now (omega arith)) c.report_lines-length.ensures)
+returns c = wrote (omega arith) (rw (output_short (matches []) c.args.input.now (omega arith)) c.report_lines.ensures)

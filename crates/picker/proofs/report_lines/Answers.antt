@@ -1,47 +1,73 @@
 -- `picker::report_lines` meets its contract: what reading the first line answers is the expression's outcome, and what
 -- is printed for it is reported.
-use Rattle.std.proofs.Common.{◌*◌, arith, take, replicate}
+use Rattle.std.proofs.Common.{◌*◌, rules, arith, ap, refl, length, replicate}
+use Rattle.input.specs.First.{FirstGiven, first_given}
+use Rattle.input.specs.Left.{lines_left}
+use Rattle.input.specs.Lines.{lines}
 use Rattle.tree.specs.Limits.{most_records}
 use Rattle.tree.specs.Layout.{record_size}
+use Rattle.tree.specs.Refusing.{refusal_number}
 use Rattle.reader.specs.Kept.{Kept, kept}
-use Rattle.picker.specs.Report.{RefusalRead, told, read_outcome, reports_refusal, reports_texts, texts_space}
+use Rattle.printing.specs.PrinterLaws.{puts_front}
+use Rattle.picker.specs.Report.{RefusalRead, told, read_outcome, expression_short, texts_space}
 use Rattle.reporting.specs.OutputBound.{refusal_line_length}
 use Rattle.picker.proofs.report_lines.Goals as goal
-use Rattle.picker.proofs.report_lines.Goals.{In-Refused, In-Read}
+use Rattle.picker.proofs.report_lines.Goals.{After-unwrap_or-expression, In-Err, In-Ok}
+
+-- the expression is the first line, and the texts are those that are left
+first : (c : After-unwrap_or-expression)
+    → FirstGiven (lines c.args.input.now) c.unwrap_or-expression.result.now (lines_left c.next.new.self)
+first c =
+    first_given _ c.of-lines.result c.next.new.self _ _ _ c.of-lines.ensures c.next.ensures.steps
+    c.unwrap_or-expression.ensures refl
 
 -- the refusal is the outcome of the first line
-refusal : (c : In-Refused) → RefusalRead (take c.line_end-end.result c.args.input.now) c.in-Refused.number
-    c.in-Refused.place
-refusal c = told _ (record_size * most_records) _ _ (omega arith) c.in-Refused.ensures.answer
+refusal : (c : In-Err) → RefusalRead c.unwrap_or-expression.result.now (refusal_number c.in-Err.refused.refusal)
+    c.in-Err.refused.place
+refusal c = told _ (record_size * most_records) _ _ (omega arith) c.in-Err.ensures.answer
 
 -- the records of the first line stand in the list
-records : (c : In-Read) → Kept (take c.line_end-end.result c.args.input.now) (replicate (record_size * most_records) 0)
-    c.read-answer.new.records c.in-Read.records c.in-Read.pieces
-records c = kept _ (replicate (record_size * most_records) 0) _ _ _ c.in-Read.ensures.answer c.in-Read.ensures.buffer
+records : (c : In-Ok) → Kept c.unwrap_or-expression.result.now (replicate (record_size * most_records) 0)
+    c.read.new.records c.in-Ok.read.records c.in-Ok.read.pieces
+records c = kept _ (replicate (record_size * most_records) 0) _ _ _ c.in-Ok.ensures.answer c.in-Ok.ensures.buffer
 
-pub refusal_line-requires : goal.refusal_line-requires
-refusal_line-requires c =
-    let read = refusal (goal.at.refusal_line-requires c).In-Refused in
-    omega (arith, refusal_line_length _ _ read.small_number read.small_place)
+pub overflow_sub-bytes : goal.overflow_sub-bytes
+overflow_sub-bytes c =
+    let known = first (goal.at.overflow_sub-bytes c).After-unwrap_or-expression in
+    omega (arith, expression_short c.args.input.now, ap length known.is_expression)
 
 pub list_texts-requires-clause-list : goal.list_texts-requires-clause-list
 list_texts-requires-clause-list c =
-    let list = records (goal.at.list_texts-requires-clause-list c).In-Read in
+    let list = records (goal.at.list_texts-requires-clause-list c).In-Ok in
     record { some = list.read; good = list.good }
 
 pub list_texts-requires-clause-space : goal.list_texts-requires-clause-space
 list_texts-requires-clause-space c =
-    let list = records (goal.at.list_texts-requires-clause-space c).In-Read in
-    rw c.next_line-start.ensures
-    (texts_space _ _ c.line_end-end.ensures c.requires.short c.requires.room list)
+    let known = first (goal.at.list_texts-requires-clause-space c).After-unwrap_or-expression in
+    let list = records (goal.at.list_texts-requires-clause-space c).In-Ok in
+    rw (← known.are_texts)
+    (texts_space c.args.input.now c.unwrap_or-expression.result.now known.is_expression c.requires.short
+    c.requires.room list)
 
-pub returns-in-Refused : goal.returns-in-Refused
-returns-in-Refused c =
-    reports_refusal _ _ c.line_end-end.ensures (refusal (goal.at.returns-in-Refused c).In-Refused)
-    c.refusal_line.ensures
+pub refusal_line-requires : goal.refusal_line-requires
+refusal_line-requires c =
+    let read = refusal (goal.at.refusal_line-requires c).In-Err in
+    omega (
+      arith,
+      c.new-printer.ensures.front,
+      ap length c.new-printer.ensures.front.0,
+      refusal_line_length _ _ read.small_number read.small_place,
+    )
 
-pub returns-in-Read : goal.returns-in-Read
-returns-in-Read c =
-    let list = records (goal.at.returns-in-Read c).In-Read in
-    reports_texts _ _ c.line_end-end.ensures (read_outcome list)
-    (rw c.next_line-start.ensures at (c.list_texts.ensures list.read list.good))
+pub returns-in-Err : goal.returns-in-Err
+returns-in-Err c =
+    let known = first (goal.at.returns-in-Err c).After-unwrap_or-expression in
+    let read = refusal (goal.at.returns-in-Err c).In-Err in
+    rw (known.is_expression, read.outcome)
+    (puts_front c.new-printer.ensures.front c.refusal_line.ensures (search rules))
+
+pub returns-in-Ok : goal.returns-in-Ok
+returns-in-Ok c =
+    let known = first (goal.at.returns-in-Ok c).After-unwrap_or-expression in
+    let list = records (goal.at.returns-in-Ok c).In-Ok in
+    rw (known.is_expression, read_outcome list, known.are_texts) (c.list_texts.ensures list.read list.good)

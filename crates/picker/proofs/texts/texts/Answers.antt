@@ -1,51 +1,57 @@
 -- `picker::texts::texts` meets its contract: each turn prints a text's line and counts it.
-use Rattle.std.proofs.Common.{◌≡◌, Bool, sym, ap, ◌∙◌, [], arith}
+use Rattle.std.proofs.Common.{rules, true, false, ap, [], arith, length}
 use Rattle.finder.specs.Decide.{matches}
-use Rattle.reporting.specs.Print.{yes_after}
-use Rattle.picker.specs.Loop.{
-  space_line,
-  space_next,
-  space_total,
-  so_far_none,
-  so_far_next,
-  so_far_done,
-  lent_answer,
-}
+use Rattle.finder.specs.DecideExactly.{matches_answer}
+use Rattle.input.specs.Left.{lines_left}
+use Rattle.printing.specs.PrinterLaws.{puts_front}
+use Rattle.picker.specs.Loop.{space_first, space_line, space_next, space_total, so_far_none, so_far_next, so_far_done}
 use Rattle.picker.proofs.texts.texts.Goals as goal
-use Rattle.picker.proofs.texts.texts.Goals.{then-matched, else-matched}
 
-pub loop-place-init : goal.loop-place-init
-loop-place-init c = record {
-  space = c.requires.space;
-  printed = λ t prepared accepts. so_far_none (matches []) t _ _ _;
-}
+pub loop-text-init : goal.loop-text-init
+loop-text-init c =
+    let gives = ap lines_left c.into_iter-text-iterator.ensures.into_iter_gives in
+    let front = c.new-printer.ensures.front in
+    record {
+      space = rw gives (space_first c.requires.space (ap length front.0) front.1);
+      printed = λ t prepared accepts. so_far_none (matches []) t _ _ gives (omega (arith, front.1));
+    }
 
-pub text_line-at-requires : goal.text_line-at-requires
-text_line-at-requires c =
-    space_line c.loop-place.invariant.space _ c.line_end-end.ensures (omega arith) c.either_matches-matched.result
+pub text_line-requires : goal.text_line-requires
+text_line-requires c =
+    space_line c.loop-text.invariant.space c.in-Some.ensures.steps c.either_matches-matched.result
 
-pub loop-place-preserved : goal.loop-place-preserved
-loop-place-preserved c =
-    let before = c.loop-place.yes in
-    let line = c.line_end-end.ensures in
-    let printed = c.text_line-at.ensures in
-    let space = c.loop-place.invariant.space in
-    let counted : c.if-matched.yes ≡ yes_after c.either_matches-matched.result before =
-    elim c.if-matched.branch [
-      | then-matched w ↦ w.yes-is ∙ ap (λ (test : Bool). yes_after test before) (sym w.if-matched.true)
-      | else-matched w ↦ w.yes-is ∙ ap (λ (test : Bool). yes_after test before) (sym w.if-matched.false)
-    ] in
-    rw (c.next_line-place.ensures, counted) (record {
-      space = space_next space _ line (omega arith) c.either_matches-matched.result printed;
+pub loop-text-preserved-then-matched : goal.loop-text-preserved-then-matched
+loop-text-preserved-then-matched c =
+    let next = c.in-Some.ensures.steps in
+    let line = rw c.if-matched.true at c.text_line.ensures in
+    record {
+      space = space_next c.loop-text.invariant.space next true line;
       printed = λ t prepared accepts.
-          so_far_next (matches []) t _ _ _ (c.loop-place.invariant.printed t prepared accepts) _ line (omega arith) _
-          (lent_answer line _ t (c.either_matches-matched.ensures t prepared accepts)) printed;
-    })
+          let says = matches_answer [] c.either_matches-matched.result t c.in-Some.text.now
+          (c.either_matches-matched.ensures t prepared accepts) in
+          so_far_next (matches []) t _ _ (c.loop-text.invariant.printed t prepared accepts) next true
+          (rw c.if-matched.true at says) line;
+    }
+
+pub loop-text-preserved : goal.loop-text-preserved
+loop-text-preserved c =
+    let next = c.in-Some.ensures.steps in
+    let line = rw c.if-matched.false at c.text_line.ensures in
+    record {
+      space = space_next c.loop-text.invariant.space next false line;
+      printed = λ t prepared accepts.
+          let says = matches_answer [] c.either_matches-matched.result t c.in-Some.text.now
+          (c.either_matches-matched.ensures t prepared accepts) in
+          so_far_next (matches []) t _ _ (c.loop-text.invariant.printed t prepared accepts) next false
+          (rw c.if-matched.false at says) line;
+    }
 
 pub total_line-requires-clause-room : goal.total_line-requires-clause-room
-total_line-requires-clause-room c = space_total c.loop-place.invariant.space
+total_line-requires-clause-room c = space_total c.loop-text.invariant.space
 
 pub returns : goal.returns
 returns c = λ t prepared accepts.
-    so_far_done (matches []) t _ _ _ (c.loop-place.invariant.printed t prepared accepts) (omega arith)
-    c.total_line.ensures
+    puts_front c.new-printer.ensures.front
+    (so_far_done (matches []) t _ _ (c.loop-text.invariant.printed t prepared accepts) c.in-None.ensures.steps.0
+    c.total_line.ensures)
+    (search rules)
