@@ -1,7 +1,5 @@
 // One expression on dates and on texts that are none.
 use crate::date::{Date, changed};
-use finder::Matched;
-use reader::ReadAnswer;
 use std::alloc::Global;
 use std::io;
 use tree::layout::RECORD_SIZE;
@@ -20,7 +18,7 @@ const NO_DATES: [&str; 7] = ["02-30", "04-31", "13-01", "00-10", "2-29", "02-299
 
 // Whether the list's language has the text.
 fn picks(list: &[u8], text: &[u8]) -> bool {
-    matches!(finder::is_match(list, b"", text), Matched::Yes)
+    finder::is_match(list, b"", text) == Ok(true)
 }
 
 // Whether each text is picked, on one line.
@@ -120,10 +118,10 @@ pub fn trial(
     listed: bool,
 ) -> io::Result<()> {
     let mut list = vec![in alloc; 0u8; RECORD_SIZE * MOST_RECORDS]?;
-    let ReadAnswer::Read { records, pieces } = reader::read(expr, &mut list) else {
+    let Ok(read) = reader::read(expr, &mut list) else {
         return println!(rt; "refused");
     };
-    list.truncate(RECORD_SIZE.saturating_mul(records));
-    println!(rt; "{pieces} pieces")?;
+    list.truncate(RECORD_SIZE.saturating_mul(read.records));
+    println!(rt; "{} pieces", read.pieces)?;
     try_list(rt, alloc, &list, dates, listed)
 }

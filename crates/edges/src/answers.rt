@@ -1,57 +1,57 @@
 // What a call answers, in words.
-use checker::CountedAnswer;
-use finder::numbers::{match_numbers, search_numbers};
-use finder::{Matched, Searched};
-use marks::MarksAnswer;
-use marks::numbers::numbers_of;
-use reader::ReadAnswer;
+use matching::part::Span;
+use reader::Read;
 use saying::say_yes;
 use std::io;
+use stepping::inner::Told;
+use tree::counted::Counts;
+use tree::refusal::{Refusal, Refused};
 
-pub fn say_read(rt: &impl Print, answer: ReadAnswer) -> io::Result<()> {
+// A refusal of a call whose refusals stand at no place.
+fn say_refusal(rt: &impl Print, refusal: Refusal) -> io::Result<()> {
+    rt.print(Refused { refusal, place: 0 })
+}
+
+pub fn say_read(rt: &impl Print, answer: Result<Read, Refused>) -> io::Result<()> {
     match answer {
-        ReadAnswer::Read { records, pieces } => print!(rt; "records {records}, pieces {pieces}"),
-        ReadAnswer::Refused { number, place } => print!(rt; "refused {number} at {place}"),
+        Ok(Read { records, pieces }) => print!(rt; "records {records}, pieces {pieces}"),
+        Err(refused) => rt.print(refused),
     }
 }
 
-pub fn say_counted(rt: &impl Print, answer: CountedAnswer) -> io::Result<()> {
+pub fn say_counted(rt: &impl Print, answer: Result<Counts, Refused>) -> io::Result<()> {
     match answer {
-        CountedAnswer::Counted {
-            records,
-            pieces,
-            classes,
-        } => print!(rt; "records {records}, pieces {pieces}, classes {classes}"),
-        CountedAnswer::Refused { number, place } => print!(rt; "refused {number} at {place}"),
+        Ok(
+            Counts {
+                records,
+                pieces,
+                classes,
+            },
+        ) => print!(rt; "records {records}, pieces {pieces}, classes {classes}"),
+        Err(refused) => rt.print(refused),
     }
 }
 
-pub fn say_matched(rt: &impl Print, matched: Matched) -> io::Result<()> {
-    let numbers = match_numbers(matched);
-    if numbers.refusal != 0 {
-        return print!(rt; "refused {} at {}", numbers.refusal, numbers.place);
+pub fn say_matched(rt: &impl Print, answer: Result<bool, Refusal>) -> io::Result<()> {
+    match answer {
+        Ok(matched) => say_yes(rt, matched),
+        Err(refusal) => say_refusal(rt, refusal),
     }
-    say_yes(rt, numbers.matched)
 }
 
-pub fn say_searched(rt: &impl Print, searched: Searched) -> io::Result<()> {
-    let numbers = search_numbers(searched);
-    if numbers.refusal != 0 {
-        return print!(rt; "refused {} at {}", numbers.refusal, numbers.place);
+pub fn say_searched(rt: &impl Print, answer: Result<Option<Span>, Refusal>) -> io::Result<()> {
+    match answer {
+        Ok(Some(Span { start, end })) => print!(rt; "start {start}, end {end}"),
+        Ok(None) => rt.print("nothing"),
+        Err(refusal) => say_refusal(rt, refusal),
     }
-    if numbers.matched {
-        return print!(rt; "start {}, end {}", numbers.start, numbers.end);
-    }
-    rt.write_all(b"nothing")
 }
 
 // What a start or a step answered.
-pub fn say_marks(rt: &impl Print, answer: MarksAnswer) -> io::Result<()> {
-    let numbers = numbers_of(answer);
-    if numbers.refusal != 0 {
-        print!(rt; "refused {} at {}", numbers.refusal, numbers.place)?;
-    } else {
-        say_yes(rt, numbers.accepting)?;
+pub fn say_marks(rt: &impl Print, answer: Result<Told, Refusal>) -> io::Result<()> {
+    match answer {
+        Ok(told) => say_yes(rt, told.accepting)?,
+        Err(refusal) => say_refusal(rt, refusal)?,
     }
-    rt.write_all(b", marks")
+    rt.print(", marks")
 }

@@ -95,7 +95,7 @@ pub fn each_row(rt: &impl Print, alloc: Global, input: &[u8]) -> io::Result<()> 
         if let Some(row) = Row::parse(alloc, line)? {
             rt.write_all(&row.title)?;
             calls::call(rt, alloc, &row)?;
-            rt.write_all(b"\n")?;
+            rt.print("\n")?;
         }
     }
     Ok(())
