@@ -4,7 +4,6 @@
 pub mod answers;
 pub mod room;
 
-ghost use Rattle.preparing.specs.Made.{RoomFor};
 ghost use Rattle.lines.specs.Answer.{lines_numbers};
 ghost use Rattle.lines.specs.Promise.{LinesAnswers};
 
@@ -16,30 +15,6 @@ use tables::TABLE_WORDS;
 use tree::counted::LineCounts;
 use tree::limits::{FEW_SLOTS, LONGEST_TEXT};
 use tree::refusal::Refusal;
-
-// By rows lent for the list's.
-fn lines_in(
-    list: &[u8],
-    classes: &[u8],
-    rows: &mut [u64],
-    text: &[u8],
-    answers: &mut [u8],
-) -> Result<LineCounts, Refusal>
-    requires { RoomFor list.now rows.old }
-    ensures { LinesAnswers list.now classes.now text.now
-        answers.old answers.new (lines_numbers result) }
-{
-    let counts = prepare_for(list, classes, FEW_SLOTS, rows)?;
-    if LONGEST_TEXT < text.len() {
-        return Err(Refusal::TextTooLong);
-    }
-    if !has_room(text, answers.len()) {
-        return Err(Refusal::BufferTooShort);
-    }
-    Ok(answer_lines(text, answers, |line| {
-        text_matches(rows, counts.pieces, classes, line)
-    }))
-}
 
 // Writes a byte for each line of the text, 1 where the line is in the language of the list's tree and 0 where it is
 // not. Where something is refused, nothing is written.
@@ -53,5 +28,14 @@ pub fn lines(
         answers.old answers.new (lines_numbers result) }
 {
     let mut rows = [0u64; TABLE_WORDS];
-    lines_in(list, classes, &mut rows, text, answers)
+    let counts = prepare_for(list, classes, FEW_SLOTS, &mut rows)?;
+    if LONGEST_TEXT < text.len() {
+        return Err(Refusal::TextTooLong);
+    }
+    if !has_room(text, answers.len()) {
+        return Err(Refusal::BufferTooShort);
+    }
+    Ok(answer_lines(text, answers, |line| {
+        text_matches(&rows, counts.pieces, classes, line)
+    }))
 }

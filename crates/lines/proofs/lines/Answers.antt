@@ -1,4 +1,4 @@
--- `lines::lines_in` meets its contract: what match refuses of the whole text is refused, then a buffer that is too
+-- `lines::lines` meets its contract: what match refuses of the whole text is refused, then a buffer that is too
 -- short; otherwise the rows are those of the list's tree, and the promise is that of `answer_lines`.
 use Rattle.std.proofs.Common.{◌≤◌, arith, rules, refl, List, ℕ, length}
 use Rattle.std.proofs.lemmas.Result.{err_from_is_err_and}
@@ -10,7 +10,7 @@ use Rattle.finder.specs.Refusals.{Answerable}
 use Rattle.finder.specs.Finds.{refused_for, refused_long}
 use Rattle.lines.specs.Promise.{lines_refused, lines_no_room, lines_answered}
 use Rattle.lines.specs.LinesLoop.{written_tells, line_says}
-use Rattle.lines.proofs.lines_in.Goals as goal
+use Rattle.lines.proofs.lines.Goals as goal
 
 module _ {list classes text rows : List ℕ} {counts : Counts} (ready : ReadyFor list classes counts rows)
     (short : length text ≤ longest_text) where
