@@ -12,13 +12,7 @@ pub fn cut_left(l: u16, r: u16) -> bool
     requires { (l ≤ most_nodes) × (r ≤ most_nodes) }
     ensures { result ≡ cut_left l r }
 {
-    if 1 + l + r <= MOST_NODES {
-        return false;
-    }
-    if r <= l {
-        return true;
-    }
-    MOST_NODES < 1 + l
+    MOST_NODES < 1 + l + r && (r <= l || MOST_NODES < 1 + l)
 }
 
 // Whether the right child is cut off: it is the larger where the two pass 15.
@@ -26,13 +20,7 @@ pub fn cut_right(l: u16, r: u16) -> bool
     requires { (l ≤ most_nodes) × (r ≤ most_nodes) }
     ensures { result ≡ cut_right l r }
 {
-    if 1 + l + r <= MOST_NODES {
-        return false;
-    }
-    if l < r {
-        return true;
-    }
-    MOST_NODES < 1 + r
+    MOST_NODES < 1 + l + r && (l < r || MOST_NODES < 1 + r)
 }
 
 // 1 for a cut edge.

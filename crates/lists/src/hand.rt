@@ -8,7 +8,8 @@ ghost use Rattle.lists.specs.Handed.{Pieced};
 use cutting::cut::{cut_left, cut_right, one_if, piece_below};
 use cutting::slots::{left_slot, right_slot};
 
-// A parent comes after its children, so going backwards its slots are filled when it hands on to theirs.
+// A parent comes after its children, so going backwards its slots are filled when it hands on to theirs. The new pieces
+// stand in a slice of their own: they are read here alone.
 pub fn hand_down(
     labels: &[u16],
     sizes: &[u16],

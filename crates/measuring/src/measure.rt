@@ -7,7 +7,8 @@ ghost use Rattle.cutting.specs.Measured.{Postorder, RoomToMeasure, Measured, Cou
 use cutting::cut::{cut_count, open_size};
 use cutting::slots::{left_slot, right_slot};
 
-// A child comes before its parent, so its slots are filled when the parent is met.
+// A child comes before its parent, so its slots are filled when the parent is met. There is a slice for each number, and
+// not one of structs: the cut edges outlive the others, and whoever writes or compares records reads the sizes alone.
 fn measure(labels: &[u16], sizes: &mut [u16], opens: &mut [u16], cuts: &mut [u16])
     requires postorder { Postorder labels.now }
     requires labels_len_bound { length labels.now ≤ most_labels }

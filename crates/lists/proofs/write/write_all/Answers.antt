@@ -1,12 +1,8 @@
 -- `lists::write::write_all` meets its contract, by what the children's slots and the piece give of the record.
 use Rattle.std.proofs.Common.{◌+◌, ◌≡◌, refl, length, get_or, arith}
 use Rattle.cutting.specs.MeasuredLaws.{right_size_le, holds_less, slots, in_tree}
-use Rattle.lists.specs.RecordingLaws.{written_none, written_more, written_all}
+use Rattle.lists.specs.RecordingLaws.{written_more, written_all}
 use Rattle.lists.proofs.write.write_all.Goals as goal
-
-pub loop-i-init : goal.loop-i-init
-loop-i-init c =
-    written_none c.args.labels.now c.args.out.now
 
 pub left_slot-left-requires : goal.left_slot-left-requires
 left_slot-left-requires c =

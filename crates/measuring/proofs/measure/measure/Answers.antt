@@ -3,15 +3,7 @@ use Rattle.std.proofs.Common.{◌+◌, ◌≡◌, ◌∙◌, length, get_or, ari
 use Rattle.language.specs.Tree.{Tree}
 use Rattle.tree.specs.Leaf.{Leaf}
 use Rattle.tree.specs.Records.{labels}
-use Rattle.cutting.specs.MeasuredLaws.{
-  Gathered,
-  gathered,
-  children,
-  right_size_le,
-  room_stays,
-  measured_none,
-  measured_more,
-}
+use Rattle.cutting.specs.MeasuredLaws.{Gathered, gathered, children, right_size_le, room_stays, measured_more}
 use Rattle.measuring.proofs.measure.measure.Goals as goal
 use Rattle.measuring.proofs.measure.measure.Goals.{After-left_slot-left}
 
@@ -28,15 +20,6 @@ found c t e =
     (children c.args.labels.now t c.loop-i.i c.left_slot-left.result c.right_slot-right.result c.loop-i.sizes
     c.loop-i.opens c.loop-i.cuts e
     c.loop-i-test.true c.loop-i.invariant.1 c.right_slot-right.ensures.0 c.left_slot-left.ensures.0)
-
-pub loop-i-init : goal.loop-i-init
-loop-i-init c =
-    let room = c.requires.room_to_measure in (
-      room_stays (length c.args.labels.now) c.args.sizes.now c.args.opens.now
-          c.args.cuts.now 0 0 0 0
-          room,
-      measured_none c.args.labels.now c.args.sizes.now c.args.opens.now c.args.cuts.now room,
-    )
 
 pub left_slot-left-requires : goal.left_slot-left-requires
 left_slot-left-requires c =
@@ -81,8 +64,3 @@ loop-i-preserved c = (
         c.cut_count-cuts_here.ensures ∙ (found (goal.at.loop-i-preserved c).After-left_slot-left t e).cuts_is,
       )),
 )
-
-pub returns : goal.returns
-returns c =
-    let all : c.loop-i.i ≡ length c.args.labels.now = omega arith in
-    rw (← all) c.loop-i.invariant.1

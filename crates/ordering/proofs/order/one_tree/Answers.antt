@@ -2,15 +2,12 @@
 use Rattle.std.proofs.Common.{ℕ, ◌<◌, ◌≡◌, sym, ◌∙◌, length, get_or, arith}
 use borrow.Author.Tests.{eqb-true, eqb-false, leb-true, leb-false}
 use Rattle.tree.specs.Postorder.{asked}
-use Rattle.ordering.specs.DepthLaws.{reads_none, reads_more, stuck_tree, read_tree, depth_grows}
+use Rattle.ordering.specs.DepthLaws.{reads_more, stuck_tree, read_tree, depth_grows}
 use Rattle.ordering.proofs.order.one_tree.Goals as goal
 
 -- a number that is not 0 is past it
 positive : (n : ℕ) → (n ≡ 0 → ⊥) → 0 < n
 positive n h = omega arith
-
-pub loop-label-init : goal.loop-label-init
-loop-label-init c = (omega arith, reads_none c.args.labels.now)
 
 pub returns-then-depth-eq0 : goal.returns-then-depth-eq0
 returns-then-depth-eq0 c =
