@@ -1,6 +1,6 @@
 -- Why a list is good, or is not, by its length, its labels, its pieces and its records; the answer is the only one.
-use Rattle.std.specs.Prelude.{ℕ, suc, ◌+◌, ◌*◌, ◌/◌, ◌%◌, ◌≤◌, ◌<◌, ◌≡◌, refl, Bool, true, false, Option, None, Some, List, [], ◌∷◌, ◌++◌, map, length, get_or, take, drop, set}
-use Rattle.std.proofs.Common.{ap, sym, ◌∙◌, arith, not-suc-le-zero, zero-add, add-zero, add-one, take-append-drop, length-drop, get_or-set_same, get_or-set_other, take_at, drop-drop, length-take-le}
+use Rattle.std.specs.Prelude.{ℕ, suc, ◌+◌, ◌*◌, ◌/◌, ◌%◌, ◌≤◌, ◌<◌, ◌≡◌, refl, Bool, true, false, Option, None, Some, Err, ok_or, List, [], ◌∷◌, ◌++◌, map, length, get_or, take, drop, set}
+use Rattle.std.proofs.Common.{length-take-le, ap, sym, ◌∙◌, arith, not-suc-le-zero, zero-add, add-zero, add-one, take-append-drop, length-drop, get_or-set_same, get_or-set_other, take_at, drop-drop}
 use Rattle.std.proofs.lemmas.List.{map-append}
 use Rattle.std.proofs.Math.Decide.{dec_lt}
 use Rattle.std.proofs.Math.Seq.{take-length}
@@ -41,6 +41,8 @@ use Rattle.lists.specs.RecordingLaws.{record_of_list, fields_are}
 use Rattle.tree.specs.Saying.{true_false}
 use Rattle.deciding.specs.Judged.{Judged, CountsBelow}
 use Rattle.tree.specs.declared.counted.Counts.{Counts}
+use Rattle.tree.specs.declared.refusal.Refusal.{Refusal}
+use Rattle.tree.specs.declared.refusal.Refusal.TheVariants.{ListNotGood}
 use Rattle.deciding.specs.LabelsTaken.{Taken, ListOf, Compared, Agrees}
 
 -- counts with the same numbers are the same
@@ -62,6 +64,12 @@ decided_unique bytes (Some n) (Some m) a b =
 decided_unique bytes (Some n) None a b = absurd (b.fits a.fits.tree a.fits.is_good)
 decided_unique bytes None (Some n) a b = absurd (a.fits b.fits.tree b.fits.is_good)
 decided_unique bytes None None a b = refl
+
+-- where an answer of none is turned into a refusal, it is that of a list that is not good, and the list is none
+pub none_refused : {bytes : List ℕ} {refusal : Refusal} (answer : Option Counts) → Judged bytes answer
+    → Err refusal ≡ ok_or answer ListNotGood → (ListNotGood ≡ refusal) × ((t : Tree Leaf) → Good bytes t → ⊥)
+none_refused (Some counts) judged e = absurd (cc)
+none_refused None judged e = (cc, judged.fits)
 
 -- none yet
 pub taken_none : (list ls : List ℕ) → Taken list ls 0

@@ -56,95 +56,8 @@ fn compare(list: &[u8], labels: &[u16], sizes: &[u16], pieces: &[u16]) -> bool
     true
 }
 
-// Whether the list is that of the tree with these labels, which is measured. The pieces are worked out in lent slots.
-fn is_list(
-    list: &[u8],
-    labels: &[u16],
-    sizes: &[u16],
-    opens: &[u16],
-    cuts: &[u16],
-    pieces: &mut [u16],
-    news: &mut [u16],
-) -> bool
-    requires postorder { Postorder labels.now }
-    requires labels_len_bound { (length labels.now ≤ most_labels) × (length list.now ≡ record_size * length labels.now) }
-    requires room_to_measure { RoomToMeasure (length labels.now) sizes.now opens.now cuts.now }
-    requires measured { Measured labels.now sizes.now opens.now cuts.now (length labels.now) }
-    requires labels_in_bounds { (length labels.now < length pieces.old) × (length labels.now < length news.old) }
-    ensures { Compared labels.now list.now result }
-{
-    hand_down(labels, sizes, opens, cuts, pieces, news);
-    compare(list, labels, sizes, pieces)
-}
-
-// Decides on a list with these labels and as many class leaves, and measures its tree.
-fn decide_by(
-    list: &[u8],
-    labels: &[u16],
-    classes: usize,
-    sizes: &mut [u16],
-    opens: &mut [u16],
-    cuts: &mut [u16],
-    pieces: &mut [u16],
-    news: &mut [u16],
-) -> Option<Counts>
-    requires labels_of { LabelsOf list.now labels.now }
-    requires labels_len_bound { (length labels.now ≤ most_records) × (classes ≡ class_records list.now (length labels.now)) }
-    requires room_to_measure { RoomToMeasure (length labels.now) sizes.old opens.old cuts.old }
-    requires labels_in_bounds { (length labels.now < length pieces.old) × (length labels.now < length news.old) }
-    ensures judged { Judged list.now result }
-    ensures counts_below { CountsBelow list.now cuts.new }
-{
-    if !one_tree(labels) {
-        return None;
-    }
-    let count = piece_count(labels, sizes, opens, cuts);
-    if MOST_PIECES < count {
-        return None;
-    }
-    if !is_list(list, labels, sizes, opens, cuts, pieces, news) {
-        return None;
-    }
-    Some(Counts {
-        records: labels.len(),
-        pieces: count,
-        classes,
-    })
-}
-
-// Decides on a list of whole records, with room for the labels and the slots of that many.
-fn decide_in(
-    list: &[u8],
-    labels: &mut [u16],
-    sizes: &mut [u16],
-    opens: &mut [u16],
-    cuts: &mut [u16],
-    pieces: &mut [u16],
-    news: &mut [u16],
-) -> Option<Counts>
-    requires record_size_len { (length list.now % record_size ≡ 0) × (length list.now / record_size ≤ most_records) }
-    requires record_size_in_bounds { length list.now / record_size ≤ length labels.old }
-    requires room_to_measure { RoomToMeasure (length list.now / record_size) sizes.old opens.old cuts.old }
-    requires record_size_in_bounds_2 { (length list.now / record_size < length pieces.old)
-        × (length list.now / record_size < length news.old) }
-    ensures judged { Judged list.now result }
-    ensures counts_below { CountsBelow list.now cuts.new }
-{
-    let n = list.len() / RECORD_SIZE;
-    let classes = take_labels(list, &mut labels[..n]);
-    decide_by(
-        list,
-        &labels[..n],
-        classes,
-        sizes,
-        opens,
-        cuts,
-        pieces,
-        news,
-    )
-}
-
-// Decides on a list of whole records, in arrays of so many slots.
+// Decides on a list of whole records, in arrays of so many slots: the labels, and of each record's subtree the size, the
+// open size, the piece and the first new piece below it.
 fn decide_in_slots<const SLOTS: usize>(list: &[u8], cuts: &mut [u16]) -> Option<Counts>
     requires record_size_len { (length list.now % record_size ≡ 0) × (length list.now / record_size ≤ most_records) }
     requires slots_bound { (length list.now / record_size < SLOTS) × (SLOTS ≤ slot_count) }
@@ -157,15 +70,25 @@ fn decide_in_slots<const SLOTS: usize>(list: &[u8], cuts: &mut [u16]) -> Option<
     let mut opens = [0u16; SLOTS];
     let mut pieces = [0u16; SLOTS];
     let mut news = [0u16; SLOTS];
-    decide_in(
-        list,
-        &mut labels,
-        &mut sizes,
-        &mut opens,
-        cuts,
-        &mut pieces,
-        &mut news,
-    )
+    let n = list.len() / RECORD_SIZE;
+    let classes = take_labels(list, &mut labels[..n]);
+    let labels = &labels[..n];
+    if !one_tree(labels) {
+        return None;
+    }
+    let count = piece_count(labels, &mut sizes, &mut opens, cuts);
+    if MOST_PIECES < count {
+        return None;
+    }
+    hand_down(labels, &sizes, &opens, cuts, &mut pieces, &mut news);
+    if !compare(list, labels, &sizes, &pieces) {
+        return None;
+    }
+    Some(Counts {
+        records: labels.len(),
+        pieces: count,
+        classes,
+    })
 }
 
 // Decides in the smallest arrays that have room: most of what a short list costs is setting them to 0. It calls itself

@@ -1,6 +1,6 @@
 -- What making a list's rows for a call with class records promises: the rows are those of the list's tree, and there is
 -- a class record for each class leaf; or which of the two refusals it is.
-use Rattle.std.specs.Prelude.{ℕ, ◌*◌, ◌/◌, ◌≤◌, ◌<◌, ◌≡◌, List, Option, None, Some, Result, Ok, Err, ok_or, length}
+use Rattle.std.specs.Prelude.{ℕ, ◌*◌, ◌/◌, ◌≤◌, ◌<◌, ◌≡◌, List, Option, Some, Result, Ok, Err, ok_or, length}
 use Rattle.std.proofs.Common.{subst, arith}
 use Rattle.language.specs.Tree.{Tree}
 use Rattle.tree.specs.Leaf.{Leaf}
@@ -13,6 +13,7 @@ use Rattle.tree.specs.declared.refusal.Refusal.{Refusal}
 use Rattle.tree.specs.declared.refusal.Refusal.TheVariants.{ListNotGood}
 use Rattle.lists.specs.Readback.{good_unique}
 use Rattle.deciding.specs.Judged.{GoodWith}
+use Rattle.deciding.specs.DecideLaws.{none_refused}
 use Rattle.tables.specs.Tables.{Prepared, Roomy, Ready}
 use Rattle.preparing.specs.Made.{PreparedList}
 
@@ -92,7 +93,6 @@ few_for counts made few =
 pub not_good_for : {list classes rows : List ℕ} {refusal : Refusal} (answer : Option Counts)
     → PreparedList list answer rows → Err refusal ≡ ok_or answer ListNotGood
     → PreparedFor list classes (Err refusal) rows
-not_good_for (Some counts) made e = absurd (cc)
-not_good_for {list} {classes} {refusal = refusal} None made e =
-    let is : ListNotGood ≡ refusal = cc in
-    record { fits = subst (λ (r : Refusal). RefusedFor list classes (refusal_number r)) is (not_good made.judged.fits) }
+not_good_for {list} {classes} answer made e =
+    let none = none_refused answer made.judged e in
+    record { fits = subst (λ (r : Refusal). RefusedFor list classes (refusal_number r)) none.0 (not_good none.1) }

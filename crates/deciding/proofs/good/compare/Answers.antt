@@ -6,7 +6,7 @@ use Rattle.tree.specs.Leaf.{Leaf}
 use Rattle.tree.specs.Records.{labels}
 use Rattle.cutting.specs.Seats.{seats, seat_at}
 use Rattle.cutting.specs.MeasuredLaws.{Slots, right_size_le, holds_less, slots, in_tree}
-use Rattle.deciding.specs.DecideLaws.{agrees_none, agrees_more, compared_no, compared_all}
+use Rattle.deciding.specs.DecideLaws.{agrees_more, compared_no, compared_all}
 use Rattle.deciding.proofs.good.compare.Goals as goal
 use Rattle.deciding.proofs.good.compare.Goals.{After-is_record}
 
@@ -23,10 +23,6 @@ facts c t e =
           c.left_slot-left.ensures.0,
       c.requires.sized.1.at_record t e c.loop-i.i (in_tree ls t c.loop-i.i e inside),
     )
-
-pub loop-i-init : goal.loop-i-init
-loop-i-init c =
-    agrees_none c.args.labels.now c.args.list.now
 
 pub left_slot-left-requires : goal.left_slot-left-requires
 left_slot-left-requires c =
