@@ -41,10 +41,8 @@ fn eight_bytes(codes: &[u16], first: usize) -> u64
     ensures { EightBytes codes.now first result }
 {
     let mut word: u64 = 0;
-    let mut left = WORD_BYTES;
-    while left > 0 {
-        left -= 1;
-        word = word * BYTES + byte_at(codes, first + left) as u64;
+    for place in (0..WORD_BYTES).rev() {
+        word = word * BYTES + u64::from(byte_at(codes, first + place));
     }
     word
 }
@@ -56,9 +54,7 @@ pub fn note_bytes(rows: &mut [u64], piece: usize, codes: &[u16], states: usize)
     ensures { BytesNoted codes.now rows.old rows.new piece states }
 {
     let base = ROW_WORDS * piece + STATES;
-    let mut word = 0;
-    while WORD_BYTES * word < states {
+    for word in 0..states.div_ceil(WORD_BYTES) {
         rows[base + word] = eight_bytes(codes, WORD_BYTES * word);
-        word += 1;
     }
 }

@@ -26,10 +26,7 @@ fn jumps(code: u16) -> bool
 pub fn is_leaf(code: u16) -> bool
     ensures { Tells (IsLeaf code) result }
 {
-    if code == 0 {
-        return false;
-    }
-    code % 4 == 0
+    code != 0 && code % 4 == 0
 }
 
 // Whether a state with this code is the start of a class.
@@ -49,14 +46,12 @@ pub fn note_masks(rows: &mut [u64], piece: usize, codes: &[u16], states: usize)
     let mut jumping: u64 = 0;
     let mut leaves: u64 = 0;
     let mut classes: u64 = 0;
-    let mut state = 0;
-    while state < states {
+    for state in 0..states {
         let code = codes[state];
         on = set_where(on, state, leads_on(code));
         jumping = set_where(jumping, state, jumps(code));
         leaves = set_where(leaves, state, is_leaf(code));
         classes = set_where(classes, state, is_class(code));
-        state += 1;
     }
     let at = ROW_WORDS * piece;
     rows[at] = on;

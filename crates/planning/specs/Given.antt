@@ -26,7 +26,8 @@ use Rattle.tables.specs.Standing.{
   most_leaves,
   LowNumbers,
 }
-use Rattle.tables.specs.Filling.{Tables, tables}
+use Rattle.tables.specs.declared.fill.Tables.{Tables}
+use Rattle.tables.specs.Filling.{tables}
 use Rattle.planning.specs.Below.{Top, slot_below}
 use Rattle.planning.specs.Making.{made_none, made_planned, Making, making_at, Total}
 

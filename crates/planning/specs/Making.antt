@@ -33,8 +33,8 @@ use Rattle.tables.specs.Entries.{
   wide,
 }
 use Rattle.tables.specs.Standing.{size, Site, site, piece, start_number, Child, catenation_left, catenation_right, union_left, union_right, operand, under, In, here, step, in_child, NotStandIn, Fine, in_fine, StandIn, stand_in, stand_in_reaches, in_reaches, one_stand_in, piece_below}
+use Rattle.tables.specs.declared.fill.Tables.{Tables}
 use Rattle.tables.specs.Filling.{
-  Tables,
   tables,
   TablesRoom,
   SameLengths,
@@ -436,12 +436,10 @@ pub total_few : {list : List ℕ} {total : ℕ} → Listed list → Total list t
 total_few listed all = omega (arith, all.counts_all _ listed.top, listed.top.fine.few, listed.top.fine.low)
 
 -- from one piece to the next
-pub making_more : {list cuts : List ℕ} {k : ℕ} {t : Tables} {rows : List ℕ} → Making list cuts k t rows
-    → (codes stands roots packed : List ℕ) → SameLengths t (tables codes stands roots)
-    → length packed ≡ length rows
-    → ((x : Nested Leaf) → Top list x → PiecesMade x (k + 1) (tables codes stands roots) packed)
-    → Making list cuts (k + 1) (tables codes stands roots) packed
-making_more making codes stands roots packed same same_rows more =
+pub making_more : {list cuts : List ℕ} {k : ℕ} {t after : Tables} {rows packed : List ℕ} → Making list cuts k t rows
+    → SameLengths t after → length packed ≡ length rows
+    → ((x : Nested Leaf) → Top list x → PiecesMade x (k + 1) after packed) → Making list cuts (k + 1) after packed
+making_more making same same_rows more =
     record {
       listed = making.listed;
       counted = making.counted;

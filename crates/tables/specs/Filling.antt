@@ -4,6 +4,7 @@ use Rattle.std.proofs.Common.{sym, ap, subst, ◌∙◌, inl, inr, ⊎_elim, ari
 use Rattle.language.specs.Nested.{Nested, leaf, catenation, union, star, below}
 use Rattle.tree.specs.Leaf.{Leaf}
 use Rattle.tree.specs.Layout.{catenation_kind, union_kind, star_kind}
+use Rattle.tables.specs.declared.fill.Tables.{Tables}
 use Rattle.tables.specs.Words.{width, run}
 use Rattle.tables.specs.Plan.{row_size, leads_on, jumps_to, leads_and_jumps, leaf_code, codes_of}
 use Rattle.tables.specs.Entries.{
@@ -54,19 +55,9 @@ use Rattle.tables.specs.Standing.{
   stand_in_reaches,
 }
 
--- the tables while they are filled: `roots` has the root's record number of each child piece met so far
-pub record Tables : Type 0 where
-  pub codes : List ℕ
-  pub stands : List ℕ
-  pub roots : List ℕ
-
 -- the tables of these lists
 abbrev pub tables : (codes stands roots : List ℕ) → Tables
 tables a b c = record { codes = a; stands = b; roots = c }
-
--- tables with the same codes
-pub tables_same : {a b : List ℕ} (stands roots : List ℕ) → a ≡ b → tables a stands roots ≡ tables b stands roots
-tables_same stands roots p = λ i. tables (p i) stands roots
 
 -- the tables have room for so many pieces of 64 states
 pub record TablesRoom (room : ℕ) (t : Tables) : Type 0 where

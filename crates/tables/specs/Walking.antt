@@ -1,5 +1,5 @@
 -- What the walk of a piece finds at a record, and what it has filled when it leaves it.
-use Rattle.std.specs.Prelude.{ℕ, ◌+◌, ◌*◌, ◌-◌, ◌≤◌, ◌<◌, ◌≡◌, cond, List, length, set, eqb}
+use Rattle.std.specs.Prelude.{ℕ, ◌+◌, ◌*◌, ◌-◌, ◌≤◌, ◌<◌, ◌≡◌, cond, List, length, eqb}
 use Rattle.std.proofs.Common.{sym, ap, subst, ◌∙◌, arith}
 use Rattle.language.specs.Nested.{Nested, leaf, catenation, union, star, below}
 use Rattle.tree.specs.Leaf.{Leaf, character, class, empty_text}
@@ -19,7 +19,7 @@ use Rattle.tree.specs.Layout.{
   piece_at,
 }
 use Rattle.tables.specs.Plan.{row_size, leads_on, leaf_code}
-use Rattle.tables.specs.Entries.{wide, thrice}
+use Rattle.tables.specs.Entries.{wide}
 use Rattle.tables.specs.Standing.{
   size,
   size_positive,
@@ -41,29 +41,8 @@ use Rattle.tables.specs.Standing.{
   piece_shows,
   within,
 }
-use Rattle.tables.specs.Filling.{
-  Tables,
-  tables,
-  tables_same,
-  cond_equal,
-  cond_different,
-  TablesRoom,
-  SameLengths,
-  PartFilled,
-  start_entry,
-  stand_entries,
-  begin_code,
-  left_exit,
-  right_exit,
-  joined,
-  Joint,
-  catenation_joint,
-  union_joint,
-  fill_leaf,
-  fill_stand,
-  fill_two,
-  fill_star,
-}
+use Rattle.tables.specs.declared.fill.Tables.{Tables}
+use Rattle.tables.specs.Filling.{cond_equal, cond_different, TablesRoom, SameLengths, PartFilled, start_entry, stand_entries, joined, Joint, catenation_joint, union_joint, fill_leaf, fill_stand, fill_two, fill_star}
 
 -- the site stands in the list, `node` is its root's record, and its start has the number `at` in the piece
 pub data Sits (list : List ℕ) (room node : ℕ) : (piece at : ℕ) → Site → Type 0 where
@@ -449,12 +428,11 @@ module _ {list : List ℕ} {node piece own kind : ℕ} (met : OfPiece list node 
 module _ {list : List ℕ} {node piece own kind code : ℕ} (met : OfPiece list node piece own kind)
     (code_is : code ≡ code_at list node) where
   -- a leaf's record was visited
-  pub visited_leaf : {at end : ℕ} {codes after stands roots : List ℕ} → (code ≡ 0 → ⊥) → end ≡ at + 2
-      → after ≡ set codes at code
-      → SiteVisited list node piece at (tables codes stands roots) (tables after stands roots) end
-  visited_leaf {at} {codes = codes} some g f room full s here =
-      filled_as (visit_leaf here (met_own met) (λ none. some (code_is ∙ none)) _ full)
-      (tables_same _ _ (f ∙ ap (λ (c : ℕ). set codes at c) code_is)) g
+  pub visited_leaf : {at end : ℕ} {t after : Tables} → (code ≡ 0 → ⊥) → end ≡ at + 2
+      → after ≡ start_entry t at code → SiteVisited list node piece at t after end
+  visited_leaf {at} {t = t} some g f room full s here =
+      filled_as (visit_leaf here (met_own met) (λ none. some (code_is ∙ none)) t full)
+      (f ∙ ap (λ (c : ℕ). start_entry t at c) code_is) g
 
   -- the children's records
   module _ {left : ℕ} (left_is : left ≡ left_at list node) (inner : code ≡ 0) {at : ℕ} {t : Tables}
@@ -486,15 +464,11 @@ module _ {list : List ℕ} {node piece own kind code : ℕ} (met : OfPiece list 
           omega (arith, filled_ends kid.sitting (done ready.room ready.full _ kid.sitting))
 
       -- the numbers at a star are within the row
-      pub star_bounds : kind ≡ star_kind
-          → (row_size ≤ length mid.codes) × (at < middle) × (middle ≤ middle)
-          × (middle < most_states)
+      pub star_bounds : kind ≡ star_kind → (at < middle) × (middle ≤ middle) × (middle < most_states)
       star_bounds e =
           omega (
             arith,
             past_left,
-            row_within ready,
-            same.of_codes,
             filled_ends ready.sitting
                 (visit_star ready.sitting (met_own met) (met_kind met star_kind e) t mid full_left middle
                 (done_left ready.room ready.full)),
@@ -527,16 +501,12 @@ module _ {list : List ℕ} {node piece own kind code : ℕ} (met : OfPiece list 
       pub two_bounds : {right last : ℕ} {after : Tables} → right ≡ right_at list node → (kind ≡ star_kind → ⊥)
           → SameLengths mid after
           → SiteVisited list right piece middle mid after last
-          → (row_size ≤ length after.codes) × (at < middle) × (middle ≤ last)
-          × (last < most_states)
+          → (at < middle) × (middle ≤ last) × (last < most_states)
       two_bounds {right} {last} {after} right_is other again done-second =
           let kid = second_kid right_is other in
           omega (
             arith,
             past_left,
-            row_within ready,
-            same.of_codes,
-            again.of_codes,
             filled_ends kid.sitting (done-second ready.room full_left _ kid.sitting),
             filled_ends ready.sitting
                 (visit_two ready.sitting (met_own met) (sym code_is ∙ inner)
@@ -544,36 +514,24 @@ module _ {list : List ℕ} {node piece own kind code : ℕ} (met : OfPiece list 
                 (done_left ready.room ready.full) (done_right right_is done-second ready.full)),
           )
 
-      -- the tables as they were stored are those of the joined parts
-      joined_as : (last : ℕ) (after : Tables) {codes : List ℕ}
-          → codes
-          ≡ thrice after.codes at (middle - 1) (last - 1)
-          (begin_code kind middle) (left_exit kind last) (right_exit kind at)
-          → tables codes after.stands after.roots
-          ≡ joined after (kind_at list node) at middle last
-      joined_as last after e = tables_same _ _ e ∙ ap (λ (k : ℕ). joined after k at middle last)
-          met.of_kind
+      -- the tables as they were filled are those of the joined parts
+      joined_as : (last : ℕ) (mended : Tables) {after : Tables} → after ≡ joined mended kind at middle last
+          → after ≡ joined mended (kind_at list node) at middle last
+      joined_as last mended e = e ∙ ap (λ (k : ℕ). joined mended k at middle last) met.of_kind
 
       -- a star's record was visited
-      pub visited_star : {codes : List ℕ} {end : ℕ} → kind ≡ star_kind → end ≡ middle + 1
-          → codes
-          ≡ thrice mid.codes at (middle - 1) (middle - 1)
-          (begin_code kind middle) (left_exit kind middle) (right_exit kind at)
-          → SiteVisited list node piece at t (tables codes mid.stands mid.roots) end
+      pub visited_star : {after : Tables} {end : ℕ} → kind ≡ star_kind → end ≡ middle + 1
+          → after ≡ joined mid kind at middle middle → SiteVisited list node piece at t after end
       visited_star e g f room full s here = filled_as
           (visit_star here (met_own met) (met_kind met star_kind e) t mid (room_kept same full) middle
           (done_left room full)) (joined_as middle mid f) g
 
       -- the record of a node with two children was visited
-      pub visited_two : {codes : List ℕ} {right last end : ℕ} {after : Tables} → right ≡ right_at list node
-          → (kind ≡ star_kind → ⊥) → SameLengths mid after → SiteVisited list right piece middle mid after last
-          → end ≡ last + 1
-          → codes
-          ≡ thrice after.codes at (middle - 1) (last - 1)
-          (begin_code kind middle) (left_exit kind last) (right_exit kind at)
-          → SiteVisited list node piece at t (tables codes after.stands after.roots) end
-      visited_two {last = last} {after = after} right_is other again done-second g f room full s here =
+      pub visited_two : {right last end : ℕ} {second after : Tables} → right ≡ right_at list node
+          → (kind ≡ star_kind → ⊥) → SameLengths mid second → SiteVisited list right piece middle mid second last
+          → end ≡ last + 1 → after ≡ joined second kind at middle last → SiteVisited list node piece at t after end
+      visited_two {last = last} {second = second} right_is other again done-second g f room full s here =
           filled_as
           (visit_two here (met_own met) (sym code_is ∙ inner)
-          (met_other met star_kind other) t mid after (room_kept again (room_kept same full)) middle last
-          (done_left room full) (done_right right_is done-second full)) (joined_as last after f) g
+          (met_other met star_kind other) t mid second (room_kept again (room_kept same full)) middle last
+          (done_left room full) (done_right right_is done-second full)) (joined_as last second f) g
