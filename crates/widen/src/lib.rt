@@ -8,9 +8,11 @@ ghost use Rattle.deciding.specs.Judged.{Judged};
 ghost use Rattle.widen.specs.OldLayout.{old_records, wide_byte, widened};
 ghost use Rattle.widen.specs.Promise.{Widens};
 
-use deciding::good::{Decided, decide};
+use deciding::good::decide;
+use tree::counted::Counts;
 use tree::layout::RECORD_SIZE;
 use tree::limits::MOST_RECORDS;
+use tree::refusal::Refusal;
 
 // How many bytes a record of the old layout has: they are the first of a record's bytes today.
 pub const OLD_RECORD_SIZE: usize = 8;
@@ -20,17 +22,6 @@ const UNPLACED: u8 = 0;
 
 // The bytes of the longest list.
 const LONGEST_LIST: usize = RECORD_SIZE * MOST_RECORDS;
-
-// What turning an old list into one of today answers.
-#[derive(Drop)]
-pub enum Widened {
-    // Its records are written.
-    Written { records: usize },
-    // The old list is not good.
-    NotGood,
-    // The record buffer is shorter than the records.
-    NoRoom,
-}
 
 // Byte j of the wide list: of the old record, or 0 past it.
 fn wide_byte(old: &[u8], j: usize) -> u8
@@ -50,16 +41,13 @@ fn write_wide(old: &[u8], out: &mut [u8])
     ensures { out.new ≡ widened old.now
         ++ drop (record_size * old_records old.now) out.old }
 {
-    let end = RECORD_SIZE * (old.len() / OLD_RECORD_SIZE);
-    let mut j = 0;
-    while j < end {
+    for j in 0..RECORD_SIZE * (old.len() / OLD_RECORD_SIZE) {
         out[j] = wide_byte(old, j);
-        j += 1;
     }
 }
 
 // Decides on the wide list, which is written into a lent array.
-fn decide_wide(old: &[u8], wide: &mut [u8]) -> Decided
+fn decide_wide(old: &[u8], wide: &mut [u8]) -> Option<Counts>
     requires { record_size * old_records old.now ≤ length wide.old }
     ensures { Judged (widened old.now) result }
 {
@@ -68,7 +56,7 @@ fn decide_wide(old: &[u8], wide: &mut [u8]) -> Decided
 }
 
 // Decides on it in an array of its own.
-fn decide_old(old: &[u8]) -> Decided
+fn decide_old(old: &[u8]) -> Option<Counts>
     requires { old_records old.now ≤ most_records }
     ensures { Judged (widened old.now) result }
 {
@@ -76,30 +64,21 @@ fn decide_old(old: &[u8]) -> Decided
     decide_wide(old, &mut wide)
 }
 
-// Turns a good list of the old layout into one of today with the place 0 in every record. Where the old list is not
-// good, or the buffer is too short, in this order, nothing is written.
-pub fn widen(old: &[u8], records: &mut [u8]) -> Widened
+// Turns a good list of the old layout into one of today with the place 0 in every record, and gives the number of its
+// records. Where the old list is not good, or the buffer is too short, in this order, nothing is written.
+pub fn widen(old: &[u8], records: &mut [u8]) -> Result<usize, Refusal>
     ensures { Widens old.now records.old records.new result }
 {
     if old.len() % OLD_RECORD_SIZE != 0 {
-        return Widened::NotGood;
+        return Err(Refusal::ListNotGood);
     }
-    let count = old.len() / OLD_RECORD_SIZE;
-    if MOST_RECORDS < count {
-        return Widened::NotGood;
+    if MOST_RECORDS < old.len() / OLD_RECORD_SIZE {
+        return Err(Refusal::ListNotGood);
     }
-    let decided = decide_old(old);
-    let Decided::Good {
-        records: _,
-        pieces: _,
-        classes: _,
-    } = decided
-    else {
-        return Widened::NotGood;
-    };
-    if records.len() < RECORD_SIZE * count {
-        return Widened::NoRoom;
+    let counts = decide_old(old).ok_or(Refusal::ListNotGood)?;
+    if records.len() < RECORD_SIZE * counts.records {
+        return Err(Refusal::BufferTooShort);
     }
     write_wide(old, records);
-    Widened::Written { records: count }
+    Ok(counts.records)
 }
