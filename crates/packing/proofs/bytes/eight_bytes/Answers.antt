@@ -1,10 +1,7 @@
 -- `packing::bytes::eight_bytes` meets its contract, by the byte of one state more below the others.
 use Rattle.std.proofs.Common.{◌-◌, arith}
-use Rattle.packing.specs.StateBytes.{bytes_none, bytes_more, bytes_fit, bytes_all}
+use Rattle.packing.specs.StateBytes.{bytes_more, bytes_fit}
 use Rattle.packing.proofs.bytes.eight_bytes.Goals as goal
-
-pub loop-place-init : goal.loop-place-init
-loop-place-init c = bytes_none _ _
 
 pub overflow_mul-word : goal.overflow_mul-word
 overflow_mul-word c = record { fits = omega (arith, bytes_fit c.loop-place.invariant (omega arith)) }
@@ -20,6 +17,3 @@ pub loop-place-preserved : goal.loop-place-preserved
 loop-place-preserved c =
     rw c.from.ensures (bytes_more c.args.first (c.loop-place.place - 1) c.loop-place.invariant c.byte_at.ensures
     (omega arith) (omega arith))
-
-pub returns : goal.returns
-returns c = bytes_all c.loop-place.invariant (omega arith)
