@@ -1,4 +1,3 @@
 -- What running a table over the lines of a text promises.
 pub mod Promise
 pub mod Unique
-pub mod Lent

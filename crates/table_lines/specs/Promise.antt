@@ -1,21 +1,18 @@
 -- What running a table over the lines of a text promises: each line's byte is what the table says of that line.
-use Rattle.std.specs.Prelude.{ℕ, ◌≤◌, ◌<◌, ◌≡◌, Bool, List, length}
+use Rattle.std.specs.Prelude.{ℕ, ◌≤◌, ◌<◌, ◌≡◌, Bool, List, Result, length}
 use Rattle.tree.specs.RefusalNumbers.{text_too_long, buffer_too_short, table_too_short}
 use Rattle.tree.specs.Limits.{longest_text}
 use Rattle.running.specs.Runs.{runs}
 use Rattle.running.specs.Answer.{shortest_table}
 use Rattle.input.specs.Lines.{lines}
-use Rattle.lines.specs.Answer.{LinesNumbers, refusing_lines, counting_lines}
+use Rattle.lines.specs.Answer.{LinesNumbers, refusing_lines, counting_lines, lines_numbers}
 use Rattle.lines.specs.Promise.{LinesWritten}
-use Rattle.table_lines.specs.declared.TableLines.{TableLines}
-use Rattle.table_lines.specs.declared.TableLines.TheVariants.{Answered, TooShort, TooLong, NoRoom}
+use Rattle.tree.specs.declared.counted.LineCounts.{LineCounts}
+use Rattle.tree.specs.declared.refusal.Refusal.{Refusal}
 
--- the numbers that each case of an answer gives back
-abbrev pub table_lines_numbers : TableLines → LinesNumbers
-table_lines_numbers (Answered line_count yes_lines) = counting_lines line_count yes_lines
-table_lines_numbers TooShort = refusing_lines table_too_short
-table_lines_numbers TooLong = refusing_lines text_too_long
-table_lines_numbers NoRoom = refusing_lines buffer_too_short
+-- the numbers that each case of an answer gives back: those of the lines' answers
+abbrev pub table_lines_numbers : Result LineCounts Refusal → LinesNumbers
+table_lines_numbers = lines_numbers
 
 -- the table says yes or no of a line
 abbrev pub TableSays : (table : List ℕ) → List ℕ → Bool → Type 0

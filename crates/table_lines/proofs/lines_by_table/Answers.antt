@@ -1,10 +1,8 @@
 -- `table_lines::lines_by_table` meets its contract: a table that is too short is refused, then a text that is too long,
--- then a buffer that is too short; otherwise the promise is that of `run_lines`.
-use mathlib.Core.Path.{refl}
-use native.Mathlib.Omega.{arith}
-use borrow.Author.Tests.{not-true, not-false}
-use borrow.Author.Rules.{rules}
-use Rattle.table_lines.specs.Promise.{Runnable, table_short, text_long, no_room, answered}
+-- then a buffer that is too short; otherwise what is written of each line is what the table says of it.
+use Rattle.std.proofs.Common.{arith, refl, rules}
+use Rattle.lines.specs.LinesLoop.{written_tells}
+use Rattle.table_lines.specs.Promise.{table_short, text_long, no_room, answered}
 use Rattle.table_lines.proofs.lines_by_table.Goals as goal
 
 pub returns-then-table-lt-HEADING : goal.returns-then-table-lt-HEADING
@@ -17,17 +15,13 @@ returns-then-text-gt-LONGEST_TEXT c =
 
 pub returns-then-not-has_room : goal.returns-then-not-has_room
 returns-then-not-has_room c =
-    let more = c.has_room.ensures.fails (not-true _ c.if-not-has_room.true-raw) in
+    let more = c.has_room.ensures.fails (search rules) in
     no_room
     (record {
       long_enough = omega (arith, c.if-table-lt-HEADING.false);
       short = omega (arith, c.if-text-gt-LONGEST_TEXT.false);
     })
     (omega (arith, more)) refl
-
-pub run_lines-counts-requires : goal.run_lines-counts-requires
-run_lines-counts-requires c =
-    c.has_room.ensures.holds (not-false _ c.if-not-has_room.false-raw)
 
 pub returns : goal.returns
 returns c =
@@ -36,4 +30,4 @@ returns c =
       long_enough = omega (arith, c.if-table-lt-HEADING.false);
       short = omega (arith, c.if-text-gt-LONGEST_TEXT.false);
     })
-    c.run_lines-counts.ensures
+    (written_tells (λ line matched short says. search rules) c.answer_lines.ensures)
