@@ -13,11 +13,7 @@ use tree::refusal::Refusal;
 
 // Writes a byte for each line of the text, 1 where the table accepts the line and 0 where it does not. Where something
 // is refused, nothing is written.
-pub fn lines_by_table(
-    table: &[u16],
-    text: &[u8],
-    answers: &mut [u8],
-) -> Result<LineCounts, Refusal>
+pub fn lines_by_table(table: &[u16], text: &[u8], answers: &mut [u8]) -> Result<LineCounts, Refusal>
     ensures { TableLinesAnswers table.now text.now answers.old
         answers.new (table_lines_numbers result) }
 {
