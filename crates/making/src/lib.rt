@@ -3,7 +3,6 @@
 
 pub mod numbers;
 
-ghost use Rattle.preparing.specs.Made.{RoomFor};
 ghost use Rattle.making.specs.Answer.{made_numbers};
 ghost use Rattle.making.specs.Promise.{Makes};
 
@@ -12,22 +11,6 @@ use tables::TABLE_WORDS;
 use tabulating::{Made, tabulate};
 use tree::limits::FEW_SLOTS;
 use tree::refusal::Refusal;
-
-// Of any list, with rows lent for its pieces.
-fn make_in(
-    list: &[u8],
-    classes: &[u8],
-    rows: &mut [u64],
-    table: &mut [u16],
-    room: &mut [u64],
-) -> Result<Option<Made>, Refusal>
-    requires { RoomFor list.now rows.old }
-    ensures { Makes list.now classes.now table.old table.new
-        room.old room.new (made_numbers result) }
-{
-    let counts = prepare_for(list, classes, FEW_SLOTS, rows)?;
-    Ok(tabulate(rows, counts.pieces, classes, table, room))
-}
 
 // Makes a table of steps in the lent one, with room lent for finding its states. Where it does not fit it answers
 // `None`, and no entry of the table differs: the table or the room is too short for it, or it would have more than 65,536
@@ -44,5 +27,6 @@ pub fn make_table(
         room.old room.new (made_numbers result) }
 {
     let mut rows = [0u64; TABLE_WORDS];
-    make_in(list, classes, &mut rows, table, room)
+    let counts = prepare_for(list, classes, FEW_SLOTS, &mut rows)?;
+    Ok(tabulate(&rows, counts.pieces, classes, table, room))
 }

@@ -26,5 +26,6 @@ pub fn lines_by_table(table: &[u16], text: &[u8], answers: &mut [u8]) -> Result<
     if !has_room(text, answers.len()) {
         return Err(Refusal::BufferTooShort);
     }
-    Ok(answer_lines(text, answers, |line| runs(table, line)))
+    let counts = answer_lines(text, answers, |line| runs(table, line));
+    Ok(counts)
 }

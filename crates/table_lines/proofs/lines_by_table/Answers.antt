@@ -30,4 +30,4 @@ returns c =
       long_enough = omega (arith, c.if-table-lt-HEADING.false);
       short = omega (arith, c.if-text-gt-LONGEST_TEXT.false);
     })
-    (written_tells (λ line matched short says. search rules) c.answer_lines.ensures)
+    (written_tells (λ line matched short says. search rules) c.answer_lines-counts.ensures)

@@ -1,11 +1,11 @@
--- `making::make_in` meets its contract: the rows that are made are those of the list's tree, and the answer is that of
+-- `making::make_table` meets its contract: the rows that are made are those of the list's tree, and the answer is that of
 -- this tree.
 use Rattle.std.proofs.Common.{refl}
 use Rattle.std.proofs.lemmas.Result.{err_from_is_err_and}
 use Rattle.preparing.specs.MadeFor.{told_tree, told_classed, told_prepared}
 use Rattle.making.specs.Promise.{refused}
 use Rattle.making.proofs.Told.{told_refused, told_answer}
-use Rattle.making.proofs.make_in.Goals as goal
+use Rattle.making.proofs.make_table.Goals as goal
 
 pub returns-in_err-counts : goal.returns-in_err-counts
 returns-in_err-counts c =
