@@ -1,5 +1,5 @@
 -- The first line as the iterator over the lines gives it, and an empty one where there is none.
-use Rattle.std.specs.Prelude.{ℕ, ◌≡◌, refl, Option, Some, None, List, []}
+use Rattle.std.specs.Prelude.{ℕ, ◌≡◌, Option, Some, None, List, []}
 use Rattle.std.specs.Iterator.{YieldsFirstRef}
 use Rattle.std.specs.Option.{unwrap_or}
 use Rattle.std.proofs.Common.{Bor, sym, ap, ◌∙◌}

@@ -1,8 +1,8 @@
-// The lines of a text; where one ends, and where the next one begins.
-ghost use Rattle.std.specs.Prelude.{◌≤◌, ◌≡◌, length, drop};
+// The lines of a text.
+ghost use Rattle.std.specs.Prelude.{◌≤◌, ◌≡◌, length};
 ghost use Rattle.std.specs.Iterator.{YieldsFirstRef, item_count};
 ghost use Rattle.input.specs.Lines.{lines};
-ghost use Rattle.input.specs.Ends.{end_size, Ends, after_end};
+ghost use Rattle.input.specs.Ends.{end_size, Ends};
 ghost use Rattle.input.specs.Left.{lines_left};
 
 // The lines of a text that are left.
@@ -31,7 +31,7 @@ impl<'a> Iterator for Lines<'a> {
         if self.rest.is_empty() {
             return None;
         }
-        let (line, rest) = self.rest.split_at(line_end(self.rest, 0));
+        let (line, rest) = self.rest.split_at(line_end(self.rest));
         self.rest = &rest[end_size(rest)..];
         Some(line)
     }
@@ -52,23 +52,14 @@ fn end_size(bytes: &[u8]) -> usize
 // The larger of the two bytes that an end can begin with: nearly every byte of a text is above it.
 const LAST_OF_ENDS: u8 = b'\r';
 
-// The place of the next end from a place on, or the input's length where none stands there.
-pub fn line_end(input: &[u8], start: usize) -> usize
-    requires { start ≤ length input.now }
-    ensures { Ends input.now start result }
+// Where the first end stands, or the text's length where there is none.
+fn line_end(text: &[u8]) -> usize
+    ensures { Ends text.now 0 result }
 {
-    for end in start..input.len() {
-        if input[end] <= LAST_OF_ENDS && end_size(&input[end..]) > 0 {
+    for (end, byte) in text.iter().enumerate() {
+        if *byte <= LAST_OF_ENDS && end_size(&text[end..]) > 0 {
             return end;
         }
     }
-    input.len()
-}
-
-// The place where the line after an end begins.
-pub fn next_line(input: &[u8], end: usize) -> usize
-    requires { end ≤ length input.now }
-    ensures { result ≡ after_end input.now end }
-{
-    end + end_size(&input[end..])
+    text.len()
 }

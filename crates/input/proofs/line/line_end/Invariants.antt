@@ -1,7 +1,7 @@
 -- `input::line::line_end` meets its contract: no byte passed begins an end.
-use Rattle.std.proofs.Common.{◌≤◌, ◌<◌, ◌≡◌, ℕ, drop}
+use Rattle.std.proofs.Common.{◌<◌, ◌≡◌, ℕ, drop}
 use Rattle.input.specs.Ends.{end_size}
 use Rattle.input.proofs.line.line_end.Given as goal
 
 abbrev pub invariant-loop-end : goal.invariant-loop-end
-invariant-loop-end l = (i : ℕ) → l.start ≤ i → i < l.end → end_size (drop i l.input) ≡ 0
+invariant-loop-end l = (i : ℕ) → i < l.end → end_size (drop i l.text) ≡ 0
