@@ -54,6 +54,7 @@ pub fn close_after(rows: &[u64], piece: usize, word: u64, done: u64) -> u64
     let jumps = rows[at + 1];
     let mut left = jumps ^ (done & jumps);
     let mut closed = run_on(word, on);
+    // No walk over a list: which jumps are taken next hangs on what those before have reached.
     while closed & left != 0 {
         let taken = closed & left;
         left ^= taken;

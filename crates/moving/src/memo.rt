@@ -9,7 +9,8 @@ use crate::moves::moved_closed;
 
 // How many steps are remembered.
 const REMEMBERED_STEPS: u64 = 64;
-// Each takes two words: the first tells the marked leaves and the byte, the second is the word after the step.
+// Each takes two words: the first tells the marked leaves and the byte, the second is the word after the step. They lie in
+// one array of numbers, which whoever lends it sets to 0 in one go.
 pub const MEMO_WORDS: usize = 128;
 // How many bytes there are.
 const BYTE_COUNT: u64 = 256;

@@ -98,9 +98,10 @@ pub struct Reported {
 // Sweeps the run of a piece, whose row is the first of the table: closes the piece itself, then goes through its child
 // pieces from left to right, whose runs stand one after the other behind its own word. A marked start is passed down,
 // the child is swept, a marked accepting state is passed up, and the piece is closed again. Marks of the child pieces
-// are among the words `from` to `to` only: a run with none of them is passed over if its start is not marked. Answers
-// whether all starts were marked in time, so that another sweep would change nothing, and whether nothing is marked: by
-// what each closing and each child's sweep say.
+// are among the words `from` to `to` only: a run with none of them is passed over if its start is not marked. They are
+// two numbers and no span, since a span has a mark in its last word and these need not. Answers whether all starts were
+// marked in time, so that another sweep would change nothing, and whether nothing is marked: by what each closing and
+// each child's sweep say.
 pub fn sweep(rows: &[u64], from: usize, to: usize, words: &mut [u64]) -> Reported
     requires { SweepReady rows.now from to words.old }
     ensures swept { (x : Nested Leaf) → Sweepable rows.now x words.old
