@@ -1,16 +1,13 @@
 -- `moving::moves::move_all` meets its contract: one word more is moved and closed, and the span widened by it.
 use Rattle.std.proofs.Common.{ℕ, ◌<◌, List, length, get_or-set_same, arith}
-use Rattle.moving.specs.WordsMovedClosed.{MovingClosing, moving_none, moving_more, moving_all}
-use Rattle.moving.specs.Spans.{spans_none, spans_more, spans_all}
+use Rattle.moving.specs.WordsMovedClosed.{MovingClosing, moving_more, moving_all}
+use Rattle.moving.specs.Spans.{spans_more}
 use Rattle.moving.proofs.moves.move_all.Goals as goal
 
 -- a piece stands in the words as they are so far
 inside_words : {rows classes before after : List ℕ} {byte piece : ℕ}
     → MovingClosing rows classes before after byte piece → piece < length before → piece < length after
 inside_words moving inside = omega (arith, moving.moves.same_length, moving.closes.same_length)
-
-pub loop-piece-init : goal.loop-piece-init
-loop-piece-init c = (moving_none _ _ _ _, spans_none _)
 
 pub loop-piece-preserved : goal.loop-piece-preserved
 loop-piece-preserved c =
@@ -22,9 +19,5 @@ loop-piece-preserved c =
           (rw get_or-set_same at c.widened-span.ensures),
     )
 
-pub returns : goal.returns
-returns c =
-    let done = c.loop-piece.invariant in record {
-      moved_closed = moving_all (omega arith) done.0;
-      spans = spans_all c.loop-piece.words c.loop-piece.span (omega arith) done.1;
-    }
+pub returns-clause-moved_closed : goal.returns-clause-moved_closed
+returns-clause-moved_closed c = moving_all (omega arith) c.loop-piece.invariant.0
