@@ -3,9 +3,9 @@
 pub mod OutputLimits
 pub mod Digits
 pub mod ReportLines
+pub mod Printing
+pub mod Printer
 -- how the code comes to its answer
 pub mod DigitLaws
-pub mod Printer
-pub mod Printing
 pub mod PrintingLaws
 pub mod PrinterLaws

@@ -1,5 +1,5 @@
 -- What a printer prints in parts is printed together: bytes one after the other, none, and the digits of a number.
-use Rattle.std.specs.Prelude.{ℕ, ◌+◌, ◌/◌, ◌%◌, ◌≤◌, ◌<◌, ◌≡◌, List, [], ◌∷◌, ◌++◌, refl}
+use Rattle.std.specs.Prelude.{ℕ, ◌/◌, ◌%◌, ◌≤◌, ◌<◌, ◌≡◌, List, [], ◌∷◌, ◌++◌, refl}
 use Rattle.std.proofs.Common.{◌∙◌, length}
 use Rattle.printing.specs.Digits.{digit, digits}
 use Rattle.printing.specs.Printer.{HasRoom, Puts}

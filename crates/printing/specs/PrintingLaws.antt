@@ -4,7 +4,7 @@ use Rattle.std.proofs.Math.Path.{sym, ap}
 use Rattle.std.proofs.Common.{◌∙◌, add_assoc, add-one, arith, length-append, length-set, drop_at, length-take-le}
 use mathlib.Core.List.{List, [], ◌∷◌, ◌++◌, append_assoc}
 use Rattle.std.proofs.Math.ListN.{length, take, drop}
-use Rattle.std.proofs.Math.Seq.{take_at, drop-drop, append_snoc, take-length, paste, paste-zero}
+use Rattle.std.proofs.Math.Seq.{take_at, drop-drop, append_snoc, paste-zero}
 use Rattle.std.proofs.lemmas.List.{set_split}
 use Rattle.printing.specs.Digits.{digit, digits}
 use Rattle.printing.specs.DigitLaws.{digits_small, digits_large}

@@ -8,7 +8,7 @@ use native.Mathlib.Omega.{arith}
 use Rattle.std.proofs.Math.ListN.{length, take, length-append, length-drop}
 use Rattle.std.proofs.lemmas.List.{drop-append-le}
 use Rattle.std.proofs.Math.Seq.{take-length}
-use borrow.Author.Tests.{lt-ltb, le-ltb, eqb-true, ltb-false, eq-eqb, ne_eqb}
+use borrow.Author.Tests.{lt-ltb, le-ltb, eqb-true, ltb-false, eq-eqb}
 use Rattle.operands.specs.Text.{bytes as letters}
 use Rattle.input.specs.Part.{part}
 use Rattle.input.proofs.EndLaws.{lent_part}
@@ -161,19 +161,9 @@ module _ (bytes : List ℕ) (place : ℕ) where
   unfolding cut_start
   start_whole e = rw (eq-eqb _ _ e) refl
 
-  pub start_part : (fitting most_columns bytes ≡ length bytes → ⊥)
-      → cut_start bytes place ≡ cut_begins bytes side_columns place
-  unfolding cut_start
-  start_part e = rw (ne_eqb _ _ e) refl
-
   pub end_whole : fitting most_columns bytes ≡ length bytes → cut_end bytes place ≡ length bytes
   unfolding cut_end
   end_whole e = rw (eq-eqb _ _ e) refl
-
-  pub end_part : (fitting most_columns bytes ≡ length bytes → ⊥)
-      → cut_end bytes place ≡ place + fitting side_columns (drop place bytes)
-  unfolding cut_end
-  end_part e = rw (ne_eqb _ _ e) refl
 
 module _ (bytes : List ℕ) (place : ℕ) (inside : place ≤ length bytes) where
   -- what is shown before the place, and from it on, where nothing is left out
