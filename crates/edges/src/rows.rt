@@ -1,8 +1,9 @@
 // The rows of the table, a case each.
 use crate::calls;
-use fields::{bytes_of, numbers_of};
-use std::alloc::{AllocError, Global};
+use fields::{Row, numbers};
+use std::alloc::Global;
 use std::io;
+use tree::limits::MOST_PIECES;
 
 // What a row calls by: an expression of the first syntax, one of the second, or a list.
 #[derive(Clone, Copy, PartialEq, Eq)]
@@ -12,15 +13,12 @@ pub enum By {
     List,
 }
 
-impl TryFrom<u8> for By {
-    type Error = u8;
-
-    fn try_from(letter: u8) -> Result<By, u8> {
+impl From<u8> for By {
+    fn from(letter: u8) -> By {
         match letter {
-            b'1' => Ok(By::First),
-            b'2' => Ok(By::Second),
-            b'l' => Ok(By::List),
-            _ => Err(letter),
+            b'1' => By::First,
+            b'2' => By::Second,
+            _ => By::List,
         }
     }
 }
@@ -36,67 +34,59 @@ pub enum Call {
     Step,
 }
 
-impl TryFrom<u8> for Call {
-    type Error = u8;
-
-    fn try_from(letter: u8) -> Result<Call, u8> {
+impl From<u8> for Call {
+    fn from(letter: u8) -> Call {
         match letter {
-            b'r' => Ok(Call::Read),
-            b'm' => Ok(Call::Match),
-            b's' => Ok(Call::Search),
-            b'b' => Ok(Call::Bytes),
-            b'w' => Ok(Call::Walk),
-            b't' => Ok(Call::Step),
-            _ => Err(letter),
+            b'r' => Call::Read,
+            b'm' => Call::Match,
+            b's' => Call::Search,
+            b'b' => Call::Bytes,
+            b'w' => Call::Walk,
+            _ => Call::Step,
         }
     }
 }
 
-// A case: what is called, what is printed first, and what is lent.
-#[derive(Drop)]
-pub struct Row {
+// The numbers of a call by words: how many words are lent, how many are shown, and a word for each piece.
+pub const MOST_NUMBERS: usize = MOST_PIECES + 2;
+
+// A case: what is called, and what is lent.
+#[derive(Clone, Copy)]
+pub struct Case<'a> {
     pub by: By,
     pub call: Call,
-    title: Vec<u8>,
     // The expression or the list.
-    pub first: Vec<u8>,
-    pub text: Vec<u8>,
-    pub numbers: Vec<u64>,
+    pub first: &'a [u8],
+    pub text: &'a [u8],
+    pub numbers: [u64; MOST_NUMBERS],
     // The classes of a list.
-    pub classes: Vec<u8>,
+    pub classes: &'a [u8],
 }
 
-impl Row {
-    // The row of a line, its fields in the order of the struct's, the two letters in one: none where they say no call.
-    fn parse(alloc: Global, line: &str) -> Result<Option<Row>, AllocError> {
-        let mut fields = line.split('\t');
-        let [by, call, ..] = fields.next().unwrap_or("").as_bytes() else {
-            return Ok(None);
-        };
-        let (Ok(by), Ok(call)) = (By::try_from(*by), Call::try_from(*call)) else {
-            return Ok(None);
-        };
-        Ok(Some(Row {
-            by,
-            call,
-            title: bytes_of(alloc, fields.next().unwrap_or(""))?,
-            first: bytes_of(alloc, fields.next().unwrap_or(""))?,
-            text: bytes_of(alloc, fields.next().unwrap_or(""))?,
-            numbers: numbers_of(alloc, fields.next().unwrap_or(""))?,
-            classes: bytes_of(alloc, fields.next().unwrap_or(""))?,
-        }))
-    }
+// Tries the case of a line. Its fields: by what it calls, and the letter of the call; what is printed first; the expression or
+// the list; the text; numbers; the classes of a list.
+fn try_case(rt: &impl Print, alloc: Global, line: &[u8]) -> io::Result<()> {
+    let row = Row::parse(alloc, line)?;
+    let [by, call, ..] = row.field(0) else {
+        return Ok(());
+    };
+    let case = Case {
+        by: By::from(*by),
+        call: Call::from(*call),
+        first: row.field(2),
+        text: row.field(3),
+        numbers: numbers(row.field(4)),
+        classes: row.field(5),
+    };
+    rt.write_all(row.field(1))?;
+    calls::call(rt, alloc, &case)?;
+    rt.write_all(b"\n")
 }
 
-// Each line's row.
+// Each line's case.
 pub fn each_row(rt: &impl Print, alloc: Global, input: &[u8]) -> io::Result<()> {
-    let table = String::from_utf8_lossy(alloc, input)?;
-    for line in table.split('\n') {
-        if let Some(row) = Row::parse(alloc, line)? {
-            rt.write_all(&row.title)?;
-            calls::call(rt, alloc, &row)?;
-            rt.print("\n")?;
-        }
+    for line in input.split_inclusive(|byte| *byte == b'\n') {
+        try_case(rt, alloc, line.strip_suffix(b"\n").unwrap_or(line))?;
     }
     Ok(())
 }

@@ -1,47 +1,115 @@
-// Fields of a row of a table. In a field `%` and two hex digits are a byte, and `~`, a number and `;` are as many more of
-// the byte before them.
+// Rows of a table: fields with a tab between them. In a field `%` and two hex digits are a byte, and `~`, a number and
+// `;` are as many more of the byte before them.
 #![tactic(auto)]
+
+ghost use Rattle.std.specs.Prelude.{◌<◌, ◌≤◌, length};
+ghost use Rattle.std.specs.Option.{ForSome};
 
 use std::alloc::{AllocError, Global};
 
-// Puts a text with `%`s in it: a part after a `%` begins with the digits of a byte.
-fn put_text(bytes: &mut Vec<u8>, text: &str) -> Result<(), AllocError> {
-    let (plain, coded) = text.split_once('%').unwrap_or((text, ""));
-    bytes.extend_from_slice(plain.as_bytes())?;
-    for part in coded.split('%') {
-        let (digits, plain) = part.split_at_checked(2).unwrap_or((part, ""));
-        if let Ok(byte) = u8::from_str_radix(digits, 16) {
-            bytes.push(byte)?;
+// How many bytes the fields of a row have at most: those past them are left out.
+const MOST_BYTES: usize = 66000;
+
+// A number as large takes no more digits.
+const LARGE: u64 = 1000000000000;
+
+// The value of a hex digit, 0 of any other byte.
+fn digit(byte: u8) -> u8 {
+    match byte {
+        b'0'..=b'9' => byte - b'0',
+        b'a'..=b'f' => byte - b'a' + 10,
+        _ => 0,
+    }
+}
+
+// The number that these digits spell.
+fn number(digits: &[u8]) -> u64 {
+    digits.iter().fold(0, |value: u64, byte| {
+        if value < LARGE {
+            10 * value + u64::from(digit(*byte))
+        } else {
+            value
         }
-        bytes.extend_from_slice(plain.as_bytes())?;
-    }
-    Ok(())
+    })
 }
 
-// Puts so many more of the last byte, and then the text after the `;`.
-fn put_more(bytes: &mut Vec<u8>, part: &str) -> Result<(), AllocError> {
-    let (digits, text) = part.split_once(';').unwrap_or((part, ""));
-    if let (Some(last), Ok(more)) = (bytes.last().copied(), digits.parse::<usize>()) {
-        bytes.resize(bytes.len().saturating_add(more), last)?;
-    }
-    put_text(bytes, text)
+// How many bytes the first part of a line has, which stands for one byte, for more of the byte before, or for the end of
+// a field.
+fn part_size(line: &[u8]) -> Option<usize>
+    ensures some { ForSome result (λ size. 0 < size) }
+    ensures within { ForSome result (λ size. size ≤ length line.now) }
+{
+    let size = match line.first()? {
+        b'%' => 3,
+        b'~' => line
+            .iter()
+            .position(|byte| *byte == b';')
+            .map_or(line.len(), |i| i + 1),
+        _ => 1,
+    };
+    Some(size.min(line.len()))
 }
 
-// The bytes that a field stands for.
-pub fn bytes_of(alloc: Global, field: &str) -> Result<Vec<u8>, AllocError> {
-    let mut bytes = Vec::new(alloc);
-    let mut parts = field.split('~');
-    put_text(&mut bytes, parts.next().unwrap_or(""))?;
-    for part in parts {
-        put_more(&mut bytes, part)?;
-    }
-    Ok(bytes)
+// A row: the bytes of its fields, one behind the other, and where each field ends.
+#[derive(Drop)]
+pub struct Row {
+    bytes: Vec<u8>,
+    ends: Vec<usize>,
 }
 
-// The numbers of a field, with a space between them.
-pub fn numbers_of(alloc: Global, field: &str) -> Result<Vec<u64>, AllocError> {
-    field
-        .split(' ')
-        .filter_map(|digits| digits.parse().ok())
-        .collect(alloc)
+impl Row {
+    // The row of a line.
+    pub fn parse(alloc: Global, line: &[u8]) -> Result<Row, AllocError> {
+        let mut row = Row {
+            bytes: Vec::new(alloc),
+            ends: Vec::new(alloc),
+        };
+        let mut rest = line;
+        while let Some(size) = part_size(rest) {
+            let (part, after) = rest.split_at(size);
+            row.put(part)?;
+            rest = after;
+        }
+        row.ends.push(row.bytes.len())?;
+        Ok(row)
+    }
+
+    // Puts what a part stands for.
+    fn put(&mut self, part: &[u8]) -> Result<(), AllocError> {
+        match part {
+            [b'\t'] => Ok(self.ends.push(self.bytes.len())?),
+            [byte] => self.put_bytes(*byte, 1),
+            [b'%', high, low] => self.put_bytes(digit(*high) << 4 | digit(*low), 1),
+            [_, digits @ .., _] => {
+                let last = self.bytes.last().copied().unwrap_or(0);
+                self.put_bytes(last, number(digits) as usize)
+            }
+            [] => Ok(()),
+        }
+    }
+
+    // Puts so many of a byte, as far as there is room.
+    fn put_bytes(&mut self, byte: u8, count: usize) -> Result<(), AllocError> {
+        let size = self.bytes.len().saturating_add(count).min(MOST_BYTES);
+        self.bytes.resize(size, byte)
+    }
+
+    // A field by its number, from 0: it is empty where there is none.
+    pub fn field(&self, number: usize) -> &[u8] {
+        let start = match number.checked_sub(1) {
+            Some(before) => self.ends.get(before).copied().unwrap_or(0),
+            None => 0,
+        };
+        let end = self.ends.get(number).copied().unwrap_or(0);
+        self.bytes.get(start..end).unwrap_or(b"")
+    }
+}
+
+// The numbers of a field, with a space between them, and 0 for those that it does not have.
+pub fn numbers<const COUNT: usize>(field: &[u8]) -> [u64; COUNT] {
+    let mut numbers = [0; COUNT];
+    for (place, digits) in numbers.iter_mut().zip(field.split(|byte| *byte == b' ')) {
+        *place = number(digits);
+    }
+    numbers
 }
