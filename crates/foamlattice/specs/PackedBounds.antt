@@ -1,9 +1,10 @@
 -- The parts of every right answer are in range, so unpacking its number gives them back.
-use Rattle.std.specs.Prelude.{ℕ, ◌+◌, ◌*◌, ◌/◌, ◌%◌, ◌≤◌, ◌≡◌, refl, Bool, true, false, cond, List, [], ltb}
+use Rattle.std.specs.Prelude.{ℕ, ◌+◌, ◌*◌, ◌/◌, ◌%◌, ◌≤◌, ◌≡◌, refl, Bool, true, false, cond, List, [], ltb, Result, Ok, Err}
 use Rattle.std.proofs.Common.{arith, ap, length-append, ltb-false}
 use Rattle.language.specs.Tree.{Tree, leaf, catenation, union, star, nodes}
 use Rattle.language.specs.Automaton.{States}
 use Rattle.tree.specs.RefusalNumbers.{too_many_pieces, buffer_too_short, class_buffer_too_short, too_many_nodes}
+use Rattle.tree.specs.declared.refusal.Refusal.{Refusal}
 use Rattle.tree.specs.Leaf.{Leaf}
 use Rattle.tree.specs.Layout.{record_size}
 use Rattle.tree.specs.Limits.{longest_expression, most_records, most_pieces, longest_text}
@@ -65,8 +66,6 @@ use Rattle.finder.specs.Promise.{
   search_nothing,
 }
 use Rattle.finder.specs.Decide.{matches}
-use Rattle.picker.specs.declared.Picked.{Picked}
-use Rattle.picker.specs.declared.Picked.TheVariants.{Written, NoRoom}
 use Rattle.printing.specs.OutputLimits.{most_output}
 use Rattle.reporting.specs.OutputBound.{output_length}
 use Rattle.picker.specs.Promise.{Picks}
@@ -315,11 +314,11 @@ steps_ranges (no_byte (stayed s)) = made_marks s.made
 steps_ranges (one_more each s) = step_ranges s
 
 -- an output has at most 1,048,575 bytes
-pub pick_length_small : (input before after : List ℕ) (answer : Picked) → Picks input before after answer
+pub pick_length_small : (input before after : List ℕ) (answer : Result ℕ Refusal) → Picks input before after answer
     → pick_length answer ≤ most_output
-pick_length_small input before after (Written size) right = omega
+pick_length_small input before after (Ok size) right = omega
     (arith, right.sized, output_length (matches []) input)
-pick_length_small input before after NoRoom right = omega arith
+pick_length_small input before after (Err refusal) right = omega arith
 
 -- a number and a flag of a case are small
 pub record SmallCase (number flag : ℕ) : Type 0 where
@@ -333,9 +332,9 @@ pub flag_small : (flag : Bool) → cond flag 1 0 ≤ 1
 flag_small true = omega arith
 flag_small false = omega arith
 
-pick_small : (answer : Picked) → SmallCase 0 (pick_flag answer)
-pick_small (Written size) = small 0 1 (omega arith) (omega arith)
-pick_small NoRoom = small 0 0 (omega arith) (omega arith)
+pick_small : (answer : Result ℕ Refusal) → SmallCase 0 (pick_flag answer)
+pick_small (Ok size) = small 0 1 (omega arith) (omega arith)
+pick_small (Err refusal) = small 0 0 (omega arith) (omega arith)
 
 -- a small number and flag are in range beside x and y of at most 1,048,575
 case_unpacks : (r number flag x y : ℕ) → SmallCase number flag → x ≤ most_output → y ≤ most_output

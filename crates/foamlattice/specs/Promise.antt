@@ -1,6 +1,7 @@
 -- What each call of the outside interface answers: the number that an answer is packed into, and that the answer is
 -- right.
-use Rattle.std.specs.Prelude.{ℕ, ◌+◌, ◌*◌, ◌≡◌, cond, List}
+use Rattle.std.specs.Prelude.{ℕ, ◌+◌, ◌*◌, ◌≡◌, cond, List, Result, Ok, Err}
+use Rattle.tree.specs.declared.refusal.Refusal.{Refusal}
 use Rattle.reader.specs.Answer.{ReadNumbers}
 use Rattle.checker.specs.Checked.{CountedNumbers}
 use Rattle.marks.specs.declared.numbers.MarksNumbers.{MarksNumbers}
@@ -11,11 +12,7 @@ use Rattle.finder.specs.Promise.{MatchAnswers, SearchAnswers}
 use Rattle.lines.specs.Answer.{LinesNumbers}
 use Rattle.lines.specs.Promise.{LinesAnswers}
 use Rattle.table_lines.specs.Promise.{TableLinesAnswers}
-use Rattle.picker.specs.declared.Picked.{Picked}
-use Rattle.picker.specs.declared.Picked.TheVariants.{Written, NoRoom}
 use Rattle.picker.specs.Promise.{Picks}
-use Rattle.widen.specs.declared.Widened.{Widened}
-use Rattle.widen.specs.declared.Widened.TheVariants.{Written as WideWritten, NotGood, NoRoom as WideTooLong}
 use Rattle.widen.specs.Promise.{Widens, widen_refusal}
 use Rattle.running.specs.declared.numbers.TableNumbers.{TableNumbers}
 use Rattle.making.specs.declared.numbers.MadeNumbers.{MadeNumbers}
@@ -45,24 +42,23 @@ abbrev pub lines_packed : LinesNumbers → ℕ
 lines_packed n = packed n.refusal 0 (n.place + n.line_count) n.yes_lines
 
 -- pick: the flag is 1 where the output was written; x is its length
-abbrev pub pick_flag : Picked → ℕ
-pick_flag (Written size) = 1
-pick_flag NoRoom = 0
+abbrev pub pick_flag : Result ℕ Refusal → ℕ
+pick_flag (Ok size) = 1
+pick_flag (Err refusal) = 0
 
-abbrev pub pick_length : Picked → ℕ
-pick_length (Written size) = size
-pick_length NoRoom = 0
+abbrev pub pick_length : Result ℕ Refusal → ℕ
+pick_length (Ok size) = size
+pick_length (Err refusal) = 0
 
-abbrev pub pick_packed : Picked → ℕ
+abbrev pub pick_packed : Result ℕ Refusal → ℕ
 pick_packed answer = packed 0 (pick_flag answer) (pick_length answer) 0
 
 -- widen: x is the count of records
-abbrev pub widen_count : Widened → ℕ
-widen_count (WideWritten records) = records
-widen_count NotGood = 0
-widen_count WideTooLong = 0
+abbrev pub widen_count : Result ℕ Refusal → ℕ
+widen_count (Ok records) = records
+widen_count (Err refusal) = 0
 
-abbrev pub widen_packed : Widened → ℕ
+abbrev pub widen_packed : Result ℕ Refusal → ℕ
 widen_packed answer = packed (widen_refusal answer) 0 (widen_count answer) 0
 
 -- table: the flag is 1 where the table was made; x is the count of its states, y that of its entries
@@ -117,13 +113,13 @@ pub record AnsweringByTable (table text before after : List ℕ) (r : ℕ) : Typ
 
 -- the buffer afterwards and the number r are those of a right picking
 pub record Picking (input before after : List ℕ) (r : ℕ) : Type 0 where
-  pub answer : Picked
+  pub answer : Result ℕ Refusal
   pub right : Picks input before after answer
   pub as_number : r ≡ pick_packed answer
 
 -- the buffer afterwards and the number r are those of a right turning of an old list into one of today
 pub record Widening (old before after : List ℕ) (r : ℕ) : Type 0 where
-  pub answer : Widened
+  pub answer : Result ℕ Refusal
   pub right : Widens old before after answer
   pub as_number : r ≡ widen_packed answer
 

@@ -2,13 +2,16 @@
 // answers one number. The crate foamlattice_c exports each of these functions to callers in C and Rust.
 #![tactic(auto)]
 
-ghost use Rattle.std.specs.Prelude.{◌≡◌, length};
+ghost use Rattle.std.specs.Prelude.{◌≡◌, ◌≤◌, length};
+ghost use Rattle.tree.specs.Limits.{longest_expression};
+ghost use Rattle.tree.specs.Refusing.{refusal_number};
 ghost use Rattle.reader.specs.Answer.{read_answered, records_after};
 ghost use Rattle.checker.specs.Checked.{counted_numbers, checked};
 ghost use Rattle.reader.specs.SecondAnswer.{second_answered, second_records_after, second_classes_after};
 ghost use Rattle.operands.specs.Bytes.{first, second};
 ghost use Rattle.lines.specs.Answer.{lines_numbers};
 ghost use Rattle.running.specs.Answer.{table_answered};
+ghost use Rattle.one_number.specs.Packed.{packed};
 ghost use Rattle.foamlattice.specs.PackedBounds.{SecondRanges, FoundRanges, MarksRanges};
 ghost use Rattle.foamlattice.specs.LinesLaws.{LinesRanges};
 ghost use Rattle.foamlattice.specs.Promise.{
@@ -30,22 +33,29 @@ ghost use Rattle.foamlattice.specs.Promise.{
   Tabling,
 };
 
-use checker::{CountedAnswer, check, check_second};
+use checker::{check, check_second};
 use finder::numbers::{FoundNumbers, match_numbers, search_numbers};
 use finder::{is_match, search};
-use lines::{LinesAnswer, lines};
+use lines::lines;
 use making::make_table;
-use marks::numbers::numbers_of;
+use marks::numbers::{MarksNumbers, numbers_of};
 use marks::{start, step, steps};
 use one_number::{pack, pack_counts};
-use picker::{Picked, pick};
-use reader::{ReadAnswer, read, read_second};
+use picker::pick;
+use reader::{read, read_second};
 use running::match_table;
-use table_lines::{TableLines, lines_by_table};
-use tree::refusal_numbers::{
-    BUFFER_TOO_SHORT, CLASS_BUFFER_TOO_SHORT, LIST_NOT_GOOD, TABLE_TOO_SHORT, TEXT_TOO_LONG,
-};
-use widen::{Widened, widen};
+use table_lines::lines_by_table;
+use tree::counted::{Counts, LineCounts};
+use tree::refusal::{Refusal, Refused};
+use widen::widen;
+
+// What is refused, packed: the flag is 0, and x is the place.
+fn pack_refusal(refusal: Refusal, place: usize) -> u64
+    requires { place ≤ longest_expression }
+    ensures { result ≡ packed (refusal_number refusal) 0 place 0 }
+{
+    pack(refusal.number(), false, place, 0)
+}
 
 // Reads an expression of the first syntax into tree records.
 pub fn foam_read(expression: &[u8], records: &mut [u8]) -> u64
@@ -53,25 +63,20 @@ pub fn foam_read(expression: &[u8], records: &mut [u8]) -> u64
         (read_answered expression.now (length records.old)) }
     ensures buffer { records.new ≡ records_after expression.now records.old }
 {
-    let answer = read(expression, records);
-    match answer {
-        ReadAnswer::Read { records, pieces } => pack_counts(records, pieces, 0),
-        ReadAnswer::Refused { number, place } => pack(number, false, place, 0),
+    match read(expression, records) {
+        Ok(read) => pack_counts(read.records, read.pieces, 0),
+        Err(refused) => pack_refusal(refused.refusal, refused.place),
     }
 }
 
 // What a check, or a reading in the second syntax, gives back, packed.
-fn pack_counted(answer: CountedAnswer) -> u64
+fn pack_counted(answer: Result<Counts, Refused>) -> u64
     requires { SecondRanges (counted_numbers answer) }
     ensures { result ≡ second_packed (counted_numbers answer) }
 {
     match answer {
-        CountedAnswer::Counted {
-            records,
-            pieces,
-            classes,
-        } => pack_counts(records, pieces, classes),
-        CountedAnswer::Refused { number, place } => pack(number, false, place, 0),
+        Ok(counts) => pack_counts(counts.records, counts.pieces, counts.classes),
+        Err(refused) => pack_refusal(refused.refusal, refused.place),
     }
 }
 
@@ -79,16 +84,14 @@ fn pack_counted(answer: CountedAnswer) -> u64
 pub fn foam_check(expression: &[u8]) -> u64
     ensures { result ≡ second_packed (checked first expression.now) }
 {
-    let answer = check(expression);
-    pack_counted(answer)
+    pack_counted(check(expression))
 }
 
 // Checks an expression of the second syntax, with no buffer lent.
 pub fn foam_check2(expression: &[u8]) -> u64
     ensures { result ≡ second_packed (checked second expression.now) }
 {
-    let answer = check_second(expression);
-    pack_counted(answer)
+    pack_counted(check_second(expression))
 }
 
 // Reads an expression of the second syntax into tree records and class records.
@@ -100,8 +103,7 @@ pub fn foam_read2(expression: &[u8], records: &mut [u8], classes: &mut [u8]) -> 
     ensures classes { classes.new ≡ second_classes_after expression.now records.old
         classes.old }
 {
-    let answer = read_second(expression, records, classes);
-    pack_counted(answer)
+    pack_counted(read_second(expression, records, classes))
 }
 
 // What a match or a search gives back, packed.
@@ -121,29 +123,25 @@ fn pack_found(numbers: FoundNumbers) -> u64
 pub fn foam_match(records: &[u8], classes: &[u8], text: &[u8]) -> u64
     ensures { Matching records.now classes.now text.now result }
 {
-    let answer = is_match(records, classes, text);
-    let numbers = match_numbers(answer);
-    pack_found(numbers)
+    pack_found(match_numbers(is_match(records, classes, text)))
 }
 
 // The part of the text that starts earliest and then ends furthest, of those in the language of the list's tree.
 pub fn foam_search(records: &[u8], classes: &[u8], text: &[u8]) -> u64
     ensures { Searching records.now classes.now text.now result }
 {
-    let answer = search(records, classes, text);
-    let numbers = search_numbers(answer);
-    pack_found(numbers)
+    pack_found(search_numbers(search(records, classes, text)))
 }
 
 // What a start or a step gives back, packed.
-fn pack_marked(numbers: marks::numbers::MarksNumbers) -> u64
+fn pack_marked(numbers: MarksNumbers) -> u64
     requires { MarksRanges numbers }
     ensures { result ≡ marks_packed numbers }
 {
     pack(
         numbers.refusal,
         numbers.accepting,
-        numbers.place + numbers.nothing as usize,
+        numbers.place + usize::from(numbers.nothing),
         0,
     )
 }
@@ -153,9 +151,7 @@ pub fn foam_start(records: &[u8], classes: &[u8], words: &mut [u64]) -> u64
     ensures { Starting records.now classes.now words.old
         words.new result }
 {
-    let answer = start(records, classes, words);
-    let numbers = numbers_of(answer);
-    pack_marked(numbers)
+    pack_marked(numbers_of(start(records, classes, words)))
 }
 
 // Turns the marks into those after one more byte.
@@ -164,9 +160,7 @@ pub fn foam_step(records: &[u8], classes: &[u8], words: &mut [u64], byte: u8) ->
         words.new
         result }
 {
-    let answer = step(records, classes, words, byte);
-    let numbers = numbers_of(answer);
-    pack_marked(numbers)
+    pack_marked(numbers_of(step(records, classes, words, byte)))
 }
 
 // Turns the marks into those after each byte, one after the other.
@@ -174,22 +168,17 @@ pub fn foam_steps(records: &[u8], classes: &[u8], words: &mut [u64], bytes: &[u8
     ensures { SteppingEach records.now classes.now words.old
         bytes.now words.new result }
 {
-    let answer = steps(records, classes, words, bytes);
-    let numbers = numbers_of(answer);
-    pack_marked(numbers)
+    pack_marked(numbers_of(steps(records, classes, words, bytes)))
 }
 
 // What matching the lines of a text gives back, packed.
-fn pack_lines(answer: LinesAnswer) -> u64
+fn pack_lines(answer: Result<LineCounts, Refusal>) -> u64
     requires { LinesRanges (lines_numbers answer) }
     ensures { result ≡ lines_packed (lines_numbers answer) }
 {
     match answer {
-        LinesAnswer::Answered { lines, yes } => pack(0, false, lines, yes),
-        LinesAnswer::NotGood => pack(LIST_NOT_GOOD, false, 0, 0),
-        LinesAnswer::TooFewClasses => pack(CLASS_BUFFER_TOO_SHORT, false, 0, 0),
-        LinesAnswer::TooLong => pack(TEXT_TOO_LONG, false, 0, 0),
-        LinesAnswer::NoRoom => pack(BUFFER_TOO_SHORT, false, 0, 0),
+        Ok(counts) => pack(0, false, counts.lines, counts.yes),
+        Err(refusal) => pack_refusal(refusal, 0),
     }
 }
 
@@ -198,8 +187,7 @@ pub fn foam_lines(records: &[u8], classes: &[u8], text: &[u8], answers: &mut [u8
     ensures { AnsweringLines records.now classes.now text.now
         answers.old answers.new result }
 {
-    let answer = lines(records, classes, text, answers);
-    pack_lines(answer)
+    pack_lines(lines(records, classes, text, answers))
 }
 
 // Writes a byte for each line of the text: 1 where the table of steps accepts the line, 0 where it does not.
@@ -207,24 +195,16 @@ pub fn foam_lines_table(table: &[u16], text: &[u8], answers: &mut [u8]) -> u64
     ensures { AnsweringByTable table.now text.now answers.old
         answers.new result }
 {
-    let answer = lines_by_table(table, text, answers);
-    match answer {
-        TableLines::Answered { lines, yes } => pack(0, false, lines, yes),
-        TableLines::TooShort => pack(TABLE_TOO_SHORT, false, 0, 0),
-        TableLines::TooLong => pack(TEXT_TOO_LONG, false, 0, 0),
-        TableLines::NoRoom => pack(BUFFER_TOO_SHORT, false, 0, 0),
-    }
+    pack_lines(lines_by_table(table, text, answers))
 }
 
 // Turns a good list of the old layout, of eight bytes a record, into one of today with the place 0 in every record.
 pub fn foam_widen(old: &[u8], records: &mut [u8]) -> u64
     ensures { Widening old.now records.old records.new result }
 {
-    let answer = widen(old, records);
-    match answer {
-        Widened::Written { records } => pack(0, false, records, 0),
-        Widened::NotGood => pack(LIST_NOT_GOOD, false, 0, 0),
-        Widened::NoRoom => pack(BUFFER_TOO_SHORT, false, 0, 0),
+    match widen(old, records) {
+        Ok(records) => pack(0, false, records, 0),
+        Err(refusal) => pack_refusal(refusal, 0),
     }
 }
 
@@ -233,10 +213,9 @@ pub fn foam_widen(old: &[u8], records: &mut [u8]) -> u64
 pub fn foam_pick(input: &[u8], output: &mut [u8]) -> u64
     ensures { Picking input.now output.old output.new result }
 {
-    let answer = pick(input, output);
-    match answer {
-        Picked::Written { length } => pack(0, true, length, 0),
-        Picked::NoRoom => pack(0, false, 0, 0),
+    match pick(input, output) {
+        Ok(length) => pack(0, true, length, 0),
+        Err(_) => pack(0, false, 0, 0),
     }
 }
 
@@ -245,8 +224,7 @@ pub fn foam_table(records: &[u8], classes: &[u8], table: &mut [u16], room: &mut 
     ensures { Tabling records.now classes.now table.old table.new
         room.old room.new result }
 {
-    let answer = make_table(records, classes, table, room);
-    let numbers = making::numbers::numbers_of(answer);
+    let numbers = making::numbers::numbers_of(make_table(records, classes, table, room));
     pack(
         numbers.refusal,
         numbers.made,
@@ -259,7 +237,6 @@ pub fn foam_table(records: &[u8], classes: &[u8], table: &mut [u16], room: &mut 
 pub fn foam_match_table(table: &[u16], text: &[u8]) -> u64
     ensures { result ≡ table_packed (table_answered table.now text.now) }
 {
-    let answer = match_table(table, text);
-    let numbers = running::numbers::numbers_of(answer);
+    let numbers = running::numbers::numbers_of(match_table(table, text));
     pack(numbers.refusal, numbers.matched, 0, 0)
 }

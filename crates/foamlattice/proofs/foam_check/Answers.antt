@@ -4,4 +4,4 @@ use Rattle.foamlattice.specs.PackedBounds.{checked_ranges}
 use Rattle.foamlattice.proofs.foam_check.Goals as goal
 
 pub pack_counted-requires : goal.pack_counted-requires
-pack_counted-requires c = rw c.check-answer.ensures (checked_ranges first _)
+pack_counted-requires c = rw c.check.ensures (checked_ranges first _)

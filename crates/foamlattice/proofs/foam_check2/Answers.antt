@@ -4,4 +4,4 @@ use Rattle.foamlattice.specs.PackedBounds.{checked_ranges}
 use Rattle.foamlattice.proofs.foam_check2.Goals as goal
 
 pub pack_counted-requires : goal.pack_counted-requires
-pack_counted-requires c = rw c.check_second-answer.ensures (checked_ranges second _)
+pack_counted-requires c = rw c.check_second.ensures (checked_ranges second _)

@@ -3,4 +3,4 @@ use Rattle.foamlattice.specs.LinesLaws.{lines_ranges}
 use Rattle.foamlattice.proofs.foam_lines.Goals as goal
 
 pub pack_lines-requires : goal.pack_lines-requires
-pack_lines-requires c = lines_ranges c.lines-answer.ensures
+pack_lines-requires c = lines_ranges c.lines.ensures

@@ -5,10 +5,10 @@ use Rattle.foamlattice.proofs.foam_read.Goals as goal
 
 pub pack_counts-requires-clause-few_records : goal.pack_counts-requires-clause-few_records
 pack_counts-requires-clause-few_records c =
-    let known = read_ranges _ _ _ c.in-Read.ensures.answer in
+    let known = read_ranges _ _ _ c.in-Ok.ensures.answer in
     omega (arith, known.records_small)
 
-pub pack-requires-clause-narrow_x : goal.pack-requires-clause-narrow_x
-pack-requires-clause-narrow_x c =
-    let known = read_ranges _ _ _ c.in-Refused.ensures.answer in
-    omega (arith, known.place_small)
+pub pack_refusal-requires : goal.pack_refusal-requires
+pack_refusal-requires c =
+    let known = read_ranges _ _ _ c.in-Err.ensures.answer in
+    known.place_small

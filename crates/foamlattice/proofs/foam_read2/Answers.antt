@@ -3,4 +3,4 @@ use Rattle.foamlattice.specs.PackedBounds.{second_ranges}
 use Rattle.foamlattice.proofs.foam_read2.Goals as goal
 
 pub pack_counted-requires : goal.pack_counted-requires
-pack_counted-requires c = second_ranges _ _ _ _ c.read_second-answer.ensures.answer
+pack_counted-requires c = second_ranges _ _ _ _ c.read_second.ensures.answer
