@@ -6,4 +6,3 @@ pub mod counted;
 pub mod layout;
 pub mod limits;
 pub mod refusal;
-pub mod refusal_numbers;
