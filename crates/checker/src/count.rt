@@ -1,5 +1,5 @@
 // Reading and counting: what can be said of an expression with no buffer lent.
-ghost use Rattle.std.specs.Prelude.{◌≡◌, ◌≤◌, length, IfOk};
+ghost use Rattle.std.specs.Prelude.{◌≡◌, ◌≤◌, false, length, IfOk};
 ghost use Rattle.tree.specs.Limits.{most_labels};
 ghost use Rattle.cutting.specs.Measured.{Postorder, RoomToMeasure, Measured};
 ghost use Rattle.operands.specs.Bytes.{syntax_of};
@@ -8,6 +8,7 @@ ghost use Rattle.checker.specs.Counted.{LabelsCounted, CheckAnswer};
 
 use measuring::measure::piece_count;
 use operands::syntax::Syntax;
+use repeats::notes::Notes;
 use scanner::expression::expression;
 use tree::counted::Counts;
 use tree::layout::CLASS_LABEL;
@@ -70,16 +71,17 @@ fn count_labels(labels: &[u16]) -> Result<Counts, Refused>
 // Reads an expression into the labels of its tree and counts: every refusal that needs no buffer, 17 where the tree that
 // the signs stand for has more nodes than there are labels, which in the first syntax none has (`first_bounded`:
 // specs/Counted.antt).
-pub fn read_and_count(expr: &[u8], labels: &mut [u16], syntax: Syntax) -> Result<Counts, Refused>
-    requires { most_labels ≡ length labels.old }
-    ensures { CheckAnswer (syntax_of syntax) expr.now labels.new result }
+pub fn read_and_count(expr: &[u8], notes: &mut Notes, syntax: Syntax) -> Result<Counts, Refused>
+    requires none { notes.old.count ≡ 0 }
+    requires labels { notes.old.places ≡ false }
+    ensures { CheckAnswer (syntax_of syntax) expr.now notes.new.numbers result }
 {
-    let whole = expression(expr, labels, syntax, false)?;
-    if whole.count > MOST_LABELS {
+    expression(expr, notes, syntax)?;
+    if notes.count > MOST_LABELS {
         return Err(Refused {
             refusal: Refusal::TooManyNodes,
             place: 0,
         });
     }
-    count_labels(&labels[..whole.count])
+    count_labels(&notes.numbers[..notes.count])
 }

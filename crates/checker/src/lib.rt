@@ -10,16 +10,16 @@ ghost use Rattle.checker.specs.Checked.{checked, counted_numbers};
 
 use count::read_and_count;
 use operands::syntax::Syntax;
+use repeats::notes::Notes;
 use tree::counted::Counts;
-use tree::limits::MOST_LABELS;
 use tree::refusal::Refused;
 
 // Checks an expression of either syntax.
 fn check_by(expr: &[u8], syntax: Syntax) -> Result<Counts, Refused>
     ensures { counted_numbers result ≡ checked (syntax_of syntax) expr.now }
 {
-    let mut labels = [0u16; MOST_LABELS];
-    read_and_count(expr, &mut labels, syntax)
+    let mut notes = Notes::new(false);
+    read_and_count(expr, &mut notes, syntax)
 }
 
 // Checks an expression: what `read` refuses without a buffer, or the counts.

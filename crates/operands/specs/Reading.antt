@@ -4,7 +4,7 @@ use Rattle.std.specs.Prelude.{ℕ, ◌<◌, ◌≤◌, ◌≡◌, Bool, List, []
 use Rattle.language.specs.SignedTree.{SignedTree}
 use Rattle.language.specs.PlacedTree.{PlacedTree}
 use Rattle.language.specs.PlacedStandsFor.{placed_stands_for}
-use Rattle.tree.specs.Limits.{most_groups, longest_expression, most_labels, slot_count}
+use Rattle.tree.specs.Limits.{most_groups, longest_expression, slot_count}
 use Rattle.tree.specs.Leaf.{Leaf}
 use Rattle.repeats.specs.Noted.{note}
 use Rattle.repeats.specs.Labelled.{Labelled, Appended}
@@ -15,16 +15,12 @@ use Rattle.operands.specs.Stopping.{Stops}
 use Rattle.operands.specs.Surroundings.{Leads, Fails}
 use Rattle.tree.specs.Refusing.{refusal_number}
 use Rattle.tree.specs.declared.refusal.Refused.{Refused}
-use Rattle.operands.specs.declared.part.Part.{Part}
 
--- where a reader begins: the scratch has room for the labels of the largest tree, and `count` of them are there, or one
--- more than there is room for
-pub record ScratchRoom (bytes : List ℕ) (at depth count : ℕ) (scratch : List ℕ) : Type 0 where
+-- where a reader begins
+pub record Begins (bytes : List ℕ) (at depth : ℕ) : Type 0 where
   pub within : at ≤ length bytes
   pub shallow : depth ≤ most_groups
   pub short : length bytes ≤ longest_expression
-  pub long : most_labels ≤ length scratch
-  pub few : count ≤ slot_count
 
 -- the tree that the labels or the places are of
 abbrev pub whole_tree : SignedTree Leaf → PlacedTree Leaf
@@ -54,11 +50,11 @@ pub record Whole (syntax : Syntax) (places : Bool) (level : Level) (bytes : List
   pub stops : Stops syntax level bytes next
 
 -- what a reader of this level answers
-abbrev pub PartAnswer : Syntax → (places : Bool) → Level → List ℕ → (at depth count : ℕ) → (earlier later : List ℕ)
-    → Result Part Refused → Type 0
-PartAnswer syntax places level bytes at depth count earlier later (Ok part) =
-    Whole syntax places level bytes depth at count earlier part.next part.count later
-PartAnswer syntax places level bytes at depth count earlier later (Err fault) =
+abbrev pub PartAnswer : Syntax → (places : Bool) → Level → List ℕ → (at depth count : ℕ) → (earlier : List ℕ)
+    → (total : ℕ) → (later : List ℕ) → Result ℕ Refused → Type 0
+PartAnswer syntax places level bytes at depth count earlier total later (Ok next) =
+    Whole syntax places level bytes depth at count earlier next total later
+PartAnswer syntax places level bytes at depth count earlier total later (Err fault) =
     Fails syntax level bytes depth at (refusal_number fault.refusal) fault.place
 
 -- one character was read, whatever is open
@@ -72,11 +68,11 @@ pub record Faulty (syntax : Syntax) (bytes : List ℕ) (at number place : ℕ) :
   pub fails : (depth : ℕ) → Fails syntax starred bytes depth at number place
 
 -- what the reader of one character answers
-abbrev pub CharacterAnswer : Syntax → (places : Bool) → List ℕ → (at count : ℕ) → (earlier later : List ℕ)
-    → Result Part Refused → Type 0
-CharacterAnswer syntax places bytes at count earlier later (Ok part) =
-    Character syntax places bytes at count earlier part.next part.count later
-CharacterAnswer syntax places bytes at count earlier later (Err fault) =
+abbrev pub CharacterAnswer : Syntax → (places : Bool) → List ℕ → (at count : ℕ) → (earlier : List ℕ) → (total : ℕ)
+    → (later : List ℕ) → Result ℕ Refused → Type 0
+CharacterAnswer syntax places bytes at count earlier total later (Ok next) =
+    Character syntax places bytes at count earlier next total later
+CharacterAnswer syntax places bytes at count earlier total later (Err fault) =
     Faulty syntax bytes at (refusal_number fault.refusal) fault.place
 
 -- what was read up to `place`, with labels from `first` on, can be read on up to `next`
@@ -87,12 +83,10 @@ pub record Carries (syntax : Syntax) (places : Bool) (level : Level) (bytes : Li
       → ReadUpTo syntax places level bytes depth at first start next total later
 
 -- where the reader of the signs after an operand begins: the operand's labels are those from `first` on
-pub record SignRoom (bytes : List ℕ) (place first count : ℕ) (scratch : List ℕ) : Type 0 where
+pub record SignsBegin (bytes : List ℕ) (place first count : ℕ) : Type 0 where
   pub within : place ≤ length bytes
   pub short : length bytes ≤ longest_expression
-  pub long : most_labels ≤ length scratch
   pub begun : first ≤ count
-  pub few : count ≤ slot_count
 
 -- where an operand was read up to `place`, with labels from `first` on, there comes this refusal
 pub record Breaks (syntax : Syntax) (places : Bool) (bytes : List ℕ) (first place count : ℕ) (earlier : List ℕ)
@@ -112,11 +106,11 @@ pub data OneSign (syntax : Syntax) (places : Bool) (bytes : List ℕ) (first pla
       → OneSign syntax places bytes first place count earlier next total later
 
 -- what the reader of one sign answers
-abbrev pub OneSignAnswer : Syntax → (places : Bool) → List ℕ → (first place count : ℕ) → (earlier later : List ℕ)
-    → Result Part Refused → Type 0
-OneSignAnswer syntax places bytes first place count earlier later (Ok part) =
-    OneSign syntax places bytes first place count earlier part.next part.count later
-OneSignAnswer syntax places bytes first place count earlier later (Err fault) =
+abbrev pub OneSignAnswer : Syntax → (places : Bool) → List ℕ → (first place count : ℕ) → (earlier : List ℕ)
+    → (total : ℕ) → (later : List ℕ) → Result ℕ Refused → Type 0
+OneSignAnswer syntax places bytes first place count earlier total later (Ok next) =
+    OneSign syntax places bytes first place count earlier next total later
+OneSignAnswer syntax places bytes first place count earlier total later (Err fault) =
     Breaks syntax places bytes first place count earlier (refusal_number fault.refusal) fault.place
 
 -- what was read up to `place` is read on over all the signs there
@@ -127,14 +121,15 @@ pub record SignsRead (syntax : Syntax) (places : Bool) (bytes : List ℕ) (first
   pub stops : Stops syntax starred bytes next
 
 -- what the reader of all the signs after an operand answers
-abbrev pub SignsAnswer : Syntax → (places : Bool) → List ℕ → (first place count : ℕ) → (earlier later : List ℕ)
-    → Result Part Refused → Type 0
-SignsAnswer syntax places bytes first place count earlier later (Ok part) =
-    SignsRead syntax places bytes first place count earlier part.next part.count later
-SignsAnswer syntax places bytes first place count earlier later (Err fault) =
+abbrev pub SignsAnswer : Syntax → (places : Bool) → List ℕ → (first place count : ℕ) → (earlier : List ℕ)
+    → (total : ℕ) → (later : List ℕ) → Result ℕ Refused → Type 0
+SignsAnswer syntax places bytes first place count earlier total later (Ok next) =
+    SignsRead syntax places bytes first place count earlier next total later
+SignsAnswer syntax places bytes first place count earlier total later (Err fault) =
     Breaks syntax places bytes first place count earlier (refusal_number fault.refusal) fault.place
 
 -- what noting the leaf at a place answers
-abbrev pub LeafAnswer : (places : Bool) → (label at next count : ℕ) → (earlier later : List ℕ) → Part → Type 0
-LeafAnswer places label at next count earlier later part =
-    (part.next ≡ next) × Appended earlier count (note places label at ∷ []) part.count later
+abbrev pub LeafAnswer : (places : Bool) → (label at next count : ℕ) → (earlier : List ℕ) → (total : ℕ)
+    → (later : List ℕ) → (answer : ℕ) → Type 0
+LeafAnswer places label at next count earlier total later answer =
+    (answer ≡ next) × Appended earlier count (note places label at ∷ []) total later

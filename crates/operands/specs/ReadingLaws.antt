@@ -18,17 +18,16 @@ use Rattle.operands.specs.Grammar.{starred, joined, united}
 use Rattle.operands.specs.Stopping.{closes_united}
 use Rattle.operands.specs.Surroundings.{Leads, leads_star, leads_more, leads_optional, leads_counted, leads_group, leads_joined, leads_united, leads_branch}
 use Rattle.operands.specs.Reading.{ReadUpTo, whole_tree, Whole, PartAnswer, CharacterAnswer, LeafAnswer, SignsAnswer}
-use Rattle.operands.specs.declared.part.Part.{Part}
 use Rattle.tree.specs.declared.refusal.Refused.{Refused}
 
 -- a leaf was read, and its label is the last one
-pub leaf_read : {syntax : Syntax} (places : Bool) {bytes : List ℕ} {at count : ℕ} (earlier later : List ℕ)
-    (answer : Part) (next : ℕ)
+pub leaf_read : {syntax : Syntax} (places : Bool) {bytes : List ℕ} {at count total : ℕ} (earlier later : List ℕ)
+    (answer next : ℕ)
     {label : ℕ} (a : Leaf) → LeafPlaced bytes a
     → ((depth : ℕ) → Leads syntax starred bytes depth at (signs_at bytes (leaf at a)) next) → at < next
     → next ≤ length bytes → count ≤ slot_count → label ≡ leaf_label a
-    → LeafAnswer places label at next count earlier later answer
-    → CharacterAnswer syntax places bytes at count earlier later (Ok answer)
+    → LeafAnswer places label at next count earlier total later answer
+    → CharacterAnswer syntax places bytes at count earlier total later (Ok answer)
 leaf_read places {at = at} earlier later answer next a placed leads further within few labels-it (same, p) =
     rw same
     (record {
@@ -139,12 +138,12 @@ module _ {syntax : Syntax} {places : Bool} {bytes : List ℕ} {depth at count : 
       }
 
   -- an operand is read when its signs are
-  pub then_signs : {next total : ℕ} {middle : List ℕ} (later : List ℕ) (answer : Result Part Refused)
-      → ReadUpTo syntax places starred bytes depth at count earlier next total middle
-      → SignsAnswer syntax places bytes count next total middle later answer
-      → PartAnswer syntax places starred bytes at depth count earlier later answer
-  then_signs later (Ok part) w s = record { went = (s.carries depth).on at earlier w; stops = s.stops }
-  then_signs later (Err fault) w s = s.fails depth at earlier w
+  pub then_signs : {next n : ℕ} {middle : List ℕ} (total : ℕ) (later : List ℕ) (answer : Result ℕ Refused)
+      → ReadUpTo syntax places starred bytes depth at count earlier next n middle
+      → SignsAnswer syntax places bytes count next n middle total later answer
+      → PartAnswer syntax places starred bytes at depth count earlier total later answer
+  then_signs total later (Ok next) w s = record { went = (s.carries depth).on at earlier w; stops = s.stops }
+  then_signs total later (Err fault) w s = s.fails depth at earlier w
 
   -- an operand is a catenation, and a catenation a union
   pub went_joined : {next total : ℕ} {later : List ℕ}

@@ -1,14 +1,12 @@
 // One character: a byte that stands for itself, or a special byte after a `\`.
 ghost use Rattle.std.specs.Prelude.{◌≡◌, false, ◌<◌, ◌≤◌, length, get_or};
 ghost use Rattle.tree.specs.Limits.{most_labels};
-ghost use Rattle.repeats.specs.Labelled.{LabelRoom};
 ghost use Rattle.operands.specs.Bytes.{second, syntax_of, sign_of, sign_of_second, special};
 ghost use Rattle.operands.specs.Surroundings.{class_begins};
-ghost use Rattle.operands.specs.Reading.{ScratchRoom, CharacterAnswer, LeafAnswer};
+ghost use Rattle.operands.specs.Reading.{Begins, CharacterAnswer, LeafAnswer};
 
-use crate::part::Part;
 use crate::syntax::Syntax;
-use repeats::copies::put_note;
+use repeats::notes::Notes;
 use tree::layout::{CHARACTER, label_of};
 use tree::refusal::{Refusal, Refused};
 
@@ -27,23 +25,15 @@ fn is_special(byte: u8, syntax: Syntax) -> bool
         || (syntax == Syntax::Second && is_second_sign(byte))
 }
 
-// Writes the label of a leaf, or its place.
-pub fn leaf(
-    label: u16,
-    place: usize,
-    next: usize,
-    notes: &mut [u16],
-    count: usize,
-    places: bool,
-) -> Part
-    requires room { LabelRoom notes.old count }
-    requires low { place ≤ most_labels }
-    ensures { LeafAnswer places label place next count notes.old notes.new result }
+// Notes a leaf, and answers the place after it.
+pub fn leaf(label: u16, place: usize, next: usize, notes: &mut Notes) -> usize
+    requires { place ≤ most_labels }
+    ensures answer { LeafAnswer notes.old.places label place next notes.old.count notes.old.numbers
+        notes.new.count notes.new.numbers result }
+    ensures kind { notes.new.places ≡ notes.old.places }
 {
-    Part {
-        next,
-        count: put_note(notes, count, label, place as u16, places),
-    }
+    notes.put_note(label, place as u16);
+    next
 }
 
 // Reads the character at a place: 3 where a `|`, `)`, `*`, `+`, `?` or `{` stands there, 7 at a `\` that is last or not
@@ -51,16 +41,16 @@ pub fn leaf(
 pub fn character(
     expr: &[u8],
     at: usize,
-    notes: &mut [u16],
-    count: usize,
+    notes: &mut Notes,
     syntax: Syntax,
-    places: bool,
-) -> Result<Part, Refused>
+) -> Result<usize, Refused>
     requires within { at < length expr.now }
     requires character { get_or expr.now at 0 ≡ 40 → ⊥ }
     requires common { class_begins (sign_of (syntax_of syntax) (get_or expr.now at 0)) ≡ false }
-    requires room { ScratchRoom expr.now at 0 count notes.old }
-    ensures { CharacterAnswer (syntax_of syntax) places expr.now at count notes.old notes.new result }
+    requires room { Begins expr.now at 0 }
+    ensures answer { CharacterAnswer (syntax_of syntax) notes.old.places expr.now at
+        notes.old.count notes.old.numbers notes.new.count notes.new.numbers result }
+    ensures kind { notes.new.places ≡ notes.old.places }
 {
     let byte = expr[at];
     if byte == b'\\' {
@@ -78,14 +68,7 @@ pub fn character(
                 place: at,
             });
         }
-        return Ok(leaf(
-            label_of(CHARACTER, escaped),
-            at,
-            place + 1,
-            notes,
-            count,
-            places,
-        ));
+        return Ok(leaf(label_of(CHARACTER, escaped), at, place + 1, notes));
     }
     if is_special(byte, syntax) {
         return Err(Refused {
@@ -93,5 +76,5 @@ pub fn character(
             place: at,
         });
     }
-    Ok(leaf(label_of(CHARACTER, byte), at, at + 1, notes, count, places))
+    Ok(leaf(label_of(CHARACTER, byte), at, at + 1, notes))
 }

@@ -2,5 +2,4 @@
 #![tactic(auto)]
 
 pub mod character;
-pub mod part;
 pub mod syntax;

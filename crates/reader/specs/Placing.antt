@@ -11,7 +11,6 @@ use Rattle.operands.specs.Scanner.{Atom, tree, scanned}
 use Rattle.operands.proofs.Sound.{no_tree}
 use Rattle.operands.specs.LeavesPlaced.{written_at}
 use Rattle.scanner.specs.Expression.{ExpressionAnswer, PlacesRead, places_read}
-use Rattle.operands.specs.declared.part.Part.{Part}
 use Rattle.tree.specs.declared.refusal.Refused.{Refused}
 use Rattle.checker.specs.Expanded.{expansion, expanded}
 use Rattle.checker.specs.ExpandedLaws.{expanded_tree, expanded_size}
@@ -56,10 +55,10 @@ module _ (syntax : Syntax) (bytes later : List ℕ) {count : ℕ} (due : PlacesD
       ∙ w.written (omega (arith, w.counted, size, due.counted, small)) ∙ ap places_for (sym w.scans)
 
   -- whatever is answered: it is not refused, since it was not before
-  pub placed_again : (r : Result Part Refused) → ExpressionAnswer syntax true bytes later r
+  pub placed_again : (total : ℕ) (r : Result (Unit {0}) Refused) → ExpressionAnswer syntax true bytes total later r
       → take count later ≡ places_in syntax bytes
   unfolding expanded
-  placed_again (Ok part) a = read_again (places_read a)
-  placed_again (Err fault) a =
+  placed_again total (Ok _) a = read_again (places_read a)
+  placed_again total (Err fault) a =
       let (s, scans, same, small) = expanded_tree (scanned syntax bytes) due.stands_for due.scans in
       no_tree (sym a.scans ∙ scans)

@@ -14,6 +14,7 @@ ghost use Rattle.reader.specs.SecondAnswer.{second_answered, second_records_afte
 
 pub use answer::Read;
 use operands::syntax::Syntax;
+use repeats::notes::Notes;
 use scanner::expression::expression;
 use store::{place_records, store};
 use tree::counted::Counts;
@@ -32,16 +33,18 @@ fn read_by(
     ensures { ReaderAnswer (syntax_of syntax) expr.now records.old
         classes.old records.new classes.new result }
 {
-    let mut labels = [0u16; MOST_LABELS];
-    let whole = expression(expr, &mut labels, syntax, false)?;
-    if whole.count > MOST_LABELS {
+    let mut notes = Notes::new(false);
+    expression(expr, &mut notes, syntax)?;
+    let count = notes.count;
+    if count > MOST_LABELS {
         return Err(Refused {
             refusal: Refusal::TooManyNodes,
             place: 0,
         });
     }
-    let counts = store(expr, &mut labels[..whole.count], records, classes)?;
-    place_records(expr, &mut labels, counts.records, syntax, records);
+    let labels: &mut [u16] = &mut notes.numbers;
+    let counts = store(expr, &mut labels[..count], records, classes)?;
+    place_records(expr, &mut notes, counts.records, syntax, records);
     Ok(counts)
 }
 

@@ -11,6 +11,7 @@ ghost use Rattle.reader.specs.Placing.{PlacesDue};
 use checker::count::measured_counts;
 use lists::write::write_records;
 use operands::syntax::Syntax;
+use repeats::notes::Notes;
 use scanner::expression::expression;
 use storing::class_records::{number_classes, store_classes};
 use tree::counted::Counts;
@@ -58,17 +59,18 @@ pub fn store(
 // it is not refused now.
 pub fn place_records(
     expr: &[u8],
-    labels: &mut [u16],
+    notes: &mut Notes,
     count: usize,
     syntax: Syntax,
     records: &mut [u8],
 )
-    requires room { most_labels ≡ length labels.old }
     requires due { PlacesDue (syntax_of syntax) expr.now count }
     requires fits { record_size * count ≤ length records.old }
     ensures { records.new ≡ with_places (places_in (syntax_of syntax) expr.now)
         records.old }
 {
-    let _ = expression(expr, labels, syntax, true);
-    write_places(&labels[..count], records);
+    notes.count = 0;
+    notes.places = true;
+    let _ = expression(expr, notes, syntax);
+    write_places(&notes.numbers[..count], records);
 }

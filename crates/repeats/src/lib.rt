@@ -3,3 +3,4 @@
 
 pub mod copies;
 mod note;
+pub mod notes;

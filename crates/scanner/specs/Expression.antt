@@ -24,7 +24,6 @@ use Rattle.operands.specs.Grammar.{united}
 use Rattle.operands.specs.Stopping.{closes_united}
 use Rattle.operands.specs.Surroundings.{scan_from, Fails, accepts, closes_none}
 use Rattle.operands.specs.Reading.{whole_tree, Whole}
-use Rattle.operands.specs.declared.part.Part.{Part}
 
 -- the expression has a tree of signs, and the labels are those of the tree that it stands for, while there is room; or
 -- its places: one more than there is room for says that it has more nodes
@@ -42,9 +41,10 @@ pub record ExpressionRefused (syntax : Syntax) (bytes : List ℕ) (number place 
   pub scans : scanned syntax bytes ≡ refused number place
 
 -- what reading a whole expression answers
-abbrev pub ExpressionAnswer : Syntax → (places : Bool) → (bytes later : List ℕ) → Result Part Refused → Type 0
-ExpressionAnswer syntax places bytes later (Ok part) = ExpressionRead syntax places bytes later part.count
-ExpressionAnswer syntax places bytes later (Err fault) =
+abbrev pub ExpressionAnswer : Syntax → (places : Bool) → (bytes : List ℕ) → (total : ℕ) → (later : List ℕ)
+    → Result (Unit {0}) Refused → Type 0
+ExpressionAnswer syntax places bytes total later (Ok _) = ExpressionRead syntax places bytes later total
+ExpressionAnswer syntax places bytes total later (Err fault) =
     ExpressionRefused syntax bytes (refusal_number fault.refusal) fault.place
 
 -- no bytes

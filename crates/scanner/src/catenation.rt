@@ -1,14 +1,14 @@
 // A catenation: operands one after the other, up to a `|`, a `)` or the end.
-ghost use Rattle.std.specs.Prelude.{◌≤◌, length};
+ghost use Rattle.std.specs.Prelude.{◌≡◌, ◌≤◌, length};
 ghost use Rattle.operands.specs.Bytes.{syntax_of};
 ghost use Rattle.operands.specs.Grammar.{joined};
-ghost use Rattle.operands.specs.Reading.{ScratchRoom, PartAnswer};
+ghost use Rattle.operands.specs.Reading.{Begins, PartAnswer};
 ghost use Rattle.scanner.specs.Rounds.{OperandDue};
 
 use crate::join::put_join;
 use crate::operand::operand;
-use operands::part::Part;
 use operands::syntax::Syntax;
+use repeats::notes::Notes;
 use tree::layout::CATENATION_LABEL;
 use tree::refusal::Refused;
 
@@ -28,24 +28,20 @@ pub fn catenation(
     expr: &[u8],
     at: usize,
     depth: usize,
-    notes: &mut [u16],
-    count: usize,
+    notes: &mut Notes,
     syntax: Syntax,
-    places: bool,
-) -> Result<Part, Refused>
-    requires { ScratchRoom expr.now at depth count notes.old }
-    ensures { PartAnswer (syntax_of syntax) places joined expr.now at depth count
-        notes.old notes.new result }
+) -> Result<usize, Refused>
+    requires { Begins expr.now at depth }
+    ensures answer { PartAnswer (syntax_of syntax) notes.old.places joined expr.now at depth
+        notes.old.count notes.old.numbers notes.new.count notes.new.numbers result }
+    ensures kind { notes.new.places ≡ notes.old.places }
 {
-    let mut read = Part { next: at, count };
+    let mut place = at;
     // Each operand says where the next one begins, so this goes from place to place and not by an index.
-    'operands: while operand_due(expr, at, read.next) {
-        let part = operand(expr, read.next, depth, notes, read.count, syntax, places)?;
-        let total = put_join(notes, part.count, CATENATION_LABEL, at, read.next, places);
-        read = Part {
-            next: part.next,
-            count: total,
-        };
+    'operands: while operand_due(expr, at, place) {
+        let next = operand(expr, place, depth, notes, syntax)?;
+        put_join(notes, CATENATION_LABEL, at, place);
+        place = next;
     }
-    Ok(read)
+    Ok(place)
 }

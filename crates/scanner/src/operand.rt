@@ -1,13 +1,13 @@
 // An operand with its signs: a single one, or a group.
-ghost use Rattle.std.specs.Prelude.{◌≤◌, length};
+ghost use Rattle.std.specs.Prelude.{◌≡◌, ◌≤◌, length};
 ghost use Rattle.operands.specs.Bytes.{syntax_of};
 ghost use Rattle.operands.specs.Grammar.{starred};
-ghost use Rattle.operands.specs.Reading.{ScratchRoom, PartAnswer};
+ghost use Rattle.operands.specs.Reading.{Begins, PartAnswer};
 ghost use Rattle.scanner.specs.Rounds.{SignFollows};
 
 use crate::union::union;
-use operands::part::Part;
 use operands::syntax::Syntax;
+use repeats::notes::Notes;
 use signs::signs::signs;
 use signs::single::single;
 use tree::limits::MOST_GROUPS;
@@ -22,20 +22,19 @@ fn sign_follows(expr: &[u8], at: usize) -> bool
     at < expr.len() && matches!(expr[at], b'*' | b'+' | b'?' | b'{')
 }
 
-// Reads the operand at a place: 3 where none stands there, 4 and 6 at a `(`, 7, 14 and 16. Its labels begin at `count`.
+// Reads the operand at a place: 3 where none stands there, 4 and 6 at a `(`, 7, 14 and 16.
 #[cycle(catenation_operand_union)]
 pub fn operand(
     expr: &[u8],
     at: usize,
     depth: usize,
-    notes: &mut [u16],
-    count: usize,
+    notes: &mut Notes,
     syntax: Syntax,
-    places: bool,
-) -> Result<Part, Refused>
-    requires { ScratchRoom expr.now at depth count notes.old }
-    ensures { PartAnswer (syntax_of syntax) places starred expr.now at depth count
-        notes.old notes.new result }
+) -> Result<usize, Refused>
+    requires { Begins expr.now at depth }
+    ensures answer { PartAnswer (syntax_of syntax) notes.old.places starred expr.now at depth
+        notes.old.count notes.old.numbers notes.new.count notes.new.numbers result }
+    ensures kind { notes.new.places ≡ notes.old.places }
 {
     if at == expr.len() {
         return Err(Refused {
@@ -43,6 +42,7 @@ pub fn operand(
             place: at,
         });
     }
+    let begin = notes.count;
     if expr[at] == b'(' {
         let open = at;
         if depth >= MOST_GROUPS {
@@ -51,26 +51,18 @@ pub fn operand(
                 place: at,
             });
         }
-        let inner = union(expr, open + 1, depth + 1, notes, count, syntax, places)?;
-        if inner.next == expr.len() {
+        let closing = union(expr, open + 1, depth + 1, notes, syntax)?;
+        if closing == expr.len() {
             return Err(Refused {
                 refusal: Refusal::GroupLeftOpen,
                 place: open,
             });
         }
-        return signs(
-            expr,
-            inner.next + 1,
-            notes,
-            count,
-            inner.count,
-            syntax,
-            places,
-        );
+        return signs(expr, closing + 1, notes, begin, syntax);
     }
-    let part = single(expr, at, notes, count, syntax, places)?;
-    if sign_follows(expr, part.next) {
-        return signs(expr, part.next, notes, count, part.count, syntax, places);
+    let next = single(expr, at, notes, syntax)?;
+    if sign_follows(expr, next) {
+        return signs(expr, next, notes, begin, syntax);
     }
-    Ok(part)
+    Ok(next)
 }

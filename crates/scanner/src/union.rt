@@ -1,15 +1,15 @@
 // A union: catenations with `|` between them, up to a `)` or the end.
-ghost use Rattle.std.specs.Prelude.{◌≤◌, length};
+ghost use Rattle.std.specs.Prelude.{◌≡◌, ◌≤◌, length};
 ghost use Rattle.tree.specs.Limits.{longest_expression};
 ghost use Rattle.operands.specs.Bytes.{syntax_of};
 ghost use Rattle.operands.specs.Grammar.{united};
-ghost use Rattle.operands.specs.Reading.{ScratchRoom, PartAnswer};
+ghost use Rattle.operands.specs.Reading.{Begins, PartAnswer};
 ghost use Rattle.scanner.specs.Rounds.{BranchDue, BranchBegins};
 
 use crate::catenation::catenation;
 use crate::join::put_join;
-use operands::part::Part;
 use operands::syntax::Syntax;
+use repeats::notes::Notes;
 use tree::layout::UNION_LABEL;
 use tree::refusal::Refused;
 
@@ -36,25 +36,21 @@ pub fn union(
     expr: &[u8],
     at: usize,
     depth: usize,
-    notes: &mut [u16],
-    count: usize,
+    notes: &mut Notes,
     syntax: Syntax,
-    places: bool,
-) -> Result<Part, Refused>
-    requires { ScratchRoom expr.now at depth count notes.old }
-    ensures { PartAnswer (syntax_of syntax) places united expr.now at depth count
-        notes.old notes.new result }
+) -> Result<usize, Refused>
+    requires { Begins expr.now at depth }
+    ensures answer { PartAnswer (syntax_of syntax) notes.old.places united expr.now at depth
+        notes.old.count notes.old.numbers notes.new.count notes.new.numbers result }
+    ensures kind { notes.new.places ≡ notes.old.places }
 {
-    let mut read = Part { next: at, count };
+    let mut place = at;
     // Each branch says where the next one begins, so this goes from place to place and not by an index.
-    'branches: while branch_due(expr, at, read.next) {
-        let begin = branch_begin(at, read.next);
-        let part = catenation(expr, begin, depth, notes, read.count, syntax, places)?;
-        let total = put_join(notes, part.count, UNION_LABEL, at, read.next, places);
-        read = Part {
-            next: part.next,
-            count: total,
-        };
+    'branches: while branch_due(expr, at, place) {
+        let begin = branch_begin(at, place);
+        let next = catenation(expr, begin, depth, notes, syntax)?;
+        put_join(notes, UNION_LABEL, at, place);
+        place = next;
     }
-    Ok(read)
+    Ok(place)
 }

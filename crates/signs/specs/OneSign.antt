@@ -81,8 +81,9 @@ module _ {syntax : Syntax} {places : Bool} {bytes : List ℕ} {first begin start
   -- where no sign was found, all are read
   pub all_read : {next total : ℕ} {later : List ℕ} → OneSign syntax places bytes first place count earlier next
       total later
-      → next ≡ place → SignsRead syntax places bytes first begin start before place count later
-  all_read (no_sign same counted kept stops) e = record { carries = λ depth. rw kept (so_far depth); stops = stops }
+      → next ≡ place → SignsRead syntax places bytes first begin start before place total later
+  all_read (no_sign same counted kept stops) e =
+      record { carries = λ depth. rw (counted, kept) (so_far depth); stops = stops }
   all_read (one_sign further within grown few on) e = absurd (omega arith)
 
   -- where one was found, it is one more

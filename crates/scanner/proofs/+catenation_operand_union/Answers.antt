@@ -7,76 +7,83 @@ use Rattle.operands.specs.ReadingLaws.{went_group, then_signs}
 use Rattle.scanner.specs.RoundsLaws.{operand_more, operand_fails, begin_after, branch_more, branch_fails}
 use Rattle.scanner.proofs.+catenation_operand_union.Goals as goal
 
-pub catenation::catenation-returns-in_err-part : goal.catenation::catenation-returns-in_err-part
-catenation::catenation-returns-in_err-part t c =
+pub catenation::catenation-returns-in_err-next-clause-answer :
+    goal.catenation::catenation-returns-in_err-next-clause-answer
+catenation::catenation-returns-in_err-next-clause-answer t c =
     let p = err_from_is_err_and c.from_residual.result c.from_residual.ensures.1 in
     rw (p.1, p.2)
-    (operand_fails c.operands.invariant.0 c.operand_due.ensures c.operands-test.true c.in_err-part.ensures)
+    (operand_fails c.operands.invariant.0 c.operand_due.ensures c.operands-test.true c.in_err-next.ensures.answer)
 
 pub catenation::catenation-operands-preserved : goal.catenation::catenation-operands-preserved
 catenation::catenation-operands-preserved t c =
-    let r = c.in_ok-part.ensures in (
-      operand_more c.operands.invariant.0 c.operand_due.ensures c.operands-test.true r c.put_join-total.ensures.0,
+    let r = rw c.operands.invariant.3 at c.in_ok-next.ensures.answer in
+    let kept = c.operand.ensures.kind ∙ c.operands.invariant.3 in (
+      operand_more c.operands.invariant.0 c.operand_due.ensures c.operands-test.true r
+          (rw kept at c.put_join.ensures.joined),
       omega (arith, r.went.further, c.operands.invariant.1),
       omega (arith, r.went.within),
-      omega (arith, c.put_join-total.ensures.1),
-      c.put_join-total.auto.notes ∙ c.operand.auto.notes ∙ c.operands.invariant.4,
+      c.put_join.ensures.kind ∙ kept,
     )
 
-pub operand::operand-returns-then-at-expr : goal.operand::operand-returns-then-at-expr
-operand::operand-returns-then-at-expr t c =
+pub operand::operand-returns-then-at-expr-clause-answer : goal.operand::operand-returns-then-at-expr-clause-answer
+operand::operand-returns-then-at-expr-clause-answer t c =
     fails_end _ c.args.expr.now c.args.depth c.args.at c.if-at-expr.true
 
-pub operand::operand-returns-then-depth-ge-MOST_GROUPS :
-    goal.operand::operand-returns-then-depth-ge-MOST_GROUPS
-operand::operand-returns-then-depth-ge-MOST_GROUPS t c =
+pub operand::operand-returns-then-depth-ge-MOST_GROUPS-clause-answer :
+    goal.operand::operand-returns-then-depth-ge-MOST_GROUPS-clause-answer
+operand::operand-returns-then-depth-ge-MOST_GROUPS-clause-answer t c =
     fails_deep _ c.args.expr.now c.args.depth c.args.at (omega arith) (omega arith) c.if-expr-at-eq40.true
 
-pub operand::operand-returns-in_err-inner : goal.operand::operand-returns-in_err-inner
-operand::operand-returns-in_err-inner t c =
+pub operand::operand-returns-in_err-closing-clause-answer : goal.operand::operand-returns-in_err-closing-clause-answer
+operand::operand-returns-in_err-closing-clause-answer t c =
     let p = err_from_is_err_and c.from_residual.result c.from_residual.ensures.1 in
     rw (p.1, p.2)
-    (fails_group _ _ c.args.at c.in_err-inner.ensures (omega arith) (omega arith) c.if-expr-at-eq40.true)
+    (fails_group _ _ c.args.at c.in_err-closing.ensures.answer (omega arith) (omega arith) c.if-expr-at-eq40.true)
 
-pub operand::operand-returns-then-inner-expr : goal.operand::operand-returns-then-inner-expr
-operand::operand-returns-then-inner-expr t c =
-    let r = c.in_ok-inner.ensures in
-    fails_open _ _ c.args.at _ r.went.leads c.if-inner-expr.true (omega arith) (omega arith) c.if-expr-at-eq40.true
+pub operand::operand-returns-then-closing-expr-clause-answer :
+    goal.operand::operand-returns-then-closing-expr-clause-answer
+operand::operand-returns-then-closing-expr-clause-answer t c =
+    let r = c.in_ok-closing.ensures.answer in
+    fails_open _ _ c.args.at _ r.went.leads c.if-closing-expr.true (omega arith) (omega arith) c.if-expr-at-eq40.true
 
-pub operand::operand-returns-then-expr-at-eq40 : goal.operand::operand-returns-then-expr-at-eq40
-operand::operand-returns-then-expr-at-eq40 t c =
-    let r = c.in_ok-inner.ensures in
+pub operand::operand-returns-then-expr-at-eq40-clause-answer :
+    goal.operand::operand-returns-then-expr-at-eq40-clause-answer
+operand::operand-returns-then-expr-at-eq40-clause-answer t c =
+    let r = c.in_ok-closing.ensures.answer in
     let group = went_group r (omega (arith, r.went.within)) (omega arith) (omega arith) c.if-expr-at-eq40.true in
-    then_signs c.signs.new.notes c.signs.result group c.signs.ensures
+    then_signs _ c.signs.new.notes.numbers c.signs.result group (rw c.union.ensures.kind at c.signs.ensures.answer)
 
 pub operand::operand-sign_follows-requires : goal.operand::operand-sign_follows-requires
-operand::operand-sign_follows-requires t c = let r = c.in_ok-part.ensures.went c.args.depth in omega (arith, r.within)
+operand::operand-sign_follows-requires t c =
+    let r = c.in_ok-next.ensures.answer.went c.args.depth in omega (arith, r.within)
 
 pub operand::operand-signs-requires-then-sign_follows :
     goal.operand::operand-signs-requires-then-sign_follows
 operand::operand-signs-requires-then-sign_follows t c =
-    let r = c.in_ok-part.ensures.went c.args.depth in omega arith
+    let r = c.in_ok-next.ensures.answer.went c.args.depth in omega arith
 
-pub operand::operand-returns-then-sign_follows : goal.operand::operand-returns-then-sign_follows
-operand::operand-returns-then-sign_follows t c =
-    then_signs c.signs-then-sign_follows.new.notes c.signs-then-sign_follows.result
-    (c.in_ok-part.ensures.went c.args.depth) c.signs-then-sign_follows.ensures
+pub operand::operand-returns-then-sign_follows-clause-answer :
+    goal.operand::operand-returns-then-sign_follows-clause-answer
+operand::operand-returns-then-sign_follows-clause-answer t c =
+    then_signs _ c.signs-then-sign_follows.new.notes.numbers c.signs-then-sign_follows.result
+    (c.in_ok-next.ensures.answer.went c.args.depth)
+    (rw c.single.ensures.kind at c.signs-then-sign_follows.ensures.answer)
 
-pub union::union-returns-in_err-part : goal.union::union-returns-in_err-part
-union::union-returns-in_err-part t c =
+pub union::union-returns-in_err-next-clause-answer : goal.union::union-returns-in_err-next-clause-answer
+union::union-returns-in_err-next-clause-answer t c =
     let p = err_from_is_err_and c.from_residual.result c.from_residual.ensures.1 in
     rw (p.1, p.2)
     (branch_fails c.branches.invariant.0 c.branch_due.ensures c.branches-test.true c.branch_begin-begin.ensures
-    c.in_err-part.ensures)
+    c.in_err-next.ensures.answer)
 
 pub union::union-branches-preserved : goal.union::union-branches-preserved
 union::union-branches-preserved t c =
-    let r = c.in_ok-part.ensures in
+    let r = rw c.branches.invariant.3 at c.in_ok-next.ensures.answer in
+    let kept = c.catenation.ensures.kind ∙ c.branches.invariant.3 in
     let o = begin_after c.branch_begin-begin.ensures in (
       branch_more c.branches.invariant.0 c.branch_due.ensures c.branches-test.true c.branch_begin-begin.ensures r
-          c.put_join-total.ensures.0,
+          (rw kept at c.put_join.ensures.joined),
       omega (arith, r.went.further, o, c.branches.invariant.1),
       omega (arith, r.went.within),
-      omega (arith, c.put_join-total.ensures.1),
-      c.put_join-total.auto.notes ∙ c.catenation.auto.notes ∙ c.branches.invariant.4,
+      c.put_join.ensures.kind ∙ kept,
     )

@@ -2,7 +2,6 @@
 -- a union, since these read their first part at the same place. The loops' invariants: a round begins, no further than
 -- the end of the expression.
 use Rattle.std.proofs.Common.{◌≤◌, length, ◌≡◌, ◌+◌, ◌-◌, ◌*◌}
-use Rattle.tree.specs.Limits.{slot_count}
 use Rattle.operands.specs.Bytes.{syntax_of}
 use Rattle.operands.specs.Grammar.{starred, joined, united}
 use Rattle.scanner.specs.Rounds.{Round}
@@ -19,20 +18,18 @@ decreases-union::union l = 3 * (length l.expr.now - l.at) + 2
 
 abbrev pub invariant-catenation::catenation-operands : goal.invariant-catenation::catenation-operands
 invariant-catenation::catenation-operands l =
-    Round (syntax_of l.syntax) l.places joined starred l.expr l.depth l.at l.count l.initial.notes l.read.next
-    l.read.count l.notes
-    × (l.at ≤ l.read.next) × (l.read.next ≤ length l.expr) × (l.read.count ≤ slot_count)
-    × (length l.notes ≡ length l.initial.notes)
+    Round (syntax_of l.syntax) l.initial.notes.places joined starred l.expr l.depth l.at l.initial.notes.count
+    l.initial.notes.numbers l.place l.notes.count l.notes.numbers
+    × (l.at ≤ l.place) × (l.place ≤ length l.expr) × (l.notes.places ≡ l.initial.notes.places)
 
 abbrev pub decreases-catenation::catenation-operands : goal.decreases-catenation::catenation-operands
-decreases-catenation::catenation-operands l = length l.expr - l.read.next
+decreases-catenation::catenation-operands l = length l.expr - l.place
 
 abbrev pub invariant-union::union-branches : goal.invariant-union::union-branches
 invariant-union::union-branches l =
-    Round (syntax_of l.syntax) l.places united joined l.expr l.depth l.at l.count l.initial.notes l.read.next
-    l.read.count l.notes
-    × (l.at ≤ l.read.next) × (l.read.next ≤ length l.expr) × (l.read.count ≤ slot_count)
-    × (length l.notes ≡ length l.initial.notes)
+    Round (syntax_of l.syntax) l.initial.notes.places united joined l.expr l.depth l.at l.initial.notes.count
+    l.initial.notes.numbers l.place l.notes.count l.notes.numbers
+    × (l.at ≤ l.place) × (l.place ≤ length l.expr) × (l.notes.places ≡ l.initial.notes.places)
 
 abbrev pub decreases-union::union-branches : goal.decreases-union::union-branches
-decreases-union::union-branches l = length l.expr - l.read.next
+decreases-union::union-branches l = length l.expr - l.place

@@ -1,5 +1,5 @@
--- `checker::count::read_and_count` meets its contract: the labels of the tree that the signs stand for stand in the
--- scratch, and are counted; or it has too many nodes, or the refusal is handed on.
+-- `checker::count::read_and_count` meets its contract: the labels of the tree that the signs stand for are noted, and
+-- are counted; or it has too many nodes, or the refusal is handed on.
 use Rattle.std.proofs.Common.{refl, arith}
 use Rattle.std.proofs.Math.Seq.{length-take-le}
 use Rattle.std.proofs.lemmas.Result.{err_from_is_err_and}
@@ -7,31 +7,31 @@ use Rattle.operands.specs.Bytes.{syntax_of}
 use Rattle.scanner.specs.Expression.{LabelsRead, labels_read}
 use Rattle.checker.specs.Counted.{refused_before, too_large_read, read_counted}
 use Rattle.checker.proofs.count.read_and_count.Goals as goal
-use Rattle.checker.proofs.count.read_and_count.Goals.{In_ok-whole}
+use Rattle.checker.proofs.count.read_and_count.Goals.{In_ok-expression}
 
 -- the expression is read, and a tree with places stands for it
-tree_read : (c : In_ok-whole)
-    → LabelsRead (syntax_of c.args.syntax) c.args.expr.now c.expression.new.notes c.in_ok-whole.whole.count
-tree_read c = labels_read c.in_ok-whole.ensures
+tree_read : (c : In_ok-expression)
+    → LabelsRead (syntax_of c.args.syntax) c.args.expr.now c.expression.new.notes.numbers c.expression.new.notes.count
+tree_read c = labels_read (rw (← c.requires.labels) c.in_ok-expression.ensures.answer)
 
-pub returns-in_err-whole : goal.returns-in_err-whole
-returns-in_err-whole c =
+pub returns-in_err-expression : goal.returns-in_err-expression
+returns-in_err-expression c =
     let p = err_from_is_err_and c.from_residual.result c.from_residual.ensures.1 in
-    rw (p.1, p.2) (refused_before c.in_err-whole.ensures)
+    rw (p.1, p.2) (refused_before c.in_err-expression.ensures.answer)
 
-pub returns-then-whole-gt-MOST_LABELS : goal.returns-then-whole-gt-MOST_LABELS
-returns-then-whole-gt-MOST_LABELS c =
-    too_large_read (tree_read (goal.at.returns-then-whole-gt-MOST_LABELS c).In_ok-whole)
-    (omega (arith, c.if-whole-gt-MOST_LABELS.true))
+pub returns-then-notes-gt-MOST_LABELS : goal.returns-then-notes-gt-MOST_LABELS
+returns-then-notes-gt-MOST_LABELS c =
+    too_large_read (tree_read (goal.at.returns-then-notes-gt-MOST_LABELS c).In_ok-expression)
+    (omega (arith, c.if-notes-gt-MOST_LABELS.true))
 
 pub count_labels-requires-clause-tree : goal.count_labels-requires-clause-tree
 count_labels-requires-clause-tree c =
-    let r = tree_read (goal.at.count_labels-requires-clause-tree c).In_ok-whole in
-    record { tree = r.read; same = r.written (omega (arith, c.if-whole-gt-MOST_LABELS.false)) }
+    let r = tree_read (goal.at.count_labels-requires-clause-tree c).In_ok-expression in
+    record { tree = r.read; same = r.written (omega (arith, c.if-notes-gt-MOST_LABELS.false)) }
 
 pub returns : goal.returns
 returns c =
-    let r = tree_read (goal.at.returns c).In_ok-whole in
-    read_counted c.count_labels.result r (omega (arith, c.if-whole-gt-MOST_LABELS.false)) _ refl
-    (length-take-le _ _ (omega (arith, c.if-whole-gt-MOST_LABELS.false, c.expression.auto.notes, c.requires)))
+    let r = tree_read (goal.at.returns c).In_ok-expression in
+    read_counted c.count_labels.result r (omega (arith, c.if-notes-gt-MOST_LABELS.false)) _ refl
+    (length-take-le _ _ (omega (arith, c.if-notes-gt-MOST_LABELS.false)))
     c.count_labels.ensures

@@ -6,37 +6,37 @@ use Rattle.operands.specs.Surroundings.{leads_plain, leads_escaped, fails_escape
 use Rattle.operands.specs.ReadingLaws.{leaf_read}
 use Rattle.operands.proofs.character.character.Goals as goal
 
-pub returns-then-place-expr : goal.returns-then-place-expr
-returns-then-place-expr c =
+pub returns-then-place-expr-clause-answer : goal.returns-then-place-expr-clause-answer
+returns-then-place-expr-clause-answer c =
     record {
       fails = λ depth. fails_last _ c.args.expr.now depth c.args.at c.if-place-expr.true c.if-byte-eq92.true;
     }
 
-pub returns-then-not-is_special : goal.returns-then-not-is_special
-returns-then-not-is_special c =
+pub returns-then-not-is_special-clause-answer : goal.returns-then-not-is_special-clause-answer
+returns-then-not-is_special-clause-answer c =
     record {
       fails = λ depth. fails_escaped _ c.args.expr.now depth c.args.at (omega arith)
           c.if-byte-eq92.true (sym c.is_special.ensures ∙ c.if-not-is_special.true);
     }
 
-pub returns-then-byte-eq92 : goal.returns-then-byte-eq92
-returns-then-byte-eq92 c =
+pub returns-then-byte-eq92-clause-answer : goal.returns-then-byte-eq92-clause-answer
+returns-then-byte-eq92-clause-answer c =
     let special = sym c.is_special.ensures ∙ c.if-not-is_special.false in
-    leaf_read c.args.places c.args.notes.now c.leaf.new.notes c.leaf.result _ (character _) tt
+    leaf_read c.args.notes.now.places c.args.notes.now.numbers c.leaf.new.notes.numbers c.leaf.result _ (character _) tt
     (λ depth. leads_escaped _ c.args.expr.now depth c.args.at (omega arith) c.if-byte-eq92.true special)
-    (omega arith) (omega arith) (omega arith) c.label_of.ensures c.leaf.ensures
+    (omega arith) (omega arith) (omega arith) c.label_of.ensures c.leaf.ensures.answer
 
-pub returns-then-is_special : goal.returns-then-is_special
-returns-then-is_special c =
+pub returns-then-is_special-clause-answer : goal.returns-then-is_special-clause-answer
+returns-then-is_special-clause-answer c =
     record {
       fails = λ depth. fails_special _ c.args.expr.now depth c.args.at c.requires.within c.requires.character
           c.if-byte-eq92.false c.requires.common (sym c.is_special-2.ensures ∙ c.if-is_special.true);
     }
 
-pub returns : goal.returns
-returns c =
+pub returns-clause-answer : goal.returns-clause-answer
+returns-clause-answer c =
     let itself = not_special _ (sym c.is_special-2.ensures ∙ c.if-is_special.false) in
-    leaf_read c.args.places c.args.notes.now c.leaf-2.new.notes c.leaf-2.result _
+    leaf_read c.args.notes.now.places c.args.notes.now.numbers c.leaf-2.new.notes.numbers c.leaf-2.result _
     (character _) tt
     (λ depth. leads_plain _ c.args.expr.now depth c.args.at c.requires.within itself) (omega arith) (omega arith)
-    (omega arith) c.label_of-2.ensures c.leaf-2.ensures
+    (omega arith) c.label_of-2.ensures c.leaf-2.ensures.answer

@@ -5,22 +5,25 @@ use Rattle.std.proofs.lemmas.Result.{err_from_is_err_and}
 use Rattle.scanner.specs.Expression.{empty, too_long, faulty, unopened, accepted}
 use Rattle.scanner.proofs.expression.expression.Goals as goal
 
-pub returns-then-is_empty : goal.returns-then-is_empty
-returns-then-is_empty c = empty _ _ (grind (arith, c.if-is_empty.ensures))
+pub returns-then-is_empty-clause-answer : goal.returns-then-is_empty-clause-answer
+returns-then-is_empty-clause-answer c = empty _ _ (grind (arith, c.if-is_empty.ensures))
 
-pub returns-then-expr-gt-LONGEST_EXPRESSION : goal.returns-then-expr-gt-LONGEST_EXPRESSION
-returns-then-expr-gt-LONGEST_EXPRESSION c = too_long _ _ (omega arith)
+pub returns-then-expr-gt-LONGEST_EXPRESSION-clause-answer : goal.returns-then-expr-gt-LONGEST_EXPRESSION-clause-answer
+returns-then-expr-gt-LONGEST_EXPRESSION-clause-answer c = too_long _ _ (omega arith)
 
-pub returns-in_err-whole : goal.returns-in_err-whole
-returns-in_err-whole c =
+pub returns-in_err-next-clause-answer : goal.returns-in_err-next-clause-answer
+returns-in_err-next-clause-answer c =
     let p = err_from_is_err_and c.from_residual.result c.from_residual.ensures.1 in
-    rw (p.1, p.2) (faulty _ _ (grind (arith, c.if-is_empty.ensures)) c.if-expr-gt-LONGEST_EXPRESSION.false c.in_err-whole.ensures)
+    rw (p.1, p.2) (faulty _ _ (grind (arith, c.if-is_empty.ensures)) c.if-expr-gt-LONGEST_EXPRESSION.false
+    c.in_err-next.ensures.answer)
 
-pub returns-then-whole-expr : goal.returns-then-whole-expr
-returns-then-whole-expr c =
-    unopened _ _ (grind (arith, c.if-is_empty.ensures)) c.if-expr-gt-LONGEST_EXPRESSION.false c.in_ok-whole.ensures c.if-whole-expr.true
+pub returns-then-next-expr-clause-answer : goal.returns-then-next-expr-clause-answer
+returns-then-next-expr-clause-answer c =
+    unopened _ _ (grind (arith, c.if-is_empty.ensures)) c.if-expr-gt-LONGEST_EXPRESSION.false
+    (rw c.requires at c.in_ok-next.ensures.answer) c.if-next-expr.true
 
-pub returns : goal.returns
-returns c =
-    accepted _ _ (grind (arith, c.if-is_empty.ensures)) c.if-expr-gt-LONGEST_EXPRESSION.false c.in_ok-whole.ensures
-    (omega (arith, c.in_ok-whole.ensures.went.within))
+pub returns-clause-answer : goal.returns-clause-answer
+returns-clause-answer c =
+    let read = rw c.requires at c.in_ok-next.ensures.answer in
+    accepted _ _ (grind (arith, c.if-is_empty.ensures)) c.if-expr-gt-LONGEST_EXPRESSION.false read
+    (omega (arith, read.went.within))

@@ -7,15 +7,15 @@ use Rattle.signs.specs.OneSign.{bad_count, count_sign}
 use Rattle.signs.proofs.Asked.{found_so, none_so}
 use Rattle.signs.proofs.signs.counted.Goals as goal
 
-pub returns-in_err-found : goal.returns-in_err-found
-returns-in_err-found c =
+pub returns-in_err-found-clause-answer : goal.returns-in_err-found-clause-answer
+returns-in_err-found-clause-answer c =
     let p = err_from_is_err_and c.from_residual.result c.from_residual.ensures.1 in
     let lost = none_so (CountAnswer c.args.expr.now c.args.at) c.count.result (sym c.in_err-found.ensures.value)
     c.count.ensures in
     rw (p.1, p.2, lost.1) (bad_count c.requires.within c.requires.brace lost.0.fails)
 
-pub returns : goal.returns
-returns c =
+pub returns-clause-answer : goal.returns-clause-answer
+returns-clause-answer c =
     count_sign c.requires.within c.requires.brace
     (found_so (CountAnswer c.args.expr.now c.args.at) c.count.result _ (sym c.in_ok-found.ensures.value) c.count.ensures)
-    c.times-labels.ensures
+    c.times.ensures.turned

@@ -2,6 +2,6 @@
 use Rattle.signs.specs.OneSign.{star_sign}
 use Rattle.signs.proofs.signs.sign.Goals as goal
 
-pub returns-then-expr-at-eq42 : goal.returns-then-expr-at-eq42
-returns-then-expr-at-eq42 c =
-    star_sign c.requires.within c.if-expr-at-eq42.true c.requires.room.few c.put_note-count.ensures
+pub returns-then-expr-at-eq42-clause-answer : goal.returns-then-expr-at-eq42-clause-answer
+returns-then-expr-at-eq42-clause-answer c =
+    star_sign c.requires.within c.if-expr-at-eq42.true c.args.notes.now.few c.put_note.ensures.written

@@ -1,0 +1,14 @@
+-- The loop's invariant: so many copies follow as the loop went round.
+use Rattle.std.proofs.Common.{◌++◌, ◌≤◌, ◌≡◌}
+use Rattle.repeats.specs.Labelled.{Copies, copy_end, copied}
+use Rattle.repeats.proofs.notes.Notes.follow.Given as goal
+
+abbrev pub invariant-loop : goal.invariant-loop
+invariant-loop l =
+    record {
+      copies : Copies l.initial.self.numbers l.begin l.size l.initial.self.count
+          (λ run. copied l.counter (run ++ copy_end l.initial.self.places l.place l.with_question)) l.self.count
+          l.self.numbers;
+      onward : l.initial.self.count ≤ l.self.count;
+      kind : l.self.places ≡ l.initial.self.places;
+    }
