@@ -16,7 +16,7 @@ pub use answer::Read;
 use operands::syntax::Syntax;
 use repeats::notes::Notes;
 use scanner::expression::expression;
-use store::{place_records, store};
+use store::{place_records, store_front};
 use tree::counted::Counts;
 use tree::limits::MOST_LABELS;
 use tree::refusal::{Refusal, Refused};
@@ -42,8 +42,7 @@ fn read_by(
             place: 0,
         });
     }
-    let labels: &mut [u16] = &mut notes.numbers;
-    let counts = store(expr, &mut labels[..count], records, classes)?;
+    let counts = store_front(expr, &mut notes.numbers, count, records, classes)?;
     place_records(expr, &mut notes, counts.records, syntax, records);
     Ok(counts)
 }

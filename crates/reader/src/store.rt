@@ -23,7 +23,7 @@ use tree::refusal::{Refusal, Refused};
 // the records do not fit, then 15 where the class records do not. It is measured once, for all that. It has its own
 // frame, so that its arrays are not there while the readers go deep.
 #[inline(never)]
-pub fn store(
+fn store(
     expr: &[u8],
     labels: &mut [u16],
     records: &mut [u8],
@@ -53,6 +53,23 @@ pub fn store(
     number_classes(labels);
     write_records(labels, &sizes, &opens, &cuts, records);
     Ok(counts)
+}
+
+// The same for the first `count` labels of an array. It is lent whole: that notes keep their ghost fields while a part of
+// their array is lent is not proved.
+pub fn store_front(
+    expr: &[u8],
+    labels: &mut [u16],
+    count: usize,
+    records: &mut [u8],
+    classes: &mut [u8],
+) -> Result<Counts, Refused>
+    requires inside { count ≤ length labels.old }
+    requires ready { LabelsToStore expr.now (take count labels.old) }
+    ensures { StoreAnswer expr.now (take count labels.old) records.old
+        classes.old records.new classes.new result }
+{
+    store(expr, &mut labels[..count], records, classes)
 }
 
 // Reads the expression once more, for the places of its nodes, and puts them into the records: it was read before, so

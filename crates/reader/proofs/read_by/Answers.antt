@@ -31,10 +31,10 @@ returns-then-count-gt-MOST_LABELS c = (
   refl,
 )
 
-pub store-requires : goal.store-requires
-store-requires c =
-    ready (tree_read (goal.at.store-requires c).In_ok-expression) c.if-count-gt-MOST_LABELS.false
-    (within (goal.at.store-requires c).Else-count-gt-MOST_LABELS)
+pub store_front-requires-clause-ready : goal.store_front-requires-clause-ready
+store_front-requires-clause-ready c =
+    ready (tree_read (goal.at.store_front-requires-clause-ready c).In_ok-expression) c.if-count-gt-MOST_LABELS.false
+    (within (goal.at.store_front-requires-clause-ready c).Else-count-gt-MOST_LABELS)
 
 pub returns-in_err-counts : goal.returns-in_err-counts
 returns-in_err-counts c =
@@ -61,7 +61,7 @@ returns c =
       read = tree_read (goal.at.returns c).In_ok-expression;
       few = c.if-count-gt-MOST_LABELS.false;
       fits = within (goal.at.returns c).Else-count-gt-MOST_LABELS;
-      between = c.store.new.records;
+      between = c.store_front.new.records;
       stored = c.in_ok-counts.ensures;
       put = c.place_records.ensures;
     }
