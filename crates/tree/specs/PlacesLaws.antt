@@ -1,8 +1,8 @@
 -- Laws of places: a list without its places shows all other fields as the list does, other places change nothing else,
 -- and a tree's list has none.
-use Rattle.std.specs.Prelude.{ℕ, zero, suc, ◌+◌, ◌*◌, ◌/◌, ◌%◌, ◌≤◌, ◌<◌, ◌≡◌, refl, Bool, true, false, cond, List, [], ◌∷◌, ◌++◌, length, get_or, set}
-use Rattle.std.proofs.Common.{sym, ap, ◌∙◌, arith, zero-add, add-zero, eq-eqb, ne_eqb, length-append, length-set, get_or-set_same, get_or-set_other}
-use Rattle.std.proofs.Math.Seq.{length-sets}
+use Rattle.std.specs.Prelude.{ℕ, zero, suc, ◌+◌, ◌*◌, ◌/◌, ◌%◌, ◌≤◌, ◌<◌, ◌≡◌, refl, Bool, true, false, cond, List, [], ◌∷◌, ◌++◌, length, get_or, set, drop}
+use Rattle.std.proofs.Common.{sym, ap, ◌∙◌, arith, zero-add, add-zero, add-one, eq-eqb, ne_eqb, length-append, length-set, drop-cons, get_or-set_same, get_or-set_other}
+use Rattle.std.proofs.Math.Seq.{drop-length, length-sets}
 use Rattle.std.proofs.lemmas.List.Edits.{sets}
 use Rattle.std.proofs.lemmas.List.{set-append_left}
 use Rattle.language.specs.Tree.{Tree, leaf, catenation, union, star, nodes}
@@ -128,6 +128,17 @@ bare_placed : (places list : List ℕ) (r : ℕ) → bare (placed_from r places 
 bare_placed [] list r = refl
 bare_placed (place ∷ places) list r =
     bare_placed places (sets list (record_size * r + 8) (two_bytes place)) (suc r) ∙ bare_one list r place
+
+-- the next of the places is put in
+pub placed_next : (places list put : List ℕ) (i place : ℕ) → i < length places → place ≡ get_or places i 0
+    → put ≡ sets list (record_size * i + 8) (two_bytes place)
+    → placed_from i (drop i places) list ≡ placed_from (i + 1) (drop (i + 1) places) put
+placed_next places list put i place inside is written =
+    rw (drop-cons places i 0 inside, written, is, add-one i) refl
+
+-- all are
+pub placed_last : (places list : List ℕ) (i : ℕ) → i ≡ length places → placed_from i (drop i places) list ≡ list
+placed_last places list i all = rw (all, drop-length places) refl
 
 -- nor do all of them
 pub bare_with_places : (places list : List ℕ) → bare (with_places places list) ≡ bare list
