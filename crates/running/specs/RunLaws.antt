@@ -1,6 +1,7 @@
 -- Laws of running: state 0 is never left, and a run goes on byte by byte.
 use Rattle.std.specs.Prelude.{ℕ, zero, suc, ◌+◌, ◌≤◌, ◌<◌, ◌≡◌, refl, Bool, false, cond, List, [], ◌∷◌, length, get_or, take, drop, eqb}
 use Rattle.std.proofs.Common.{add-one, arith, sym, ap, ◌∙◌, length-drop, drop-cons, take_all, get_or-drop, lt-ltb, le-ltb}
+use Rattle.std.proofs.Math.Seq.{drop-length}
 use Rattle.std.proofs.Math.Dec.{eqb-suc-zero}
 use Rattle.tree.specs.RefusalNumbers.{table_too_short}
 use Rattle.running.specs.Answer.{shortest_table, refusing_table, answering_table, table_answered}
@@ -46,6 +47,13 @@ pub not_accepted : (table text : List ℕ) (i s : ℕ) → s ≡ 0 → led table
     → false ≡ runs table text
 not_accepted table text i s none same =
     sym (ap (accepts table) (sym same ∙ ap (led table (drop i text)) none ∙ led_nowhere table (drop i text)))
+
+-- where all of the text was taken, the state that it led to decides
+pub decided : (table text : List ℕ) (i s : ℕ) → length text ≡ i → 1 ≤ s → led table (drop i text) s ≡ led table text 1
+    → eqb (entry table accepting_column s) 1 ≡ runs table text
+decided table text i s over some same =
+    sym (accepts_by table s some) ∙ ap (accepts table)
+    (ap (λ (rest : List ℕ). led table rest s) (sym (drop-length text) ∙ ap (λ (k : ℕ). drop k text) over) ∙ same)
 
 -- a table that is too short is refused
 pub answered_short : (table text : List ℕ) → length table < shortest_table
