@@ -76,10 +76,28 @@ module _ (places : Places) (columns room : List ℕ) {first second third fourth 
       long = ends.same_length ∙ each.same_length ∙ accepting.same_length ∙ bytes.same_length
 
 module _ {places : Places} {columns room table : List ℕ} (writable : Writable places columns room table) where
+  -- every begin fits into an entry
+  pub begins_fit : (b : ℕ) → b < byte_count
+      → (get_or columns b 0 < most_entries) × (begin_of (get_or columns b 0) (states_of places) < most_entries)
+  begins_fit b byte =
+      let before = before_last (get_or columns b 0) places.columns (states_of places) (writable.within b byte) in
+      (omega (arith, writable.few, writable.within b byte), omega (arith, writable.few, before))
+
   -- the column of accepting has room in the table
   pub ends_fit : begin_of places.columns (states_of places) + states_of places ≤ length table
   ends_fit = omega (arith, writable.in_table)
 
+  -- its begin fits into an entry
+  pub accepting_fits : begin_of places.columns (states_of places) < most_entries
+  accepting_fits = omega (arith, writable.few)
+
   -- every value fits into an entry
   pub values_fit : (p : ℕ) → p < places.columns * places.texts → get_or room (places.entries + p) 0 < most_entries
   values_fit p there = omega (arith, writable.states_only p there, writable.few)
+
+  -- there is a word for each text
+  pub words_there : (i : ℕ) → i < places.texts → places.marks + places.pieces * i < length room
+  words_there i there =
+      let up : places.pieces * (i + 1) ≤ places.pieces * places.texts =
+      mul-le-mul_left places.pieces (omega arith) in
+      omega (arith, writable.marks_there, writable.some_piece)
