@@ -183,6 +183,19 @@ module _ {classes : List ℕ} {n : ℕ} {before least firsts : List ℕ} {b p : 
       subst (λ (l : List ℕ). Parting classes n before (set least b r) l (b + 1)) (sym keeps)
       (subst (λ (v : ℕ). Parting classes n before (set least b v) firsts (b + 1)) (sym is) (parting_again some))
 
+-- what stands at a place is a byte, where one has come there
+pub held_byte : {classes : List ℕ} {n : ℕ} {before least firsts : List ℕ} {b : ℕ}
+    → Parting classes n before least firsts b → (p : ℕ) → p < place_count → get_or firsts p 0 ≤ none
+held_byte {firsts = firsts} so_far p h = elim (ℕ_discrete (get_or firsts p 0) none) [
+  | yes e ↦ omega arith
+  | no some ↦ omega (arith, (so_far.held p h some).before_it, so_far.at_most)
+]
+
+-- when all bytes have come, the groups are parted
+pub parting_all : {classes : List ℕ} {n : ℕ} {before least firsts : List ℕ} {b : ℕ}
+    → Parting classes n before least firsts b → byte_count ≤ b → Parted classes n before least
+parting_all so_far all = record { long = so_far.long; each = λ c h. so_far.done c (omega arith) }
+
 module _ {rows classes : List ℕ} where
   -- the leaves before an entry take a byte as it is, two both ways, and three by way of one
   before_back : {p b c : ℕ} → AlikeBefore rows classes p b c → AlikeBefore rows classes p c b
