@@ -18,9 +18,10 @@ use Rattle.classes.specs.ClassReading.{
   ends_faulty,
   opened_caret,
   opened_plainly,
+  runs_out,
 }
 use Rattle.classes.specs.ClassAt.{run_at, class_at, ClassHere, dot_here, bracket_here}
-use Rattle.classes.specs.Members.{Members, EveryValue, filled_members, put_members, value_count}
+use Rattle.classes.specs.Members.{Members, EveryValue, Put, item_value, filled_members, put_members, value_count}
 
 -- a reading of a class finds one that ends at `next`, and these are its values
 pub record ClassFound (bytes : List ℕ) (at next : ℕ) (ran : ClassRan) (members : List ℕ) : Type 0 where
@@ -50,6 +51,27 @@ pub record ItemsSoFar (bytes : List ℕ) (at : ℕ) (all_but : Bool) (place coun
   pub within : place ≤ length bytes
 
 module _ {bytes : List ℕ} {at : ℕ} {all_but : Bool} where
+  -- none yet
+  pub no_items : {members : List ℕ} → Members (class_of_items all_but []) members → at ≤ length bytes
+      → ItemsSoFar bytes at all_but at 0 members
+  no_items m h =
+      record { items = []; counted = refl; on = refl; told = m; onward = omega arith; within = h }
+
+  -- one more
+  pub one_more_item : {place count first last next : ℕ} {before after : List ℕ}
+      → ItemsSoFar bytes at all_but place count before → ItemHere bytes place first last next
+      → length after ≡ length before → Put before after first (last + 1) (item_value all_but)
+      → ItemsSoFar bytes at all_but next (count + 1) after
+  one_more_item {first = first} {last = last} {before = before} {after = after} s item long put =
+      record {
+        items = from_to first last ∷ s.items;
+        counted = omega (arith, s.counted);
+        on = s.on ∙ item.on (class_of_items all_but s.items);
+        told = put_members (class_of_items all_but s.items) before after first last s.told long put;
+        onward = omega (arith, s.onward, item.further);
+        within = item.within;
+      }
+
   module _ {place count : ℕ} {members : List ℕ} (s : ItemsSoFar bytes at all_but place count members) where
     -- the `]` ends the class
     pub items_ended : EndHere bytes place count
@@ -73,6 +95,19 @@ module _ {bytes : List ℕ} {at : ℕ} {all_but : Bool} where
               (items_fit_count s.items ∙ ap count_fits s.counted ∙ fits);
         }
     items_broken (no_item bad) = record { fails = s.on ∙ bad.fails (class_of_items all_but s.items) }
+
+    -- with no item, or more than 16
+    pub items_unfit : place < length bytes → get_or bytes place 0 ≡ 93 → count_fits count ≡ false
+        → ClassLost (class_run_from bytes at (class_of_items all_but []) item_due)
+    items_unfit h e fits =
+        record {
+          fails = s.on ∙ ends_faulty bytes place h (class_of_items all_but s.items) e
+              (items_fit_count s.items ∙ ap count_fits s.counted ∙ fits);
+        }
+
+    -- the end comes
+    pub items_cut : place ≡ length bytes → ClassLost (class_run_from bytes at (class_of_items all_but []) item_due)
+    items_cut e = record { fails = s.on ∙ runs_out bytes place (class_of_items all_but s.items) item_due e }
 
 -- the same without the values: items that are passed over, whether all but those are taken or not
 pub record ClassEnded (bytes : List ℕ) (at next : ℕ) (ran : ClassRan) : Type 0 where
@@ -110,6 +145,10 @@ pub record ItemsPassed (bytes : List ℕ) (at place count : ℕ) : Type 0 where
   pub onward : at + count ≤ place
   pub within : place ≤ length bytes
 
+pub none_passed : {bytes : List ℕ} {at : ℕ} → at ≤ length bytes → ItemsPassed bytes at at 0
+none_passed h =
+    record { items = []; counted = refl; on = λ all_but. refl; onward = omega arith; within = h }
+
 pub one_more_passed : {bytes : List ℕ} {at place count first last next : ℕ} → ItemsPassed bytes at place count
     → ItemHere bytes place first last next → ItemsPassed bytes at next (count + 1)
 one_more_passed {first = begin} {last = end} s item =
@@ -144,6 +183,23 @@ module _ {bytes : List ℕ} {at place count : ℕ} (s : ItemsPassed bytes at pla
       }
   passed_broken (no_item bad) =
       record { both = λ all_but. record { fails = s.on all_but ∙ bad.fails (class_of_items all_but s.items) } }
+
+  pub passed_unfit : place < length bytes → get_or bytes place 0 ≡ 93 → count_fits count ≡ false → ItemsLost bytes at
+  passed_unfit h e fits =
+      record {
+        both = λ all_but. record {
+          fails = s.on all_but ∙ ends_faulty bytes place h (class_of_items all_but s.items) e
+              (items_fit_count s.items ∙ ap count_fits s.counted ∙ fits);
+        };
+      }
+
+  pub passed_cut : place ≡ length bytes → ItemsLost bytes at
+  passed_cut e =
+      record {
+        both = λ all_but. record {
+          fails = s.on all_but ∙ runs_out bytes place (class_of_items all_but s.items) item_due e;
+        };
+      }
 
 -- the reading from after a `[` is that of the items
 from_bracket : (bytes : List ℕ) (at : ℕ) → run_at bytes at ≡ class_run_from bytes (at + 1) unread opened

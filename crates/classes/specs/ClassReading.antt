@@ -372,6 +372,12 @@ module _ (bytes : List ℕ) (at : ℕ) (h : at < length bytes) (class : Class) w
   unfolding class_run_from class_run
   opened_caret e = rw (left_at bytes at h, e)
 
+-- the end comes in the class
+pub runs_out : (bytes : List ℕ) (at : ℕ) (class : Class) (inside : Inside) → at ≡ length bytes
+    → class_run_from bytes at class inside ≡ failed
+unfolding class_run_from class_run
+runs_out bytes at class inside e = rw (left_at_end bytes at e)
+
 -- no `^` right after the `[`: an item is due
 pub opened_plainly : (bytes : List ℕ) (at : ℕ) (class : Class) → at ≤ length bytes
     → ((at < length bytes) × (get_or bytes at 0 ≡ 94) → ⊥)

@@ -1,8 +1,8 @@
 -- The bytes of a class in a list of 256 numbers, 1 for each value that it takes: what reading a class collects, and
 -- what its record is written from.
-use Rattle.std.specs.Prelude.{ℕ, refl, zero, suc, ◌-◌, ◌^◌, ◌+◌, ◌*◌, ◌≤◌, ◌<◌, ◌≡◌, Bool, true, false, cond, List, [], length, get_or}
-use Rattle.std.proofs.Common.{pow-suc, ap, sym, ◌∙◌, arith, ext_get_or, lt-ltb, le-ltb}
-use Rattle.std.proofs.Math.Decide.{dec_lt}
+use Rattle.std.specs.Prelude.{ℕ, refl, zero, suc, ◌-◌, ◌^◌, ◌+◌, ◌*◌, ◌≤◌, ◌<◌, ◌≡◌, Bool, true, false, cond, List, [], length, get_or, set}
+use Rattle.std.proofs.Common.{pow-suc, ap, sym, ◌∙◌, arith, ext_get_or, get_or-set_same, get_or-set_other, lt-ltb, le-ltb}
+use Rattle.std.proofs.Math.Decide.{dec_lt, ℕ_discrete}
 use Rattle.tree.specs.Cut.{one}
 use Rattle.tree.specs.Layout.{class_record_size}
 use Rattle.classes.specs.Class.{from_to, Class, class_takes, with_item}
@@ -28,6 +28,41 @@ pub record Put (before after : List ℕ) (first stop value : ℕ) : Type 0 where
   pub inside : (v : ℕ) → first ≤ v → v < stop → get_or after v 0 ≡ value
   pub below : (v : ℕ) → v < first → get_or after v 0 ≡ get_or before v 0
   pub above : (v : ℕ) → stop ≤ v → get_or after v 0 ≡ get_or before v 0
+
+-- a number of a list where one was set
+at_set : (list : List ℕ) (i v a : ℕ) → i < length list → v ≡ i → get_or (set list i a) v 0 ≡ a
+at_set list i v a h e = rw e (get_or-set_same list i a 0 h)
+
+-- the values before i have this number
+pub record FilledUpTo (members : List ℕ) (value i : ℕ) : Type 0 where
+  pub each : (v : ℕ) → v < i → get_or members v 0 ≡ value
+
+pub filled_more : {members : List ℕ} {value i : ℕ} → FilledUpTo members value i → i < length members
+    → FilledUpTo (set members i value) value (i + 1)
+filled_more {members} {value} {i} f h =
+    record {
+      each = λ v l. elim (ℕ_discrete v i) [
+        | yes e ↦ at_set members i v value h e
+        | no e ↦ get_or-set_other members i v value 0 e ∙ f.each v (omega arith)
+      ];
+    }
+
+-- one more value is put
+pub put_more : {before after : List ℕ} {first v value : ℕ} → Put before after first v value → first ≤ v
+    → v < length after → Put before (set after v value) first (v + 1) value
+put_more {before} {after} {first} {v} {value} p below h =
+    record {
+      inside = λ u l k. elim (ℕ_discrete u v) [
+        | yes e ↦ at_set after v u value h e
+        | no e ↦ get_or-set_other after v u value 0 e ∙ p.inside u l (omega arith)
+      ];
+      below = λ u l. get_or-set_other after v u value 0 (λ e. omega arith) ∙ p.below u l;
+      above = λ u l. get_or-set_other after v u value 0 (λ e. omega arith) ∙ p.above u (omega arith);
+    }
+
+pub put_none : (before : List ℕ) (first value : ℕ) → Put before before first first value
+put_none before first value =
+    record { inside = λ v l k. absurd (omega arith); below = λ v l. refl; above = λ v l. refl }
 
 -- the number of a value in an item: 0 where all but the items are taken, else 1
 abbrev pub item_value : (all_but : Bool) → ℕ
@@ -98,9 +133,27 @@ bits_members m zero at h = refl
 bits_members {class} {members} m (suc n) at h =
     rw (m.each at (omega arith), bits_members m n (at + 1) (omega arith)) refl
 
+-- a byte of the record
+pub eight_members : {class : Class} {members : List ℕ} → Members class members → (at : ℕ) → at + 8 ≤ value_count
+    → eight_of members at ≡ member_bits (class_takes class) at 8
+eight_members m at h = bits_members m 8 at h
+
 -- the first i bytes of the record are written
 pub record RecordedUpTo (members record-after : List ℕ) (i : ℕ) : Type 0 where
   pub each : (j : ℕ) → j < i → get_or record-after j 0 ≡ eight_of members (8 * j)
+
+pub recorded_none : (members out : List ℕ) → RecordedUpTo members out 0
+recorded_none members out = record { each = λ j h. absurd (omega arith) }
+
+pub recorded_more : {members out : List ℕ} {i : ℕ} → RecordedUpTo members out i → i < length out
+    → RecordedUpTo members (set out i (eight_of members (8 * i))) (i + 1)
+recorded_more {members} {out} {i} p h =
+    record {
+      each = λ j l. elim (ℕ_discrete j i) [
+        | yes e ↦ at_set out i j (eight_of members (8 * i)) h e ∙ ap (λ (n : ℕ). eight_of members (8 * n)) (sym e)
+        | no e ↦ get_or-set_other out i j (eight_of members (8 * i)) 0 e ∙ p.each j (omega arith)
+      ];
+    }
 
 -- then it is the record of the class
 pub recorded_whole : {class : Class} {members record-after : List ℕ} → Members class members
