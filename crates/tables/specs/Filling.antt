@@ -59,6 +59,10 @@ use Rattle.tables.specs.Standing.{
 abbrev pub tables : (codes stands roots : List ℕ) → Tables
 tables a b c = record { codes = a; stands = b; roots = c }
 
+-- tables with the same codes
+pub tables_same : {a b : List ℕ} (stands roots : List ℕ) → a ≡ b → tables a stands roots ≡ tables b stands roots
+tables_same stands roots p = λ i. tables (p i) stands roots
+
 -- the tables have room for so many pieces of 64 states
 pub record TablesRoom (room : ℕ) (t : Tables) : Type 0 where
   pub of_codes : row_size ≤ length t.codes
