@@ -21,6 +21,10 @@ use Rattle.lists.specs.Recording.{Recorded, WrittenSoFar}
 pub recorded_unique : (ls before a b : List ℕ) → Postorder ls → Recorded ls before a → Recorded ls before b → a ≡ b
 recorded_unique ls before a b o p q = p.bytes o.tree o.same ∙ sym (q.bytes o.tree o.same)
 
+-- none yet
+pub written_none : (ls before : List ℕ) → WrittenSoFar ls before before 0
+written_none ls before = record { bytes = λ t e. refl }
+
 -- all of them
 pub written_all : (ls before after : List ℕ) → WrittenSoFar ls before after (length ls) → Recorded ls before after
 written_all ls before after s = record { bytes = λ t e. by_tree t (ap length e ∙ length_labels t) (s.bytes t e) }
