@@ -36,6 +36,10 @@ depth_pushed a_star [] = refl
 depth_pushed a_star (s ∷ stack) = refl
 depth_pushed nothing stack = refl
 
+-- nothing is read at first
+pub reads_none : (ls : List ℕ) → TreesWaiting ls 0 0
+reads_none ls = record { stack = []; so_far = refl; deep = refl }
+
 -- the stack after one label more
 next_built : (ls : List ℕ) (i : ℕ) (stack : List (Tree Leaf)) → i < length ls → built (take i ls) [] ≡ some stack
     → built (take (i + 1) ls) [] ≡ pushed (asked (get_or ls i 0)) stack
