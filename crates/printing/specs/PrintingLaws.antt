@@ -4,7 +4,7 @@ use Rattle.std.proofs.Math.Path.{sym, ap}
 use Rattle.std.proofs.Common.{◌∙◌, add_assoc, add-one, arith, length-append, length-set, drop_at, length-take-le}
 use mathlib.Core.List.{List, [], ◌∷◌, ◌++◌, append_assoc}
 use Rattle.std.proofs.Math.ListN.{length, take, drop}
-use Rattle.std.proofs.Math.Seq.{take_at, drop-drop, append_snoc, paste-zero}
+use Rattle.std.proofs.Math.Seq.{take_at, drop-drop, append_snoc, take-length, paste, paste-zero}
 use Rattle.std.proofs.lemmas.List.{set_split}
 use Rattle.printing.specs.Digits.{digit, digits}
 use Rattle.printing.specs.DigitLaws.{digits_small, digits_large}
@@ -69,6 +69,18 @@ prints_byte before at byte h = record {
   next_place = refl;
   kept_length = simp length-set;
   written = set_split before at byte h ∙ sym (append_snoc (take at before) byte (drop (suc at) before)) ∙ rw add-one;
+}
+
+-- bytes copied one by one, up to the last
+pub prints_copied : (before : List ℕ) (at : ℕ) (bytes after : List ℕ) (i : ℕ) → at + length bytes ≤ length before
+    → i ≡ length bytes → length after ≡ length before → after ≡ paste before at bytes i
+    → Prints before at bytes after (at + length bytes)
+unfolding printed
+prints_copied before at bytes after i within whole kept copied = record {
+  within = within;
+  next_place = refl;
+  kept_length = kept;
+  written = copied ∙ rw (whole, take-length);
 }
 
 module _ (before : List ℕ) (at n : ℕ) (room : at + length (digits n) ≤ length before) where
