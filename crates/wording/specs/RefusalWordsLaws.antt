@@ -1,6 +1,8 @@
 -- How long the words of a refusal can be.
-use Rattle.std.specs.Prelude.{ℕ, zero, suc, ◌≤◌, ◌<◌, ◌^◌, List, [], ◌∷◌, length, get_or, T, leb, Bool, true, ◌&&◌}
+use Rattle.std.specs.Prelude.{ℕ, zero, suc, ◌≤◌, ◌<◌, ◌^◌, ◌≡◌, List, [], ◌∷◌, length, get_or, T, leb, Bool, true, ◌&&◌}
 use Rattle.std.proofs.Common.{arith, length-append, leb→le}
+use Rattle.std.proofs.Math.Decide.{dec_lt}
+use Rattle.std.proofs.Math.ListN.{get_or-eq_default}
 use Rattle.tree.specs.Refusing.{refusal_number}
 use Rattle.tree.specs.declared.refusal.Refusal.{Refusal}
 use Rattle.tree.specs.declared.refusal.Refusal.TheVariants.{
@@ -47,6 +49,23 @@ short_row most (row ∷ rows) other h e (suc n) = short_row most rows other h (b
 pub words_length : (number : ℕ) → length (words number) ≤ most_words
 unfolding words all_refusal_words
 words_length number = short_row most_words all_refusal_words no_words (omega arith) tt number
+
+-- the number is none of those below k
+abbrev pub NoneBelow : (k number : ℕ) → Type 0
+NoneBelow zero number = Unit {0}
+NoneBelow (suc k) number = NoneBelow k number × (number ≡ k → ⊥)
+
+-- then it is k or more
+pub not_below : (k number : ℕ) → NoneBelow k number → k ≤ number
+not_below zero number h = omega arith
+not_below (suc k) number h =
+    let more = not_below k number h.0 in
+    elim (dec_lt k number) [ yes l ↦ l | no l ↦ absurd (h.1 (omega (arith, more))) ]
+
+-- a number that no refusal has
+pub words_past : (number : ℕ) → 17 < number → words number ≡ no_words
+unfolding words all_refusal_words
+words_past number h = get_or-eq_default all_refusal_words no_words {n = number} h
 
 -- the number of a refusal has few digits
 pub number_short : (refusal : Refusal) → refusal_number refusal < 1000
