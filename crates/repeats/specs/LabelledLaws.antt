@@ -1,9 +1,10 @@
 -- Laws of labels or places that are appended: one after the other, as those of a tree, and copies of a run.
-use Rattle.std.specs.Prelude.{ℕ, zero, suc, ◌+◌, ◌-◌, ◌≤◌, ◌<◌, ◌≡◌, refl, Bool, true, false, List, [], ◌∷◌, ◌++◌, length, take, drop, set}
-use Rattle.std.proofs.Common.{ap, sym, ◌∙◌, append_assoc, append-nil, arith, add-one, length-append, length-drop, length-take-le, take-suc-set, take-take, drop_at}
+use Rattle.std.specs.Prelude.{ℕ, zero, suc, ◌+◌, ◌-◌, ◌≤◌, ◌<◌, ◌≡◌, refl, Bool, true, false, List, [], ◌∷◌, ◌++◌, length, take, drop, get_or, set}
+use Rattle.std.proofs.Common.{ap, sym, ◌∙◌, append_assoc, append-nil, arith, add-one, length-append, length-drop, length-set, length-take-le, take-suc, take-suc-set, take-take, drop_at, get_or-take}
 use Rattle.std.proofs.Math.Decide.{dec_le}
-use Rattle.std.proofs.lemmas.List.{take-append-le, drop-take, take_at}
-use Rattle.std.proofs.Math.Seq.{paste, length_paste_head}
+use Rattle.std.proofs.Math.ListN.{get_or-append}
+use Rattle.std.proofs.lemmas.List.{take-append-le, drop-append-le, drop-take, take_at}
+use Rattle.std.proofs.Math.Seq.{slice_empty, paste, length_paste_head}
 use Rattle.language.specs.PlacedTree.{PlacedTree, leaf, catenation, union, star}
 use Rattle.language.specs.PlacedStandsFor.{placed_followed, placed_repeated, placed_perhaps, placed_times}
 use Rattle.tree.specs.Leaf.{Leaf, empty_text}
@@ -138,6 +139,63 @@ run_stays {earlier} {later} {new} {run} {begin} {size} {count} {total} room at a
         ∙ take-append-le (begin + size) (take count earlier) new (omega (arith, room.inside, long))
         ∙ take-take (begin + size) count earlier room.inside in
         ap (λ (l : List ℕ). drop begin l) same ∙ at.here few
+
+-- so many labels of the run are copied
+pub record CopiedUpTo (earlier : List ℕ) (begin size count i : ℕ) (later : List ℕ) : Type 0 where
+  pub long : length later ≡ length earlier
+  pub within : i ≤ size
+  pub copy : take (count + i) later ≡ take count earlier ++ drop begin (take (begin + i) earlier)
+
+-- none yet
+pub copied_none : (earlier : List ℕ) (begin size count : ℕ) → CopiedUpTo earlier begin size count 0 earlier
+copied_none earlier begin size count =
+    let end : count + 0 ≡ count = omega arith in
+    let start : begin + 0 ≡ begin = omega arith in
+    record {
+      long = refl;
+      within = omega arith;
+      copy = rw (end, start, slice_empty begin earlier, append-nil);
+    }
+
+-- a label that is copied is the run's
+label_of_run : {earlier later : List ℕ} {begin size count i : ℕ} → CopiedUpTo earlier begin size count i later
+    → begin + size ≤ count → count + size ≤ length earlier → i < size
+    → get_or later (begin + i) 0 ≡ get_or earlier (begin + i) 0
+label_of_run {earlier} {later} {begin} {size} {count} {i} s inside room h =
+    let long : length (take count earlier) ≡ count = length-take-le count earlier (omega arith) in
+    sym (get_or-take (count + i) later (begin + i) 0 (omega arith))
+    ∙ ap (λ (l : List ℕ). get_or l (begin + i) 0) s.copy
+    ∙ get_or-append (take count earlier) (drop begin (take (begin + i) earlier)) 0 (begin + i) (omega (arith, long))
+    ∙ get_or-take count earlier (begin + i) 0 (omega arith)
+
+-- the run up to the next label
+run_longer : (earlier : List ℕ) (begin i : ℕ) → begin + i < length earlier
+    → drop begin (take (begin + (i + 1)) earlier)
+    ≡ drop begin (take (begin + i) earlier) ++ (get_or earlier (begin + i) 0 ∷ [])
+run_longer earlier begin i h =
+    let next : begin + (i + 1) ≡ suc (begin + i) = omega arith in
+    let long : length (take (begin + i) earlier) ≡ begin + i = length-take-le (begin + i) earlier (omega arith) in
+    rw (next, take-suc earlier (begin + i) 0 h)
+    (drop-append-le begin (take (begin + i) earlier) (get_or earlier (begin + i) 0 ∷ []) (omega (arith, long)))
+
+-- one more
+pub copied_more : {earlier later : List ℕ} {begin size count i : ℕ} → CopiedUpTo earlier begin size count i later
+    → begin + size ≤ count → count + size ≤ length earlier → i < size
+    → CopiedUpTo earlier begin size count (i + 1) (set later (count + i) (get_or later (begin + i) 0))
+copied_more {earlier} {later} {begin} {size} {count} {i} s inside room h =
+    record {
+      long = simp length-set s.long;
+      within = omega arith;
+      copy = rw next
+          (take-suc-set later (count + i) (get_or later (begin + i) 0) (omega (arith, s.long))
+          ∙ ap (λ (v : ℕ). take (count + i) later ++ (v ∷ [])) (label_of_run s inside room h)
+          ∙ ap (λ (l : List ℕ). l ++ (get_or earlier (begin + i) 0 ∷ [])) s.copy
+          ∙ append_assoc (take count earlier) (drop begin (take (begin + i) earlier)) (get_or earlier (begin + i) 0 ∷ [])
+          ∙ ap (λ (l : List ℕ). take count earlier ++ l) (sym (run_longer earlier begin i (omega arith))));
+    }
+  where
+    next : count + (i + 1) ≡ suc (count + i)
+    next = omega arith
 
 -- a run that has room is as long as it is said
 run_length : {scratch run : List ℕ} {begin size count : ℕ} → CopyRoom scratch begin size count
