@@ -1,6 +1,6 @@
 -- Why a list is good, or is not, by its length, its labels, its pieces and its records; the answer is the only one.
-use Rattle.std.specs.Prelude.{ℕ, suc, ◌+◌, ◌*◌, ◌/◌, ◌%◌, ◌≤◌, ◌<◌, ◌≡◌, refl, Bool, true, false, Option, None, Some, Err, ok_or, List, [], ◌∷◌, ◌++◌, map, length, get_or, take, drop}
-use Rattle.std.proofs.Common.{length-take-le, ap, sym, ◌∙◌, arith, zero-add, add-zero, add-one, take-append-drop, length-drop, take_at, drop-drop}
+use Rattle.std.specs.Prelude.{ℕ, suc, ◌+◌, ◌*◌, ◌/◌, ◌%◌, ◌≤◌, ◌<◌, ◌≡◌, refl, Bool, true, false, Option, None, Some, Err, ok_or, List, [], ◌∷◌, ◌++◌, map, length, get_or, take, drop, set}
+use Rattle.std.proofs.Common.{length-take-le, ap, sym, ◌∙◌, arith, not-suc-le-zero, zero-add, add-zero, add-one, take-append-drop, length-drop, get_or-set_same, get_or-set_other, take_at, drop-drop}
 use Rattle.std.proofs.lemmas.List.{map-append}
 use Rattle.std.proofs.Math.Decide.{dec_lt}
 use Rattle.std.proofs.Math.Seq.{take-length}
@@ -8,7 +8,18 @@ use Rattle.language.specs.Tree.{Tree, leaf, catenation, union, star, nodes}
 use Rattle.language.specs.Nested.{Nested}
 use Rattle.tree.specs.Leaf.{Leaf}
 use Rattle.tree.specs.Limits.{most_pieces, most_records}
-use Rattle.tree.specs.Layout.{record_size, two_bytes_limit, labelled_record, record_at, class_records}
+use Rattle.tree.specs.Layout.{
+  record_size,
+  two_bytes_limit,
+  labelled_record,
+  record_at,
+  kind_at,
+  character_at,
+  one_if_class,
+  class_records,
+  label_with,
+  label_at,
+}
 use Rattle.tree.specs.Places.{bare, IsRecord}
 use Rattle.tree.specs.PlacesLaws.{length_bare, kind_bare}
 use Rattle.tree.specs.Cut.{one, cut_only, open_size, edge, nest, wanted}
@@ -60,6 +71,31 @@ pub none_refused : {bytes : List ℕ} {refusal : Refusal} (answer : Option Count
 none_refused (Some counts) judged e = absurd (cc)
 none_refused None judged e = (cc, judged.fits)
 
+-- none yet
+pub taken_none : (list ls : List ℕ) → Taken list ls 0
+taken_none list ls = record { each = λ r h. absurd (not-suc-le-zero h) }
+
+-- one more
+pub taken_more : (list ls : List ℕ) (i v : ℕ) → i < length ls → v ≡ label_at list i → Taken list ls i
+    → Taken list (set ls i v) (i + 1)
+taken_more list ls i v inside is-label taken = record { each = λ r h. by_place r h (dec_lt r i) }
+  where
+    by_place : (r : ℕ) → r < i + 1 → Dec (r < i) → get_or (set ls i v) r 0 ≡ label_at list r
+    by_place r h (yes before) = get_or-set_other ls i r v 0 (omega arith) ∙ taken.each r before
+    by_place r h (no after) =
+        let here : r ≡ i = omega arith in
+        rw here (get_or-set_same ls i v 0 inside ∙ is-label)
+
+-- the label of record i, by its kind, its character and the class leaves before it
+pub label_by : (list : List ℕ) (i kind character classes : ℕ) → kind ≡ kind_at list i → character ≡ character_at list i
+    → classes ≡ class_records list i → label_with kind character classes ≡ label_at list i
+label_by list i kind character classes is-kind is-character before = rw (is-kind, is-character, before)
+
+-- the class leaves before the next record
+pub classes_more : (list : List ℕ) (i kind classes here : ℕ) → kind ≡ kind_at list i → classes ≡ class_records list i
+    → here ≡ one_if_class kind → classes + here ≡ class_records list (i + 1)
+classes_more list i kind classes here is-kind before is_one = rw (add-one i, before, is_one, is-kind)
+
 -- all of them, taken off into the front of a longer list
 pub front_labels : (list ls taken : List ℕ) → length list % record_size ≡ 0
     → length list / record_size ≤ length ls
@@ -83,6 +119,10 @@ front_classes list ls front classes whole room shown counted =
     length-take-le (length list / record_size) ls room in
     let same : length (take (length list / record_size) ls) ≡ length front = omega (arith, shown.long) in
     counted ∙ ap (class_records list) same
+
+-- none yet
+pub agrees_none : (ls list : List ℕ) → Agrees ls list 0
+agrees_none ls list = record { each = λ t e r h. absurd (not-suc-le-zero h) }
 
 -- record i of a tree's list
 own_record : (t : Tree Leaf) (i : ℕ) → i < nodes t → record_at (encode t) i ≡ seat_record i (seat_at (seats t 0 1) i)
