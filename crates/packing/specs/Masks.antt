@@ -1,13 +1,42 @@
 -- The masks of a piece while they are made: of the states gone through, the bits of those whose codes say so.
-use Rattle.std.specs.Prelude.{ℕ, zero, suc, ◌+◌, ◌*◌, ◌%◌, ◌≤◌, ◌<◌, ◌≡◌, refl, ◌↔◌, List, length, get_or, set}
-use Rattle.std.proofs.Common.{subst, arith}
+use Rattle.std.specs.Prelude.{ℕ, zero, suc, ◌+◌, ◌*◌, ◌%◌, ◌≤◌, ◌<◌, ◌≡◌, refl, Bool, true, false, ◌⊎◌, ◌↔◌, List, length, get_or, set}
+use Rattle.std.proofs.Common.{sym, subst, inl, inr, ⊎_elim, arith}
+use Rattle.std.proofs.Math.Decide.{ℕ_discrete}
 use Rattle.tables.specs.Words.{Bit}
 use Rattle.tables.specs.Plan.{row_words, LeadsOn, Jumps, IsLeaf, IsClass}
+use Rattle.closing.specs.BitsOfWords.Bits.{Tells, bit_zero}
 use Rattle.closing.specs.BitsOfWords.MadeAnew.{MadeAnew, anew_none, anew_set_at}
 
 -- w has the bits of those of the first n states whose codes are as P says
 pub record BitsOfCodes (P : ℕ → Type 0) (codes : List ℕ) (n w : ℕ) : Type 0 where
   pub exactly : (i : ℕ) → Bit w i ↔ ((i < n) × P (get_or codes i 0))
+
+-- at first there are none
+pub gathered_none : (P : ℕ → Type 0) (codes : List ℕ) → BitsOfCodes P codes 0 0
+gathered_none P codes =
+    record { exactly = λ i. (λ b. absurd (bit_zero i b), λ (h, _). absurd (omega arith)) }
+
+-- a test that tells of what holds says yes
+says_yes : {P : Type 0} (test : Bool) → Tells P test → P → test ≡ true
+says_yes true told p = refl
+says_yes false told p = absurd (told.fails refl p)
+
+-- the bit of one state more
+pub gathered_more : {P : ℕ → Type 0} {codes : List ℕ} {n w r : ℕ} {test : Bool} → BitsOfCodes P codes n w
+    → Tells (P (get_or codes n 0)) test → ((j : ℕ) → Bit r j ↔ (Bit w j ⊎ ((j ≡ n) × (test ≡ true))))
+    → BitsOfCodes P codes (n + 1) r
+gathered_more {P} {codes} {n} {test = test} so_far told sets = record {
+  exactly = λ i. (
+    λ b. ⊎_elim
+        (λ c. let (h, p) = (so_far.exactly i).0 c in (omega arith, p))
+        (λ (e, yes'). (omega arith, subst (λ (k : ℕ). P (get_or codes k 0)) (sym e) (told.holds yes')))
+        ((sets i).0 b),
+    λ (h, p). (sets i).1 (elim (ℕ_discrete i n) [
+      | yes e ↦ inr (e, says_yes test told (subst (λ (k : ℕ). P (get_or codes k 0)) e p))
+      | no other ↦ inl ((so_far.exactly i).1 (omega arith, p))
+    ]),
+  );
+}
 
 -- told with another form of the count
 pub gathered_all : {P : ℕ → Type 0} {codes : List ℕ} {n m w : ℕ} → m ≡ n → BitsOfCodes P codes m w

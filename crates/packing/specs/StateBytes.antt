@@ -84,6 +84,10 @@ pub record BytesPast (codes : List ℕ) (first left w : ℕ) : Type 0 where
   pub each : (m : ℕ) → left + m < 8 → ByteAt codes (first + (left + m)) (w / 2 ^ (8 * m) % 256)
   pub short : w < 2 ^ (8 * (8 - left))
 
+-- at first there are none
+pub bytes_none : (codes : List ℕ) (first : ℕ) → BytesPast codes first 8 0
+bytes_none codes first = record { each = λ m h. absurd (omega arith); short = omega arith }
+
 -- the low byte of a word, and the others
 low_byte : (w byte : ℕ) → byte < 256 → (w * 256 + byte) / 2 ^ (8 * 0) % 256 ≡ byte
 low_byte w byte h = omega arith
@@ -116,6 +120,11 @@ bytes_fit {left = left} so_far some =
     let wider : 2 ^ (8 * (8 - left)) ≤ 2 ^ 56 = pow_mono {j = 56} (omega arith) in
     omega (arith, wider, so_far.short)
 
+-- of all eight
+pub bytes_all : {codes : List ℕ} {first left w : ℕ} → BytesPast codes first left w → left ≡ 0
+    → EightBytes codes first w
+bytes_all so_far e = record { each = λ m h. byte_as (so_far.each m (omega arith)) (omega arith) refl }
+
 -- the word j of the bytes
 unfoldable pub ByteWord : List ℕ → (j w : ℕ) → Type 0
 ByteWord codes j w = EightBytes codes (8 * j) w
@@ -127,6 +136,12 @@ byte_word j h = h
 -- the bytes of the piece, of n states, are made, and the other words are as before
 abbrev pub BytesNoted : (codes before after : List ℕ) (piece n : ℕ) → Type 0
 BytesNoted codes before after piece n = MadeAnew (ByteWord codes) before after (row_words * piece + 5) ((n + 7) / 8)
+
+-- told with another form of the count
+pub bytes_noted : (codes : List ℕ) {before after : List ℕ} {base n m : ℕ}
+    → MadeAnew (ByteWord codes) before after base m → m ≡ n → MadeAnew (ByteWord codes) before after base n
+bytes_noted codes {before} {after} {base} so_far e =
+    subst (λ (k : ℕ). MadeAnew (ByteWord codes) before after base k) e so_far
 
 -- so each state has its byte
 pub noted_byte : {codes before after : List ℕ} (piece n : ℕ) → BytesNoted codes before after piece n → (i : ℕ)
