@@ -97,6 +97,27 @@ module _ (bytes ls : List ℕ) (i : ℕ) (h : i < length ls) where
       ap (λ (l : List ℕ). relabelled l 0) (next_label ls i h) ∙ relabelled_append (take i ls) (get_or ls i 0 ∷ []) 0
       ∙ rw (ne_eqb (get_or ls i 0 % 8) class_kind e)
 
+-- the class labels among the first i are counted
+pub record ClassLabelsCounted (ls : List ℕ) (i count : ℕ) : Type 0 where
+  pub counted : count ≡ class_labels (take i ls)
+  pub few : count ≤ i
+
+pub no_label_counted : (ls : List ℕ) → ClassLabelsCounted ls 0 0
+no_label_counted ls = record { counted = refl; few = omega arith }
+
+pub next_label_counted : {ls : List ℕ} {i count one : ℕ} → ClassLabelsCounted ls i count → i < length ls
+    → one ≡ class_labels (get_or ls i 0 ∷ []) → ClassLabelsCounted ls (i + 1) (count + one)
+next_label_counted {ls} {i} {count} {one} s h e =
+    record {
+      counted = rw (s.counted, e)
+          (sym (ap class_labels (next_label ls i h) ∙ class_labels_append (take i ls) (get_or ls i 0 ∷ [])));
+      few = omega (arith, s.few, e, class_labels_le (get_or ls i 0 ∷ []));
+    }
+
+pub all_labels_counted : {ls : List ℕ} {i count : ℕ} → ClassLabelsCounted ls i count → length ls ≤ i
+    → count ≡ class_labels ls
+all_labels_counted {ls} {i} {count} s h = s.counted ∙ ap class_labels (take_all i ls h)
+
 -- a class label holds the place of a class, and there is room for its record as record k
 pub record LabelToStore (bytes : List ℕ) (label : ℕ) (classes : List ℕ) (k : ℕ) : Type 0 where
   pub placed : label % 8 ≡ class_kind → ClassHere bytes (label / 8)
