@@ -1,6 +1,6 @@
 -- Where marks are left after a move: gathered word by word, as each piece is moved and closed.
 use Rattle.std.specs.Prelude.{ℕ, ◌+◌, ◌-◌, ◌≤◌, ◌<◌, ◌≡◌, refl, ◌⊎◌, Option, None, Some, List, length, get_or, set}
-use Rattle.std.proofs.Common.{sym, ap, ◌∙◌, inl, inr, ⊎_elim, arith, get_or-set_same, get_or-set_other}
+use Rattle.std.proofs.Common.{sym, ap, ◌∙◌, subst, inl, inr, ⊎_elim, arith, get_or-set_same, get_or-set_other}
 use Rattle.std.proofs.Math.Decide.{ℕ_discrete}
 use Rattle.moving.specs.declared.moves.WordSpan.{WordSpan}
 
@@ -28,6 +28,16 @@ pub data SpanWidened (before : Option WordSpan) (piece word : ℕ) : Option Word
   no_mark : word ≡ 0 → SpanWidened before piece word before
   marked : {from : ℕ} → (word ≡ 0 → ⊥) → from ≡ first_marked before piece
       → SpanWidened before piece word (Some (record { from = from; to = piece + 1 }))
+
+-- at first there are none
+pub spans_none : (words : List ℕ) → Spans words 0 0 0
+spans_none words = record {
+  none_before = λ o l. absurd (omega arith);
+  none_after = λ o l h. absurd (omega arith);
+  some_last = λ some e. omega arith;
+  within = omega arith;
+  ordered = omega arith;
+}
 
 module _ {words : List ℕ} {n from to : ℕ} (word : ℕ) (spans : Spans words n from to) (inside : n < length words) where
   -- a word before the new one is as it was
@@ -73,3 +83,7 @@ spans_more words n None word spans inside (marked mark e) = (spans_longer word s
 spans_more words n (Some span) word spans inside (no_mark none) = (spans_same word spans.0 inside none, spans.1)
 spans_more words n (Some span) word spans inside (marked mark e) =
     (spans_longer word spans.0 inside mark (inl (e, spans.1)), omega arith)
+
+-- all are gathered
+pub spans_all : {words : List ℕ} {n m from to : ℕ} → m ≡ n → Spans words m from to → Spans words n from to
+spans_all {words} {from = from} {to = to} e spans = subst (λ (k : ℕ). Spans words k from to) e spans
