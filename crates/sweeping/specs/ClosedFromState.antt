@@ -79,6 +79,11 @@ closes_marked rows k word state alone row marked e closes = record {
     only : (x : Nested Leaf) (s : State) → number x s ≡ state → (i : ℕ) → Bit alone i ↔ (i ≡ number x s)
     only x s at i = subst (λ (v : ℕ). Bit v i ↔ (i ≡ number x s)) (sym e) (one x s at i)
 
+-- a word with a mark, and whatever is joined to it, is not 0
+pub marked_joined : (word row state : ℕ) → Bit word state → bit_or word row ≡ 0 → ⊥
+marked_joined word row state b e =
+    bit_zero state (subst (λ (v : ℕ). Bit v state) e ((bit_of_or word row state).1 (inl b)))
+
 -- a closed word is closed but for nothing
 pub closed_nearly : {x : Nested Leaf} {s : State} {w : ℕ} → Closes x w w → NearlyClosed x s w
 closed_nearly closes = record { reached = λ p q o o' b way. inl ((closes.exactly q o').1 (p, o, b, way)) }
