@@ -8,7 +8,7 @@ use native.Mathlib.Omega.{arith}
 use Rattle.std.proofs.Math.ListN.{length, take, length-append, length-drop}
 use Rattle.std.proofs.lemmas.List.{drop-append-le}
 use Rattle.std.proofs.Math.Seq.{take-length}
-use borrow.Author.Tests.{lt-ltb, le-ltb, eqb-true, ltb-false, eq-eqb}
+use borrow.Author.Tests.{lt-ltb, le-ltb, eqb-true, ltb-false, eq-eqb, ne_eqb}
 use Rattle.operands.specs.Text.{bytes as letters}
 use Rattle.input.specs.Part.{part}
 use Rattle.input.proofs.EndLaws.{lent_part}
@@ -161,9 +161,19 @@ module _ (bytes : List ℕ) (place : ℕ) where
   unfolding cut_start
   start_whole e = rw (eq-eqb _ _ e) refl
 
+  pub start_part : (fitting most_columns bytes ≡ length bytes → ⊥)
+      → cut_start bytes place ≡ cut_begins bytes side_columns place
+  unfolding cut_start
+  start_part e = rw (ne_eqb _ _ e) refl
+
   pub end_whole : fitting most_columns bytes ≡ length bytes → cut_end bytes place ≡ length bytes
   unfolding cut_end
   end_whole e = rw (eq-eqb _ _ e) refl
+
+  pub end_part : (fitting most_columns bytes ≡ length bytes → ⊥)
+      → cut_end bytes place ≡ place + fitting side_columns (drop place bytes)
+  unfolding cut_end
+  end_part e = rw (ne_eqb _ _ e) refl
 
 module _ (bytes : List ℕ) (place : ℕ) (inside : place ≤ length bytes) where
   -- what is shown before the place, and from it on, where nothing is left out
@@ -253,6 +263,29 @@ module _ (bytes : List ℕ) (place : ℕ) (inside : place ≤ length bytes) wher
   from_lent =
       ap (λ (l : List ℕ). shown l ++ dots (ltb (cut_end bytes place) (length bytes)))
       (sym (lent_part place (cut_end bytes place) bytes cut_fits.reaches inside))
+
+  -- each fits in a line
+  pub before_room : length (dots (ltb 0 (cut_start bytes place)))
+      + length (shown (take (place - cut_start bytes place) (drop (cut_start bytes place) bytes))) ≤ most_columns
+  before_room =
+      omega (
+        arith,
+        cut_fits.narrow,
+        ap length before_lent,
+        length-append (dots (ltb 0 (cut_start bytes place)))
+            (shown (take (place - cut_start bytes place) (drop (cut_start bytes place) bytes))),
+      )
+
+  pub from_room : length (shown (take (cut_end bytes place - place) (drop place bytes)))
+      + length (dots (ltb (cut_end bytes place) (length bytes))) ≤ most_columns
+  from_room =
+      omega (
+        arith,
+        cut_fits.narrow,
+        ap length from_lent,
+        length-append (shown (take (cut_end bytes place - place) (drop place bytes)))
+            (dots (ltb (cut_end bytes place) (length bytes))),
+      )
 
 module _ (bytes : List ℕ) (place : ℕ) where
   -- the caret stands in the expression or at its end
