@@ -3,4 +3,5 @@
 pub mod Depth
 pub mod Node
 -- how the code comes to its answer, and how long a line can be
+pub mod NodeCases
 pub mod NodeLaws
