@@ -1,10 +1,10 @@
 -- The marks, step by step, and how wide they are.
-use Rattle.std.specs.Prelude.{ℕ, zero, suc, ◌+◌, ◌*◌, ◌-◌, ◌≤◌, ◌<◌, ◌≡◌, true, false, List, [], ◌++◌, length, get_or}
+use Rattle.std.specs.Prelude.{ℕ, zero, suc, ◌+◌, ◌*◌, ◌-◌, ◌≤◌, ◌<◌, ◌≡◌, true, false, List, [], ◌∷◌, ◌++◌, length, get_or}
 use Rattle.std.proofs.Math.Path.{refl}
-use Rattle.std.proofs.Common.{ap, arith, add-zero, add-suc, length-append}
+use Rattle.std.proofs.Common.{sym, ap, arith, add-zero, add-suc, length-append}
 use borrow.Author.Tests.{eq-eqb, ne_eqb}
 use Rattle.tree.specs.Layout.{place_at}
-use Rattle.showing.specs.Shown.{shown_width}
+use Rattle.showing.specs.Shown.{shown_width, spaces}
 use Rattle.showing.specs.ShownLaws.{spaces_length}
 use Rattle.drawing.specs.Marks.{placed, mark, mark_at, marks}
 use Rattle.record_line.specs.NodeLaws.{wide}
@@ -25,6 +25,22 @@ module _ (list : List ℕ) (place : ℕ) where
     pub placed_before : (place_at list i ≡ place → ⊥) → placed list records place ≡ placed list i place
     unfolding placed
     placed_before e = rw (last, ne_eqb (place_at list i) place e) refl
+
+module _ (list : List ℕ) (records place : ℕ) where
+  -- the mark under a place, and a space where there is none
+  pub mark_there : placed list records place ≡ true → 94 ≡ mark list records place
+  unfolding mark
+  mark_there e = rw e refl
+
+  pub mark_none : placed list records place ≡ false → 32 ≡ mark list records place
+  unfolding mark
+  mark_none e = rw e refl
+
+-- a mark and the spaces after it
+pub mark_is : (marked byte columns : ℕ) → columns ≡ shown_width byte
+    → mark_at marked byte ≡ (marked ∷ []) ++ spaces (columns - 1)
+unfolding mark_at
+mark_is marked byte columns e = ap (λ (n : ℕ). marked ∷ spaces (n - 1)) (sym e)
 
 -- a mark is as wide as its byte
 pub mark_length : (marked byte : ℕ) → length (mark_at marked byte) ≡ shown_width byte
