@@ -65,6 +65,15 @@ StoreAnswer bytes ls records classes records' classes' (Ok counts) =
 StoreAnswer bytes ls records classes records' classes' (Err fault) =
     NotStored ls records classes fault × (records' ≡ records) × (classes' ≡ classes)
 
+-- all is stored, where this is so
+pub stored_all : {bytes ls records classes records' classes' : List ℕ} {count pieces class_count : ℕ}
+    → LabelsCounted ls (counted_as count pieces class_count) → count ≡ length ls → record_size * count ≤ length records
+    → class_record_size * class_count ≤ length classes → Recorded (relabelled ls 0) records records'
+    → classes' ≡ encode_classes (labelled_classes bytes ls) ++ drop (class_record_size * class_count) classes
+    → AllStored bytes ls records classes records' classes' count pieces class_count
+stored_all c a r k w e =
+    record { counted = c; all = a; room = r; class_room = k; wrote = w; classed = e }
+
 module _ {bytes ls : List ℕ} (r : LabelsToStore bytes ls) where
   -- the labels with their classes numbered are those of the records' tree
   numbered_same : relabelled ls 0 ≡ labels (recorded (written_at bytes r.read))
