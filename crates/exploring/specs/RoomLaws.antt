@@ -1,10 +1,12 @@
 -- Where the parts of the room lie, how a state is sought in them, and what is there after words are copied.
-use Rattle.std.specs.Prelude.{ℕ, suc, ◌+◌, ◌-◌, ◌*◌, ◌≤◌, ◌<◌, ◌≡◌, List, ◌++◌, get_or, drop, length, take}
-use Rattle.std.proofs.Common.{sym, ap, ◌∙◌, append_assoc, append-nil, arith, mul-suc, mul-le-mul_left, length-take, length-drop, drop_of_length-le, get_or-drop, take_all, drop-drop, drop_at, take_at, length-take-le, get_or-take, ext_get_or}
+use Rattle.std.specs.Prelude.{ℕ, suc, ◌+◌, ◌-◌, ◌*◌, ◌≤◌, ◌<◌, ◌≡◌, ◌↔◌, List, ◌++◌, get_or, drop, length, take}
+use Rattle.std.proofs.Common.{sym, ap, ◌∙◌, subst, append_assoc, append-nil, arith, mul-suc, mul-le-mul_left, length-take, length-drop, drop_of_length-le, get_or-drop, take_all, drop-drop, drop_at, take_at, length-take-le, get_or-take, ext_get_or}
+use Rattle.std.proofs.Math.Decide.{ℕ_discrete}
 use Rattle.std.proofs.Math.ListN.{get_or-append}
 use Rattle.std.proofs.Math.Seq.{paste}
 use Rattle.std.proofs.lemmas.List.Edits.{take-paste, drop-paste}
-use Rattle.exploring.specs.Keys.{number_under}
+use Rattle.tables.specs.Words.{number}
+use Rattle.exploring.specs.Keys.{SameUnder, number_under}
 use Rattle.exploring.specs.KeysLaws.{same_number}
 use Rattle.exploring.specs.Room.{marks_of, Sought, Passed}
 
@@ -19,6 +21,15 @@ pub marks_part : (count most : ℕ) (room : List ℕ) (i : ℕ)
 marks_part count most room i =
     let all : most + count * i + count - (most + count * i) ≡ count = omega arith in
     ap (λ (n : ℕ). take n (drop (most + count * i) room)) all
+
+-- so they agree with words where that part does
+pub same_part : {masks words : List ℕ} {n : ℕ} (count most : ℕ) (room : List ℕ) (i : ℕ)
+    → SameUnder masks n (take (most + count * i + count - (most + count * i)) (drop (most + count * i) room)) words
+    ↔ SameUnder masks n (marks_of count most room i) words
+same_part {masks} {words} {n} count most room i = (
+  subst (λ (l : List ℕ). SameUnder masks n l words) (marks_part count most room i),
+  subst (λ (l : List ℕ). SameUnder masks n l words) (sym (marks_part count most room i)),
+)
 
 -- where they are copied out, the first words are the marks
 pub marks_copied : {words : List ℕ} (rest : List ℕ) (count most : ℕ) (room : List ℕ) (i : ℕ) → i < most
@@ -88,6 +99,34 @@ part_same before after at count long same =
     let low : k < count = omega (arith, length-take count (drop at after), inside) in
     get_or-take count (drop at after) k 0 low ∙ get_or-drop at after k 0 ∙ same k low
     ∙ sym (get_or-take count (drop at before) k 0 low ∙ get_or-drop at before k 0))
+
+-- at first none is passed
+pub passed_none : (masks : List ℕ) (count most number : ℕ) (room words : List ℕ)
+    → Passed masks count most number room words 0
+passed_none masks count most number room words = record { none = λ j inside. absurd (omega arith) }
+
+-- one more, which has another number or does not agree
+pub passed_next : {masks : List ℕ} {count most number : ℕ} {room words : List ℕ} {i : ℕ}
+    → Passed masks count most number room words i
+    → (get_or room i 0 ≡ number → SameUnder masks count (marks_of count most room i) words → ⊥)
+    → Passed masks count most number room words (i + 1)
+passed_next {masks} {count} {most} {number} {room} {words} {i} so_far other = record {
+  none = λ j inside. elim (ℕ_discrete j i) [
+    | yes e ↦ subst
+        (λ (k : ℕ). get_or room k 0 ≡ number → SameUnder masks count (marks_of count most room k) words → ⊥)
+        (sym e) other
+    | no earlier ↦ so_far.none j (omega arith)
+  ];
+}
+
+-- a state that agrees
+pub sought_here : {masks : List ℕ} {count most states : ℕ} {room words : List ℕ} {i : ℕ} → i < states
+    → SameUnder masks count (marks_of count most room i) words → Sought masks count most states room words i
+sought_here inside same = record {
+  within = omega arith;
+  known = λ _. same;
+  new = λ past. absurd (omega arith);
+}
 
 -- where all are passed, none agrees: it would have the number
 pub sought_none : {masks : List ℕ} {count most states number : ℕ} {room words : List ℕ} {i : ℕ}

@@ -190,6 +190,20 @@ found_all bytes columns enough few done all = record {
 module _ {rows : List ℕ} {count : ℕ} {masks firsts : List ℕ} {columns most : ℕ}
     {room words : List ℕ} {states p : ℕ}
     (here : Exploring rows count masks firsts columns most room words states p) where
+  -- the states' parts of the room
+  pub states_fit : entries_from count most ≤ length room
+  states_fit = omega (arith, room_parts count columns most, here.fits)
+
+  -- the entries of the states that are there fit into a word
+  pub entries_fit : states * columns ≤ length room
+  entries_fit = omega (
+    arith,
+    room_parts count columns most,
+    here.fits,
+    mul-le-mul_left {m = states} {n = most} columns here.few,
+    mul_comm columns states,
+  )
+
   -- there is a word for each piece
   pub words_fit : count ≤ length words
   words_fit = omega (
