@@ -1,7 +1,9 @@
 -- The layer inside: the marks of a start and of a step over the rows of a list, which are made once.
-use Rattle.std.specs.Prelude.{ℕ, ◌+◌, ◌*◌, ◌-◌, ◌≤◌, ◌<◌, ◌≡◌, refl, Bool, true, false, ◌↔◌, List, [], ◌∷◌, ◌++◌, length, get_or, take, drop, set, replicate}
-use Rattle.std.proofs.Common.{arith, sym, ap, ◌∙◌, subst, ⊎_elim, length-append, length-drop, get_or-take, get_or-drop, ext_get_or, length-take-le, take_at, drop_at}
+use Rattle.std.specs.Prelude.{ℕ, suc, ◌+◌, ◌*◌, ◌-◌, ◌≤◌, ◌<◌, ◌≡◌, refl, Bool, true, false, ◌↔◌, List, [], ◌∷◌, ◌++◌, length, get_or, take, drop, set, replicate}
+use Rattle.std.proofs.Common.{arith, sym, ap, ◌∙◌, subst, ⊎_elim, add-one, length-append, length-drop, length-set, get_or-take, get_or-drop, ext_get_or, length-take-le, take_at, drop_at, drop-cons, take-suc}
 use Rattle.std.proofs.Math.Logic.Iff
+use Rattle.std.proofs.lemmas.List.{set_at}
+use Rattle.std.proofs.Math.Seq.{append_snoc}
 use Rattle.language.specs.Tree.{Tree}
 use Rattle.language.specs.Automaton.{State, States, accepting, start, Started, Stepped, After, here}
 use Rattle.language.specs.Nested.{Nested, whole, origin, Models, Has, Sweep}
@@ -384,3 +386,40 @@ moved_closable {count = count} {moved = moved} running went spans =
     (λ o l h out. let inside : o < count = omega (arith, length-take-le count moved enough) in
     get_or-take count moved o 0 inside
     ∙ ⊎_elim (λ g. spans.none_before o (omega arith)) (λ g. spans.none_after o (omega arith) inside) out)
+
+-- the first i of `count` words are put in the place of the old ones
+pub record Copying (from old : List ℕ) (count : ℕ) (new : List ℕ) (i : ℕ) : Type 0 where
+  pub so_far : i ≤ count
+  pub enough : count ≤ length from
+  pub room : count ≤ length old
+  pub put : new ≡ take i from ++ drop i old
+  pub long : length new ≡ length old
+
+-- before the first
+pub copying_none : {from old : List ℕ} {count : ℕ} → count ≤ length from → count ≤ length old
+    → Copying from old count old 0
+copying_none enough room = record { so_far = omega arith; enough = enough; room = room; put = refl; long = refl }
+
+-- one more
+pub copying_next : {from old new : List ℕ} {count i : ℕ} → Copying from old count new i → i < count
+    → Copying from old count (set new i (get_or from i 0)) (i + 1)
+copying_next {from} {old} {new} {count} {i} h inside = record {
+  so_far = omega arith;
+  enough = h.enough;
+  room = h.room;
+  put = ap (λ (l : List ℕ). set l i (get_or from i 0)) h.put
+      ∙ ap (λ (l : List ℕ). set (take i from ++ l) i (get_or from i 0)) (drop-cons old i 0 (omega (arith, h.room)))
+      ∙ set_at (take i from) (get_or old i 0) (drop (suc i) old) (get_or from i 0) i
+      (length-take-le i from (omega (arith, h.enough)))
+      ∙ sym (append_snoc (take i from) (get_or from i 0) (drop (suc i) old))
+      ∙ ap (λ (l : List ℕ). l ++ drop (suc i) old) (sym (take-suc from i 0 (omega (arith, h.enough))))
+      ∙ ap (λ (n : ℕ). take n from ++ drop n old) (sym (add-one i));
+  long = length-set new i (get_or from i 0) ∙ h.long;
+}
+
+-- after the last
+pub copying_done : {from old new : List ℕ} {count i : ℕ} → Copying from old count new i → count ≤ i
+    → new ≡ take count from ++ drop count old
+copying_done {from} {old} {count = count} {i = i} h past =
+    let all : i ≡ count = omega (arith, h.so_far) in
+    h.put ∙ ap (λ (n : ℕ). take n from ++ drop n old) all
