@@ -1,6 +1,6 @@
 -- What deciding on a list and making its rows promises: the rows are those of the list's tree, where it is good.
 use Rattle.std.specs.Prelude.{ℕ, ◌+◌, ◌*◌, ◌/◌, ◌≤◌, ◌<◌, ◌≡◌, List, Option, None, Some, length}
-use Rattle.std.proofs.Common.{arith}
+use Rattle.std.proofs.Common.{subst, arith}
 use Rattle.language.specs.Tree.{Tree}
 use Rattle.tree.specs.Leaf.{Leaf}
 use Rattle.tree.specs.Limits.{few_slots, some_slots}
@@ -30,6 +30,13 @@ FitsRows list None rows = Unit {0}
 pub record PreparedList (list : List ℕ) (answer : Option Counts) (rows : List ℕ) : Type 0 where
   pub judged : Judged list answer
   pub rows_fits : FitsRows list answer rows
+
+-- so it is once it is made
+pub prepared_list : {list rows : List ℕ} {answer : Option Counts} {counts : Counts} → answer ≡ Some counts
+    → Judged list answer
+    → FitsRows list (Some counts) rows
+    → PreparedList list (Some counts) rows
+prepared_list {list} e judged made = record { judged = subst (Judged list) e judged; rows_fits = made }
 
 -- a list of few records has few pieces, and one of some records some
 bounded : (list : List ℕ) (t : Tree Leaf) → Good list t → 8 * piece_count t ≤ length list / record_size + 7
