@@ -1,10 +1,14 @@
 -- How the answers are written one after the other: what is written so far, and what is still to come.
-use Rattle.std.specs.Prelude.{ℕ, ◌+◌, ◌≤◌, ◌<◌, ◌≡◌, Bool, true, ◌↔◌, List, [], ◌∷◌, ◌++◌, length, drop, set}
+use Rattle.std.specs.Prelude.{ℕ, ◌+◌, ◌-◌, ◌≤◌, ◌<◌, ◌≡◌, Bool, true, ◌↔◌, List, [], ◌∷◌, ◌++◌, length, take, drop, set}
 use Rattle.std.proofs.Common.{arith, sym, ap, subst, ◌∙◌, append_assoc, append-nil, length-set}
 use Rattle.tree.specs.Leaf.{Matches}
+use Rattle.matching.specs.Found.{part}
+use Rattle.matching.specs.PartLaws.{part_length}
 use Rattle.finder.specs.Promise.{match_answered}
 use Rattle.finder.specs.Refusals.{Answerable}
 use Rattle.input.specs.Lines.{lines}
+use Rattle.input.specs.Ends.{Ends, after_end}
+use Rattle.input.proofs.EndLaws.{line_at, lent_part}
 use Rattle.input.proofs.LineLaws.{NoneLonger, lines_within}
 use Rattle.printing.specs.Printing.{printed, Prints}
 use Rattle.printing.specs.PrintingLaws.{prints_none, prints_join, prints_byte}
@@ -18,10 +22,22 @@ at_front buffer bytes =
     let long : 0 + length bytes ≡ length bytes = omega arith in
     ap (λ (n : ℕ). bytes ++ drop n buffer) long
 
+-- one line fewer is left after a line
+pub fewer : (text : List ℕ) (place end : ℕ) → Ends text place end → place < length text
+    → length (lines (drop place text)) ≡ length (lines (drop (after_end text end) text)) + 1
+fewer text place end ends some = ap length (line_at text place end ends some) ∙ omega arith
+
 -- there is a byte for each line that is left, after so many lines and yes lines
 pub record LineSpace (left : List (List ℕ)) (count yes_lines : ℕ) (out : List ℕ) : Type 0 where
   pub ranked : yes_lines ≤ count
   pub enough : count + length left ≤ length out
+
+-- one of them is for the next line of a text
+module _ {text : List ℕ} {place count yes_lines : ℕ} {out : List ℕ}
+    (s : LineSpace (lines (drop place text)) count yes_lines out)
+    (end : ℕ) (ends : Ends text place end) (some : place < length text) where
+  pub space_here : count < length out
+  space_here = omega (arith, s.enough, fewer text place end ends some)
 
 -- one of them is for the next line, and the others are for those after it
 pub space_next : {left later : List (List ℕ)} {line : List ℕ} {count yes_lines : ℕ} {out : List ℕ}
@@ -120,4 +136,17 @@ line_says taken line matched short says = match_answered (record {
   classed = taken.classed;
   short = omega (arith, taken.short, short);
   holds = says;
+})
+
+-- the answer for the part that is lent is what match answers for the line
+pub lent_says : {list classes text : List ℕ} (taken : Answerable list classes text) {place end : ℕ}
+    → Ends text place end → (matched : Bool)
+    → (matched ≡ true) ↔ Matches classes taken.t (take (end - place) (drop place text))
+    → MatchSays list classes (part place end text) matched
+lent_says {text = text} taken {place} {end} ends matched says = match_answered (record {
+  t = taken.t;
+  good = taken.good;
+  classed = taken.classed;
+  short = omega (arith, taken.short, part_length place end text ends.inside, ends.inside);
+  holds = rw (lent_part place end text ends.ordered (omega (arith, ends))) at says;
 })
