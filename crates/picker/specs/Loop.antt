@@ -1,8 +1,13 @@
 -- How the lines of the texts are printed one after the other: what is printed so far, and what is still to come.
-use Rattle.std.specs.Prelude.{ℕ, ◌+◌, ◌*◌, ◌≤◌, ◌<◌, ◌≡◌, Bool, List, [], ◌∷◌, ◌++◌, length}
+use Rattle.std.specs.Prelude.{ℕ, ◌+◌, ◌-◌, ◌*◌, ◌≤◌, ◌<◌, ◌≡◌, Bool, true, ◌↔◌, List, [], ◌∷◌, ◌++◌, length, take, drop}
 use Rattle.std.proofs.Common.{ap, ◌∙◌, arith, append_assoc}
 use Rattle.language.specs.Tree.{Tree}
-use Rattle.tree.specs.Leaf.{Leaf}
+use Rattle.tree.specs.Leaf.{Leaf, Matches}
+use Rattle.matching.specs.Found.{part}
+use Rattle.finder.specs.Decide.{matches}
+use Rattle.finder.specs.DecideExactly.{matches_answer}
+use Rattle.input.specs.Ends.{Ends}
+use Rattle.input.proofs.EndLaws.{lent_part}
 use Rattle.printing.specs.ReportLines.{text_line, total_line}
 use Rattle.printing.specs.Printer.{HasRoom, Puts}
 use Rattle.printing.specs.PrinterLaws.{puts_join, puts_none}
@@ -92,3 +97,10 @@ module _ (matching : Tree Leaf → List ℕ → Bool) (t : Tree Leaf) (all : Lis
   unfolding text_lines
   so_far_done {count = count} {yes_lines = yes_lines} so none p =
       rw (← so.to_come, none) (puts_join so.puts p)
+
+-- the answer for the part that is lent is the answer for the line
+pub lent_answer : {input : List ℕ} {place end : ℕ} → Ends input place end → (test : Bool) (t : Tree Leaf)
+    → (test ≡ true) ↔ Matches [] t (take (end - place) (drop place input)) → test ≡ matches [] t (part place end input)
+lent_answer {input} {place} {end} ends test t says =
+    matches_answer [] test t (part place end input)
+    (rw (lent_part place end input ends.ordered (omega (arith, ends))) at says)

@@ -1,5 +1,5 @@
 -- From what reading the first line answers to what is reported for the input.
-use Rattle.std.specs.Prelude.{ℕ, suc, ◌*◌, ◌≤◌, ◌<◌, ◌≡◌, refl, Bool, true, false, cond, List, [], ◌∷◌, length, ltb, eqb}
+use Rattle.std.specs.Prelude.{ℕ, suc, ◌*◌, ◌≤◌, ◌<◌, ◌≡◌, refl, Bool, true, false, cond, List, [], ◌∷◌, length, drop, ltb, eqb}
 use Rattle.std.proofs.Common.{ap, arith, ltb-true, ltb-false, le-ltb}
 use Rattle.language.specs.Tree.{Tree, nodes}
 use Rattle.tree.specs.RefusalNumbers.{too_many_pieces, buffer_too_short}
@@ -16,10 +16,16 @@ use Rattle.checker.specs.Drawn.{drawn}
 use Rattle.checker.specs.DrawnLaws.{first_drawn_size, first_drawn_refusal}
 use Rattle.reader.specs.Answer.{ReadNumbers, refusing_read, reading, answer_for, read_answered as answers}
 use Rattle.reader.specs.Kept.{Kept}
+use Rattle.matching.specs.Found.{part}
+use Rattle.finder.specs.Decide.{matches}
 use Rattle.input.specs.Lines.{in_line, begins_end, lines, expression, texts}
 use Rattle.input.proofs.LineLaws.{texts_count}
+use Rattle.input.specs.Ends.{Ends, after_end}
+use Rattle.input.proofs.EndLaws.{first_line}
 use Rattle.printing.specs.OutputLimits.{longest_input, most_output}
-use Rattle.reporting.specs.Print.{refusing_many_pieces, reading_outcome}
+use Rattle.printing.specs.ReportLines.{refusal_line}
+use Rattle.reporting.specs.Print.{refusing_many_pieces, reading_outcome, text_lines, reported}
+use Rattle.printing.specs.Printing.{Prints}
 use Rattle.picker.specs.Loop.{PrintSpace}
 
 -- reading refused the expression: that is its outcome, by a small number at a small place
@@ -78,6 +84,23 @@ told bytes room number place large e = told_outcome bytes room number place larg
 pub read_outcome : {bytes before after : List ℕ} {records pieces : ℕ} (k : Kept bytes before after records pieces)
     → reading_outcome bytes ≡ tree k.read
 read_outcome k = rw (k.scans, le-ltb most_pieces (piece_count k.read) k.good.few)
+
+module _ (input : List ℕ) (end : ℕ) (ends : Ends input 0 end) where
+  -- the line of a refusal is what is reported
+  pub reports_refusal : {number place : ℕ} {before out : List ℕ} {size : ℕ}
+      → RefusalRead (part 0 end input) number place
+      → Prints before 0 (refusal_line number place) out size
+      → Prints before 0 (reported (matches []) (reading_outcome (expression (lines input))) (texts (lines input))) out
+      size
+  reports_refusal t p = rw ((first_line input end ends).is_expression, t.outcome) p
+
+  -- the lines of the texts and the last line are what is reported
+  pub reports_texts : {t : Tree Leaf} {before out : List ℕ} {size : ℕ} → reading_outcome (part 0 end input) ≡ tree t
+      → Prints before 0 (text_lines (matches []) t 0 0 (lines (drop (after_end input end) input))) out size
+      → Prints before 0 (reported (matches []) (reading_outcome (expression (lines input))) (texts (lines input))) out
+      size
+  reports_texts outcome p = rw ((first_line input end ends).is_expression, outcome, (first_line input end ends).are_texts)
+      p
 
 -- the first line is not longer than the input
 pub expression_short : (input : List ℕ) → length (expression (lines input)) ≤ length input
