@@ -32,10 +32,10 @@ pub record LineSpace (left : List (List ℕ)) (count yes_lines : ℕ) (out : Lis
   pub ranked : yes_lines ≤ count
   pub enough : count + length left ≤ length out
 
--- one of them is for the next line of a text
 module _ {text : List ℕ} {place count yes_lines : ℕ} {out : List ℕ}
     (s : LineSpace (lines (drop place text)) count yes_lines out)
     (end : ℕ) (ends : Ends text place end) (some : place < length text) where
+  -- one of them is for the next line of a text
   pub space_here : count < length out
   space_here = omega (arith, s.enough, fewer text place end ends some)
 
