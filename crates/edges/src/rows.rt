@@ -1,6 +1,6 @@
 // The rows of the table, a case each.
 use crate::calls;
-use fields::{Row, numbers};
+use fields::{Row, number};
 use std::alloc::Global;
 use std::io;
 use tree::limits::MOST_PIECES;
@@ -63,6 +63,15 @@ pub struct Case<'a> {
     pub classes: &'a [u8],
 }
 
+// The numbers of a field, with a space between them, and 0 for those that it does not have.
+fn numbers_of(field: &[u8]) -> [u64; MOST_NUMBERS] {
+    let mut numbers = [0; MOST_NUMBERS];
+    for (place, digits) in numbers.iter_mut().zip(field.split(|byte| *byte == b' ')) {
+        *place = number(digits);
+    }
+    numbers
+}
+
 // Tries the case of a line. Its fields: by what it calls, and the letter of the call; what is printed first; the expression or
 // the list; the text; numbers; the classes of a list.
 fn try_case(rt: &impl Print, alloc: Global, line: &[u8]) -> io::Result<()> {
@@ -75,7 +84,7 @@ fn try_case(rt: &impl Print, alloc: Global, line: &[u8]) -> io::Result<()> {
         call: Call::from(*call),
         first: row.field(2),
         text: row.field(3),
-        numbers: numbers(row.field(4)),
+        numbers: numbers_of(row.field(4)),
         classes: row.field(5),
     };
     rt.write_all(row.field(1))?;

@@ -2,8 +2,9 @@
 // `;` are as many more of the byte before them.
 #![tactic(auto)]
 
-ghost use Rattle.std.specs.Prelude.{◌<◌, ◌≤◌, length};
+ghost use Rattle.std.specs.Prelude.{◌≡◌, ◌<◌, ◌≤◌, length, vec_len, IfOk};
 ghost use Rattle.std.specs.Option.{ForSome};
+ghost use Rattle.fields.specs.Number.{digit_value, spelled};
 
 use std::alloc::{AllocError, Global};
 
@@ -14,7 +15,9 @@ const MOST_BYTES: usize = 66000;
 const LARGE: u64 = 1000000000000;
 
 // The value of a hex digit, 0 of any other byte.
-fn digit(byte: u8) -> u8 {
+fn digit(byte: u8) -> u8
+    ensures { result ≡ digit_value byte }
+{
     match byte {
         b'0'..=b'9' => byte - b'0',
         b'a'..=b'f' => byte - b'a' + 10,
@@ -23,7 +26,9 @@ fn digit(byte: u8) -> u8 {
 }
 
 // The number that these digits spell.
-fn number(digits: &[u8]) -> u64 {
+pub fn number(digits: &[u8]) -> u64
+    ensures { result ≡ spelled digits.now }
+{
     digits.iter().fold(0, |value: u64, byte| {
         if value < LARGE {
             10 * value + u64::from(digit(*byte))
@@ -58,8 +63,10 @@ pub struct Row {
 }
 
 impl Row {
-    // The row of a line.
-    pub fn parse(alloc: Global, line: &[u8]) -> Result<Row, AllocError> {
+    // The row of a line: each part says how long it is, so this goes from part to part.
+    pub fn parse(alloc: Global, line: &[u8]) -> Result<Row, AllocError>
+        ensures { IfOk result (λ row. vec_len row.bytes ≤ MOST_BYTES) }
+    {
         let mut row = Row {
             bytes: Vec::new(alloc),
             ends: Vec::new(alloc),
@@ -75,7 +82,10 @@ impl Row {
     }
 
     // Puts what a part stands for.
-    fn put(&mut self, part: &[u8]) -> Result<(), AllocError> {
+    fn put(&mut self, part: &[u8]) -> Result<(), AllocError>
+        requires { vec_len self.old.bytes ≤ MOST_BYTES }
+        ensures { vec_len self.new.bytes ≤ MOST_BYTES }
+    {
         match part {
             [b'\t'] => Ok(self.ends.push(self.bytes.len())?),
             [byte] => self.put_bytes(*byte, 1),
@@ -89,13 +99,18 @@ impl Row {
     }
 
     // Puts so many of a byte, as far as there is room.
-    fn put_bytes(&mut self, byte: u8, count: usize) -> Result<(), AllocError> {
+    fn put_bytes(&mut self, byte: u8, count: usize) -> Result<(), AllocError>
+        requires { vec_len self.old.bytes ≤ MOST_BYTES }
+        ensures { vec_len self.new.bytes ≤ MOST_BYTES }
+    {
         let size = self.bytes.len().saturating_add(count).min(MOST_BYTES);
         self.bytes.resize(size, byte)
     }
 
     // A field by its number, from 0: it is empty where there is none.
-    pub fn field(&self, number: usize) -> &[u8] {
+    pub fn field(&self, number: usize) -> &[u8]
+        ensures { length result.now ≤ vec_len self.now.bytes }
+    {
         let start = match number.checked_sub(1) {
             Some(before) => self.ends.get(before).copied().unwrap_or(0),
             None => 0,
@@ -105,11 +120,18 @@ impl Row {
     }
 }
 
-// The numbers of a field, with a space between them, and 0 for those that it does not have.
-pub fn numbers<const COUNT: usize>(field: &[u8]) -> [u64; COUNT] {
-    let mut numbers = [0; COUNT];
-    for (place, digits) in numbers.iter_mut().zip(field.split(|byte| *byte == b' ')) {
-        *place = number(digits);
+#[cfg(test)]
+mod tests {
+    use super::*;
+    use std::test::Fail;
+
+    #[test]
+    fn fields_of_a_row(rt: HostRuntime) -> Result<(), Fail> {
+        let row = Row::parse(rt.alloc(), b"1r\ta%2ab\t(~3;~;x")?;
+        assert_eq!(rt; row.field(0), b"1r".as_slice());
+        assert_eq!(rt; row.field(1), b"a*b".as_slice());
+        assert_eq!(rt; row.field(2), b"((((x".as_slice());
+        assert_eq!(rt; row.field(3), b"".as_slice());
+        Ok(())
     }
-    numbers
 }

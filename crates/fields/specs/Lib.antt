@@ -1,0 +1,2 @@
+-- What a row's fields promise.
+pub mod Number
