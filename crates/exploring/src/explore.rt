@@ -68,7 +68,7 @@ fn explore_on(
     let mut words = [0u64; MOST_PIECES];
     let mut states = 1;
     let mut p = 0;
-    // a `while`: the end moves with each state that is found
+    // A while: the end moves with each state that is found.
     while p < states * columns {
         let state = p / columns;
         let byte = firsts[p % columns];

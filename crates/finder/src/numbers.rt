@@ -1,4 +1,4 @@
-// The numbers that a match and a search give back.
+// The numbers that a match and a search give back: foamlattice packs them for callers in C, who are given no enum.
 ghost use Rattle.std.specs.Prelude.{◌≡◌};
 ghost use Rattle.tree.specs.Refusing.{refusal_number};
 ghost use Rattle.finder.specs.Answer.{refusing_match, answering_match, match_numbers, search_numbers};

@@ -1,4 +1,4 @@
-// The numbers that the making of a table gives back.
+// The numbers that the making of a table gives back: foamlattice packs them for callers in C, who are given no enum.
 ghost use Rattle.std.specs.Prelude.{◌≡◌};
 ghost use Rattle.making.specs.Answer.{made_numbers};
 

@@ -1,4 +1,4 @@
-// The numbers of an answer, for callers that print or pack them.
+// The numbers of an answer: foamlattice packs them for callers in C, who are given no enum.
 ghost use Rattle.std.specs.Prelude.{◌≡◌};
 ghost use Rattle.marks.specs.Answer.{marks_numbers};
 

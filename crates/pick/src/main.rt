@@ -68,7 +68,8 @@ fn write_output(
     ExitCode::SUCCESS
 }
 
-// Reads the input, and writes the output for it; a read or a write that fails is told on standard error.
+// Reads the input, and writes the output for it; a read or a write that fails is told on standard error. One function for
+// this program and `explain` would take the call, the bound on what it writes and the space it asks for as parameters.
 fn run(
     stdin: &mut impl Read,
     stdout: &impl Print,

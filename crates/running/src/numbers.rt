@@ -1,4 +1,4 @@
-// The numbers that a match by table gives back.
+// The numbers that a match by table gives back: foamlattice packs them for callers in C, who are given no enum.
 ghost use Rattle.std.specs.Prelude.{◌≡◌};
 ghost use Rattle.running.specs.Answer.{table_numbers};
 

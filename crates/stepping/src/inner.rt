@@ -56,6 +56,8 @@ pub struct Told {
     pub nothing: bool,
 }
 
+// Rows and their count go side by side here and above: a ghost field takes a proposition, and `Ready` holds a tree.
+
 // Marks the root's start alone in 128 words of zero and closes, which is the same by all class records. Answers whether
 // the root's accepting state is now marked.
 pub fn begin_in(rows: &[u64], count: usize, words: &mut [u64]) -> bool

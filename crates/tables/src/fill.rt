@@ -42,7 +42,8 @@ fn leads_and_jumps(target: usize) -> u16
     jumps_to(target) + LEADS_ON
 }
 
-// The code of a node's start, by its kind.
+// The code of a node's start, by its kind. This and the two codes after it have a function each, as `begin_code`,
+// `right_exit` and `left_exit` of specs/Filling.antt are.
 fn begin_code(kind: u8, middle: usize) -> u16
     requires { middle < most_states }
     ensures { result ≡ begin_code kind middle }

@@ -118,7 +118,8 @@ pub fn character_at(list: &[u8], i: usize) -> u8
     list[RECORD_SIZE * i + 1]
 }
 
-// The record number of its left or only child.
+// The record number of its left or only child. Each number has a function of its own, as `left_at` to `place_at` of
+// specs/Layout.antt are: their callers name what they read, not where it stands.
 pub fn left_at(list: &[u8], i: usize) -> usize
     requires { record_size * i + record_size ≤ length list.now }
     ensures { result ≡ left_at list.now i }
