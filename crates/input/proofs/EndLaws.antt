@@ -1,6 +1,7 @@
--- The end at a place, and the line before it.
-use Rattle.std.specs.Prelude.{ℕ, suc, ◌+◌, ◌-◌, ◌≤◌, ◌<◌, ◌≡◌, Bool, true, false, cond, List, [], ◌∷◌, ◌++◌, length, take, drop, eqb}
-use Rattle.std.proofs.Common.{sym, ap, ◌∙◌, arith, drop_of_length-le, length-drop, take-append-drop, take-add, take_all, drop_at, drop-drop, length-take-le}
+-- The end at a place by its bytes, and the line before it.
+use Rattle.std.specs.Prelude.{ℕ, zero, suc, ◌+◌, ◌-◌, ◌≤◌, ◌<◌, ◌≡◌, refl, Bool, true, false, ◌&&◌, cond, List, [], ◌∷◌, ◌++◌, length, get_or, take, drop, eqb}
+use Rattle.std.proofs.Common.{sym, ap, ◌∙◌, add-one, arith, drop_of_length-le, length-drop, take-append-drop, eqb-true, ne_eqb, take-add, take_all, drop_at, drop-drop, length-take-le}
+use Rattle.std.proofs.Math.Bool.{and-false}
 use Rattle.std.proofs.Math.Decide.{dec_lt}
 use Rattle.std.proofs.Math.Seq.{take-nil, length-slice}
 use Rattle.std.proofs.lemmas.List.{drop-append-le}
@@ -9,6 +10,39 @@ use Rattle.input.specs.Lines.{begins_end, lines, expression, texts}
 use Rattle.input.specs.Ends.{end_size, Ends, after_end}
 use Rattle.input.proofs.LineLaws.{lines_end, lines_ended, lines_last}
 use Rattle.input.specs.EndLaws.{FirstLine}
+
+-- the end at a place, by the byte there and the next one
+size_at : (input : List ℕ) (place : ℕ) → end_size (drop place input)
+    ≡ cond (eqb (get_or input place 0) 10) 1 (cond (eqb (get_or input place 0) 13 && eqb (get_or input (suc place) 0) 10) 2 0)
+size_at [] zero = refl
+size_at [] (suc place) = refl
+size_at (b ∷ []) zero = rw (and-false (eqb b 13))
+size_at (b ∷ c ∷ rest) zero = refl
+size_at (b ∷ rest) (suc place) = size_at rest place
+
+module _ (input : List ℕ) (place : ℕ) where
+  -- byte 10 is an end of one byte
+  pub size_ten : get_or input place 0 ≡ 10 → 1 ≡ end_size (drop place input)
+  size_ten ten = sym (size_at input place ∙ rw ten)
+
+  -- byte 13 directly before a 10 begins an end of two
+  pub size_two : get_or input place 0 ≡ 13 → get_or input (place + 1) 0 ≡ 10 → 2 ≡ end_size (drop place input)
+  size_two thirteen ten =
+      let next : get_or input (suc place) 0 ≡ 10 = ap (λ (n : ℕ). get_or input n 0) (sym (add-one place)) ∙ ten in
+      sym (size_at input place ∙ rw (thirteen, next))
+
+  -- no other byte begins an end
+  pub size_other : (get_or input place 0 ≡ 10 → ⊥) → (get_or input place 0 ≡ 13 → get_or input (place + 1) 0 ≡ 10 → ⊥)
+      → 0 ≡ end_size (drop place input)
+  size_other other apart =
+      sym (size_at input place ∙ rw (ne_eqb (get_or input place 0) 10 other)
+      (go (eqb (get_or input place 0) 13) (eqb (get_or input (suc place) 0) 10) λ h k.
+      apart (eqb-true _ _ h) (ap (λ (n : ℕ). get_or input n 0) (add-one place) ∙ eqb-true _ _ k)))
+    where
+      go : (thirteen ten : Bool) → (thirteen ≡ true → ten ≡ true → ⊥) → ◌≡◌ {A = ℕ} (cond (thirteen && ten) 2 0) 0
+      go true true apart = absurd (apart refl refl)
+      go true false apart = refl
+      go false ten apart = refl
 
 -- an end lies within the bytes
 end_within : (bytes : List ℕ) → end_size bytes ≤ length bytes
