@@ -42,12 +42,13 @@ impl Notes {
         ensures written { Appended self.old.numbers self.old.count (number ∷ []) self.new.count self.new.numbers }
         ensures kind { self.new.places ≡ self.old.places }
     {
-        if self.count >= MOST_LABELS {
+        let count = self.count;
+        if count >= MOST_LABELS {
             self.count = NO_ROOM;
             return;
         }
-        self.numbers[self.count] = number;
-        self.count += 1;
+        self.numbers[count] = number;
+        self.count = count + 1;
     }
 
     // Writes what is noted of one more node: its label or its place.
