@@ -67,7 +67,8 @@ impl Notes {
         self.put_two(STAR_LABEL, CATENATION_LABEL, place);
     }
 
-    // Writes what ends a copy that follows: the notes of its `?`, if it has one, and the catenation's.
+    // Writes what ends a copy that follows: the notes of its `?`, if it has one, and the catenation's. `with_question` is a
+    // Bool, as `copy_end` has it.
     fn end_copy(&mut self, with_question: bool, place: u16)
         ensures written { Appended self.old.numbers self.old.count
             (copy_end self.old.places place with_question) self.new.count self.new.numbers }

@@ -18,8 +18,9 @@ pub struct Notes {
     pub numbers: [u16; MOST_LABELS],
     // How many are noted; one more than there is room for where they do not fit.
     pub count: usize,
-    // Whether places are noted.
+    // Whether places are noted: a Bool, as `noted` has it, over which theorems of the readers above are stated.
     pub places: bool,
+    // There is room for the most labels, and no more are counted than one past them.
     pub ghost long: { length numbers ≡ most_labels },
     pub ghost few: { count ≤ slot_count },
 }
