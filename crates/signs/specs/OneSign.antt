@@ -81,9 +81,8 @@ module _ {syntax : Syntax} {places : Bool} {bytes : List ℕ} {first begin start
   -- where no sign was found, all are read
   pub all_read : {next total : ℕ} {later : List ℕ} → OneSign syntax places bytes first place count earlier next
       total later
-      → next ≡ place → SignsRead syntax places bytes first begin start before place total later
-  all_read (no_sign same counted kept stops) e =
-      record { carries = λ depth. rw (counted, kept) (so_far depth); stops = stops }
+      → next ≡ place → SignsRead syntax places bytes first begin start before place count later
+  all_read (no_sign same counted kept stops) e = record { carries = λ depth. rw kept (so_far depth); stops = stops }
   all_read (one_sign further within grown few on) e = absurd (omega arith)
 
   -- where one was found, it is one more
@@ -94,6 +93,13 @@ module _ {syntax : Syntax} {places : Bool} {bytes : List ℕ} {first begin start
   one_more (no_sign same counted kept stops) other depth = absurd (other same)
   one_more (one_sign further within grown few on) other depth =
       record { on = λ at list w. (on depth).on at list ((so_far depth).on at list w) }
+
+-- where no sign was found, nothing more is noted
+pub none_noted : {syntax : Syntax} {places : Bool} {bytes : List ℕ} {first place count next total : ℕ}
+    {earlier later : List ℕ} → OneSign syntax places bytes first place count earlier next total later → next ≡ place
+    → total ≡ count
+none_noted (no_sign same counted kept stops) e = counted
+none_noted (one_sign further within grown few on) e = absurd (omega arith)
 
 -- a sign that was found takes a byte at least, and the labels do not become fewer
 pub record SignFound (bytes : List ℕ) (place count next total : ℕ) : Type 0 where

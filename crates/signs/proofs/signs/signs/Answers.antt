@@ -3,7 +3,7 @@ use Rattle.std.proofs.Common.{◌∙◌, arith}
 use Rattle.std.proofs.lemmas.Result.{err_from_is_err_and}
 use Rattle.operands.specs.Bytes.{syntax_of}
 use Rattle.operands.specs.Reading.{OneSign}
-use Rattle.signs.specs.OneSign.{breaks_there, all_read, one_more, found}
+use Rattle.signs.specs.OneSign.{breaks_there, all_read, none_noted, one_more, found}
 use Rattle.signs.proofs.signs.signs.Goals as goal
 use Rattle.signs.proofs.signs.signs.Goals.{In_ok-next}
 
@@ -37,5 +37,5 @@ loop-place-preserved c =
 
 pub returns-then-next-place-clause-answer : goal.returns-then-next-place-clause-answer
 returns-then-next-place-clause-answer c =
-    all_read c.loop-place.invariant.3 (one_read (goal.at.returns-then-next-place-clause-answer c).In_ok-next)
-    c.if-next-place.true
+    let none = one_read (goal.at.returns-then-next-place-clause-answer c).In_ok-next in
+    rw (none_noted none c.if-next-place.true) (all_read c.loop-place.invariant.3 none c.if-next-place.true)
