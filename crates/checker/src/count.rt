@@ -1,5 +1,5 @@
 // Reading and counting: what can be said of an expression with no buffer lent.
-ghost use Rattle.std.specs.Prelude.{◌≡◌, ◌≤◌, false, length, IfOk};
+ghost use Rattle.std.specs.Prelude.{◌≡◌, ◌≤◌, length, IfOk};
 ghost use Rattle.tree.specs.Limits.{most_labels};
 ghost use Rattle.cutting.specs.Measured.{Postorder, RoomToMeasure, Measured};
 ghost use Rattle.operands.specs.Bytes.{syntax_of};
@@ -72,10 +72,9 @@ fn count_labels(labels: &[u16]) -> Result<Counts, Refused>
 // the signs stand for has more nodes than there are labels, which in the first syntax none has (`first_bounded`:
 // specs/Counted.antt).
 pub fn read_and_count(expr: &[u8], notes: &mut Notes, syntax: Syntax) -> Result<Counts, Refused>
-    requires none { notes.old.count ≡ 0 }
-    requires labels { notes.old.places ≡ false }
     ensures { CheckAnswer (syntax_of syntax) expr.now notes.new.numbers result }
 {
+    notes.places = false;
     expression(expr, notes, syntax)?;
     if notes.count > MOST_LABELS {
         return Err(Refused {

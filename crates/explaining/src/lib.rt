@@ -40,7 +40,7 @@ fn explain_rule(rule: &[u8], out: &mut [u8]) -> usize
             );
             printer.at
         }
-        Err(refused) => refusal(rule, refused, out),
+        Err(refused) => refusal(rule, refused.refusal.number(), refused.place, out),
     }
 }
 

@@ -25,7 +25,7 @@ fn put_refusal(expression: &[u8], out: &mut [u8]) -> usize
 {
     match check(expression) {
         Ok(_) => 0,
-        Err(refused) => refusal(expression, refused, out),
+        Err(refused) => refusal(expression, refused.refusal.number(), refused.place, out),
     }
 }
 

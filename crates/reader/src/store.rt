@@ -86,7 +86,6 @@ pub fn place_records(
     ensures { records.new ≡ with_places (places_in (syntax_of syntax) expr.now)
         records.old }
 {
-    notes.count = 0;
     notes.places = true;
     let _ = expression(expr, notes, syntax);
     write_places(&notes.numbers[..count], records);

@@ -9,10 +9,9 @@ use repeats::notes::Notes;
 use tree::limits::LONGEST_EXPRESSION;
 use tree::refusal::{Refusal, Refused};
 
-// Notes the labels of the tree that an expression stands for, or the places of its nodes, while there is room: refuses
-// by 1, 2, or the first fault from left to right.
+// Notes the labels of the tree that an expression stands for, or the places of its nodes, from the start of the notes
+// and while there is room: refuses by 1, 2, or the first fault from left to right.
 pub fn expression(expr: &[u8], notes: &mut Notes, syntax: Syntax) -> Result<(), Refused>
-    requires { notes.old.count ≡ 0 }
     ensures answer { ExpressionAnswer (syntax_of syntax) notes.old.places expr.now notes.new.count
         notes.new.numbers result }
     ensures kind { notes.new.places ≡ notes.old.places }
@@ -29,6 +28,7 @@ pub fn expression(expr: &[u8], notes: &mut Notes, syntax: Syntax) -> Result<(), 
             place: LONGEST_EXPRESSION,
         });
     }
+    notes.count = 0;
     let next = union(expr, 0, 0, notes, syntax)?;
     if next < expr.len() {
         return Err(Refused {

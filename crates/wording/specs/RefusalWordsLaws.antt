@@ -3,28 +3,6 @@ use Rattle.std.specs.Prelude.{ℕ, zero, suc, ◌≤◌, ◌<◌, ◌^◌, ◌�
 use Rattle.std.proofs.Common.{arith, length-append, leb→le}
 use Rattle.std.proofs.Math.Decide.{dec_lt}
 use Rattle.std.proofs.Math.ListN.{get_or-eq_default}
-use Rattle.tree.specs.Refusing.{refusal_number}
-use Rattle.tree.specs.declared.refusal.Refusal.{Refusal}
-use Rattle.tree.specs.declared.refusal.Refusal.TheVariants.{
-  ExpressionEmpty,
-  ExpressionTooLong,
-  OperandMissing,
-  GroupLeftOpen,
-  ClosingWithoutGroup,
-  TooManyGroups,
-  BackslashBeforeNoSign,
-  TooManyPieces,
-  BufferTooShort,
-  ListNotGood,
-  TextTooLong,
-  TooFewWords,
-  WordsNotMarks,
-  ClassFaulty,
-  ClassBufferTooShort,
-  CountFaulty,
-  TooManyNodes,
-  TableTooShort,
-}
 use Rattle.printing.specs.DigitLaws.{digits_length}
 use Rattle.wording.specs.RefusalWords.{no_words, all_refusal_words, words, most_words, told_line, most_told}
 
@@ -66,27 +44,6 @@ not_below (suc k) number h =
 pub words_past : (number : ℕ) → 17 < number → words number ≡ no_words
 unfolding words all_refusal_words
 words_past number h = get_or-eq_default all_refusal_words no_words {n = number} h
-
--- the number of a refusal has few digits
-pub number_short : (refusal : Refusal) → refusal_number refusal < 1000
-number_short ExpressionEmpty = omega arith
-number_short ExpressionTooLong = omega arith
-number_short OperandMissing = omega arith
-number_short GroupLeftOpen = omega arith
-number_short ClosingWithoutGroup = omega arith
-number_short TooManyGroups = omega arith
-number_short BackslashBeforeNoSign = omega arith
-number_short TooManyPieces = omega arith
-number_short BufferTooShort = omega arith
-number_short ListNotGood = omega arith
-number_short TextTooLong = omega arith
-number_short TooFewWords = omega arith
-number_short WordsNotMarks = omega arith
-number_short ClassFaulty = omega arith
-number_short ClassBufferTooShort = omega arith
-number_short CountFaulty = omega arith
-number_short TooManyNodes = omega arith
-number_short TableTooShort = omega arith
 
 -- the line of a refusal has at most 90 bytes
 pub told_length : (number place : ℕ) → number < 1000 → place < 10 ^ 20 → length (told_line number place) ≤ most_told

@@ -1,10 +1,9 @@
 -- `showing::refusal` meets its contract: the marked lines, then the words; nothing where the buffer is too short.
 use Rattle.std.proofs.Common.{rules, arith, ap, length}
 use borrow.Author.Tests.{lt-ltb, le-ltb}
-use Rattle.tree.specs.Refusing.{refusal_number}
 use Rattle.printing.specs.PrintingLaws.{prints_none}
 use Rattle.printing.specs.PrinterLaws.{puts_join, puts_front}
-use Rattle.wording.specs.RefusalWordsLaws.{told_length, number_short}
+use Rattle.wording.specs.RefusalWordsLaws.{told_length}
 use Rattle.showing.specs.Refusal.{most_shown}
 use Rattle.showing.specs.CutShortLaws.{marked_length}
 use Rattle.showing.proofs.refusal.Goals as goal
@@ -19,7 +18,7 @@ put_marked-requires c =
       arith,
       c.new-printer.ensures.front,
       ap length c.new-printer.ensures.front.0,
-      marked_length c.args.expression.now c.args.refused.place,
+      marked_length c.args.expression.now c.args.place,
     )
 
 pub put_told-requires : goal.put_told-requires
@@ -28,9 +27,8 @@ put_told-requires c =
       arith,
       c.new-printer.ensures.front,
       ap length c.new-printer.ensures.front.0,
-      marked_length c.args.expression.now c.args.refused.place,
-      told_length (refusal_number c.args.refused.refusal) c.args.refused.place
-          (number_short c.args.refused.refusal) (omega arith),
+      marked_length c.args.expression.now c.args.place,
+      told_length c.args.number c.args.place (omega arith) (omega arith),
     )
 
 pub returns : goal.returns

@@ -12,7 +12,7 @@ use Rattle.checker.proofs.count.read_and_count.Goals.{In_ok-expression}
 -- the expression is read, and a tree with places stands for it
 tree_read : (c : In_ok-expression)
     → LabelsRead (syntax_of c.args.syntax) c.args.expr.now c.expression.new.notes.numbers c.expression.new.notes.count
-tree_read c = labels_read (rw (← c.requires.labels) c.in_ok-expression.ensures.answer)
+tree_read c = labels_read c.in_ok-expression.ensures.answer
 
 pub returns-in_err-expression : goal.returns-in_err-expression
 returns-in_err-expression c =

@@ -20,10 +20,10 @@ returns-in_err-next-clause-answer c =
 pub returns-then-next-expr-clause-answer : goal.returns-then-next-expr-clause-answer
 returns-then-next-expr-clause-answer c =
     unopened _ _ (grind (arith, c.if-is_empty.ensures)) c.if-expr-gt-LONGEST_EXPRESSION.false
-    (rw c.requires at c.in_ok-next.ensures.answer) c.if-next-expr.true
+    c.in_ok-next.ensures.answer c.if-next-expr.true
 
 pub returns-clause-answer : goal.returns-clause-answer
 returns-clause-answer c =
-    let read = rw c.requires at c.in_ok-next.ensures.answer in
+    let read = c.in_ok-next.ensures.answer in
     accepted _ _ (grind (arith, c.if-is_empty.ensures)) c.if-expr-gt-LONGEST_EXPRESSION.false read
     (omega (arith, read.went.within))

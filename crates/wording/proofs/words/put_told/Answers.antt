@@ -6,5 +6,11 @@ use Rattle.wording.proofs.words.put_told.Goals as goal
 pub returns : goal.returns
 unfolding told_line
 returns c =
-    rw (← c.words.ensures)
-    (puts_join (puts_join (puts_join c.put_refused.ensures c.put.ensures) c.put-2.ensures) c.put-3.ensures)
+    rw (← c.words.ensures, ← c.from.ensures)
+    (puts_join
+    (puts_join
+    (puts_join
+    (puts_join (puts_join (puts_join c.put.ensures c.put_number.ensures) c.put-2.ensures) c.put_number-2.ensures)
+    c.put-3.ensures)
+    c.put-4.ensures)
+    c.put-5.ensures)
