@@ -22,8 +22,8 @@ pub record PickedBy (Answers : ℕ → Bool → Type 0) (w rest r : ℕ) : Type 
   pub no_for : (j : ℕ) → Bit w j → (Bit rest j → ⊥) → (Bit r j → ⊥) → Answers j false
 
 -- at first none are picked
-pub picked_none : (Answers : ℕ → Bool → Type 0) (w : ℕ) → PickedBy Answers w w 0
-picked_none Answers w = record {
+pub picked_by_none : (Answers : ℕ → Bool → Type 0) (w : ℕ) → PickedBy Answers w w 0
+picked_by_none Answers w = record {
   among = λ i b. b;
   yes_for = λ j b. absurd (bit_zero j b);
   no_for = λ j b gone none. absurd (gone b);
@@ -35,10 +35,10 @@ yes_or_no true = inl refl
 yes_or_no false = inr refl
 
 -- the lowest state that is left is picked where the test says so
-pub picked_more : {Answers : ℕ → Bool → Type 0} {w rest rest' r r' s : ℕ} {test : Bool} → PickedBy Answers w rest r
+pub picked_by_more : {Answers : ℕ → Bool → Type 0} {w rest rest' r r' s : ℕ} {test : Bool} → PickedBy Answers w rest r
     → Lowest rest s → Answers s test → ((j : ℕ) → Bit r' j ↔ (Bit r j ⊎ ((j ≡ s) × (test ≡ true))))
     → rest' ≡ bit_and rest (rest - 1) → PickedBy Answers w rest' r'
-picked_more {Answers} {w} {rest} {r' = r'} {s = s} {test = test} so_far lowest said sets takes =
+picked_by_more {Answers} {w} {rest} {r' = r'} {s = s} {test = test} so_far lowest said sets takes =
     subst (λ (m : ℕ). PickedBy Answers w m r') (sym takes) record {
       among = λ i b. so_far.among i ((lowest.left i).0 b).0;
       yes_for = λ j c. ⊎_elim
@@ -59,9 +59,9 @@ picked_more {Answers} {w} {rest} {r' = r'} {s = s} {test = test} so_far lowest s
     }
 
 -- told with no state left
-pub picked_all : {Answers : ℕ → Bool → Type 0} {w rest r : ℕ} → rest ≡ 0 → PickedBy Answers w rest r
+pub picked_by_all : {Answers : ℕ → Bool → Type 0} {w rest r : ℕ} → rest ≡ 0 → PickedBy Answers w rest r
     → PickedBy Answers w 0 r
-picked_all {Answers} {w} {r = r} e so_far = subst (λ (m : ℕ). PickedBy Answers w m r) e so_far
+picked_by_all {Answers} {w} {r = r} e so_far = subst (λ (m : ℕ). PickedBy Answers w m r) e so_far
 
 -- a test that tells whether P holds picks the states of which P holds
 pub picked_by : {Answers : ℕ → Bool → Type 0} (P : ℕ → Type 0) {w r : ℕ} → PickedBy Answers w 0 r
@@ -76,6 +76,43 @@ picked_by P {w} {r} picked tells = record {
     ],
   );
 }
+
+-- at first none are picked
+pub picked_none : (P : ℕ → Type 0) (w : ℕ) → BitsPicked P w w 0
+picked_none P w =
+    record { among = λ i b. b; exactly = λ j. (λ b. absurd (bit_zero j b), λ (b, gone, _). absurd (gone b)) }
+
+-- a test that tells of what holds says yes
+says_yes : {P : Type 0} (test : Bool) → Tells P test → P → test ≡ true
+says_yes true told p = refl
+says_yes false told p = absurd (told.fails refl p)
+
+-- the lowest state that is left is picked where the test says so
+pub picked_more : {P : ℕ → Type 0} {w rest rest' r r' s : ℕ} {test : Bool} → BitsPicked P w rest r → Lowest rest s
+    → Tells (P s) test → ((j : ℕ) → Bit r' j ↔ (Bit r j ⊎ ((j ≡ s) × (test ≡ true)))) → rest' ≡ bit_and rest (rest - 1)
+    → BitsPicked P w rest' r'
+picked_more {P} {w} {rest} {r' = r'} {s = s} {test = test} so_far lowest told sets takes =
+    subst (λ (m : ℕ). BitsPicked P w m r') (sym takes) record {
+      among = λ i b. so_far.among i ((lowest.left i).0 b).0;
+      exactly = λ j. (
+        λ c. ⊎_elim
+            (λ d. let (b, gone, at) = (so_far.exactly j).0 d in (b, λ l. gone ((lowest.left j).0 l).0, at))
+            (λ (e, says). (
+              subst (λ (i : ℕ). Bit w i) (sym e) (so_far.among s lowest.is_set),
+              λ l. ((lowest.left j).0 l).1 e,
+              subst P (sym e) (told.holds says),
+            ))
+            ((sets j).0 c),
+        λ (b, gone, at). (sets j).1 (elim (ℕ_discrete j s) [
+          | yes e ↦ inr (e, says_yes test told (subst P e at))
+          | no other ↦ inl ((so_far.exactly j).1 (b, λ l. gone ((lowest.left j).1 (l, other)), at))
+        ]),
+      );
+    }
+
+-- told with no state left
+pub picked_all : {P : ℕ → Type 0} {w rest r : ℕ} → rest ≡ 0 → BitsPicked P w rest r → BitsPicked P w 0 r
+picked_all {P} {w} {r = r} e so_far = subst (λ (m : ℕ). BitsPicked P w m r) e so_far
 
 -- the states of w whose byte in the row of the piece is b
 abbrev pub PickedByByte : List ℕ → (piece b w rest r : ℕ) → Type 0
