@@ -8,12 +8,12 @@ use Rattle.tree.specs.Layout.{record_size}
 use Rattle.tree.specs.Records.{piece_count, Good}
 use Rattle.tree.specs.Bounds
 use Rattle.tree.specs.Lengths.{nodes_positive}
-use Rattle.deciding.specs.Judged.{Judged, CountsBelow, RoomToDecide}
+use Rattle.deciding.specs.Judged.{GoodWith, Judged, CountsBelow, RoomToDecide}
 use Rattle.deciding.specs.DecideLaws.{good_length}
 use Rattle.tree.specs.declared.counted.Counts.{Counts}
 use Rattle.planning.specs.Given.{DecidedGood, good_top}
 use Rattle.tables.specs.Plan.{row_words}
-use Rattle.tables.specs.Tables.{Prepared, Roomy}
+use Rattle.tables.specs.Tables.{Prepared, Roomy, Ready}
 use Rattle.stepping.specs.Inner.{small_table_pieces, half_table_pieces}
 
 -- there is room for the pieces of the list's tree, where the list is good
@@ -37,6 +37,23 @@ pub prepared_list : {list rows : List ℕ} {answer : Option Counts} {counts : Co
     → FitsRows list (Some counts) rows
     → PreparedList list (Some counts) rows
 prepared_list {list} e judged made = record { judged = subst (Judged list) e judged; rows_fits = made }
+
+module _ {list rows : List ℕ} {answer : Option Counts} {counts : Counts}
+    (made : PreparedList list answer rows) (e : answer ≡ Some counts) where
+  -- the list has a tree with these counts
+  pub told_tree : GoodWith list counts.records counts.pieces counts.classes
+  told_tree = (subst (Judged list) e made.judged).fits
+
+  -- the rows are those of whatever tree the list is that of
+  pub told_prepared : (t : Tree Leaf) → Good list t → Prepared t rows counts.pieces
+  told_prepared = (subst (λ (a : Option Counts). PreparedList list a rows) e made).rows_fits.1
+
+  -- and is ready
+  pub told_ready : Ready rows counts.pieces
+  told_ready = record {
+    roomy = (subst (λ (a : Option Counts). PreparedList list a rows) e made).rows_fits.0;
+    of_tree = (told_tree.tree, told_prepared told_tree.tree told_tree.is_good);
+  }
 
 -- a list of few records has few pieces, and one of some records some
 bounded : (list : List ℕ) (t : Tree Leaf) → Good list t → 8 * piece_count t ≤ length list / record_size + 7
