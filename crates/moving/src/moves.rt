@@ -10,7 +10,7 @@ ghost use Rattle.closing.specs.BitsOfWords.Bits.{Tells};
 ghost use Rattle.closing.specs.Passes.Laid.{Lays};
 ghost use Rattle.moving.specs.Picking.{PickedBy};
 ghost use Rattle.moving.specs.WordsMovedClosed.{WordAfter, MovedClosed};
-ghost use Rattle.moving.specs.Spans.{SpanWidened, SpansOf};
+ghost use Rattle.moving.specs.Spans.{SpanLonger, SpansOf};
 
 use crate::classes::{class_of, in_class};
 use closing::bits::{SetBits, set_where};
@@ -100,7 +100,7 @@ pub struct WordSpan {
 // The span with one piece more, by its closed word. Where nothing is marked there is none.
 fn widened(span: Option<WordSpan>, piece: usize, word: u64) -> Option<WordSpan>
     requires { piece < most_pieces }
-    ensures { SpanWidened span piece word result }
+    ensures { SpanLonger span piece word result }
 {
     if none_marked(word) {
         return span;

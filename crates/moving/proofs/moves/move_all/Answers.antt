@@ -1,7 +1,7 @@
 -- `moving::moves::move_all` meets its contract: one word more is moved and closed, and the span widened by it.
 use Rattle.std.proofs.Common.{ℕ, ◌<◌, List, length, get_or-set_same, arith}
 use Rattle.moving.specs.WordsMovedClosed.{MovingClosing, moving_more, moving_all}
-use Rattle.moving.specs.Spans.{spans_more}
+use Rattle.moving.specs.Spans.{spans_gathered}
 use Rattle.moving.proofs.moves.move_all.Goals as goal
 
 -- a piece stands in the words as they are so far
@@ -15,7 +15,7 @@ loop-piece-preserved c =
     let invariant = loop.invariant in
     let inside = inside_words invariant.0 (omega arith) in (
       moving_more (omega arith) invariant.0 c.word_after.ensures,
-      spans_more loop.words loop.piece loop.span _ invariant.1 inside
+      spans_gathered loop.words loop.piece loop.span _ invariant.1 inside
           (rw get_or-set_same at c.widened-span.ensures),
     )
 
