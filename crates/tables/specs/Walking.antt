@@ -464,11 +464,15 @@ module _ {list : List ℕ} {node piece own kind code : ℕ} (met : OfPiece list 
           omega (arith, filled_ends kid.sitting (done ready.room ready.full _ kid.sitting))
 
       -- the numbers at a star are within the row
-      pub star_bounds : kind ≡ star_kind → (at < middle) × (middle ≤ middle) × (middle < most_states)
+      pub star_bounds : kind ≡ star_kind
+          → (row_size ≤ length mid.codes) × (at < middle) × (middle ≤ middle)
+          × (middle < most_states)
       star_bounds e =
           omega (
             arith,
             past_left,
+            row_within ready,
+            same.of_codes,
             filled_ends ready.sitting
                 (visit_star ready.sitting (met_own met) (met_kind met star_kind e) t mid full_left middle
                 (done_left ready.room ready.full)),
@@ -501,12 +505,16 @@ module _ {list : List ℕ} {node piece own kind code : ℕ} (met : OfPiece list 
       pub two_bounds : {right last : ℕ} {after : Tables} → right ≡ right_at list node → (kind ≡ star_kind → ⊥)
           → SameLengths mid after
           → SiteVisited list right piece middle mid after last
-          → (at < middle) × (middle ≤ last) × (last < most_states)
+          → (row_size ≤ length after.codes) × (at < middle) × (middle ≤ last)
+          × (last < most_states)
       two_bounds {right} {last} {after} right_is other again done-second =
           let kid = second_kid right_is other in
           omega (
             arith,
             past_left,
+            row_within ready,
+            same.of_codes,
+            again.of_codes,
             filled_ends kid.sitting (done-second ready.room full_left _ kid.sitting),
             filled_ends ready.sitting
                 (visit_two ready.sitting (met_own met) (sym code_is ∙ inner)

@@ -57,10 +57,11 @@ fill-middle-requires t c =
 
 pub join-requires : goal.join-requires
 join-requires t c =
-    star_bounds
+    let (_, begun, ordered, few) = star_bounds
     (record { shown = c.piece_at-own.ensures; same = c.if-own-piece.false; of_kind = c.kind_at-kind.ensures })
     c.code_at-code.ensures c.left_at-left.ensures c.if-code-ne0.false c.requires
-    c.fill-middle.ensures.same_lengths c.fill-middle.ensures.visited c.if-kind-eq-STAR.true
+    c.fill-middle.ensures.same_lengths c.fill-middle.ensures.visited c.if-kind-eq-STAR.true in
+    (begun, ordered, few)
 
 pub returns-then-kind-eq-STAR-clause-visited : goal.returns-then-kind-eq-STAR-clause-visited
 returns-then-kind-eq-STAR-clause-visited t c =
@@ -82,11 +83,12 @@ fill-last-requires t c =
 
 pub join-requires-2 : goal.join-requires-2
 join-requires-2 t c =
-    two_bounds
+    let (_, begun, ordered, few) = two_bounds
     (record { shown = c.piece_at-own.ensures; same = c.if-own-piece.false; of_kind = c.kind_at-kind.ensures })
     c.code_at-code.ensures c.left_at-left.ensures c.if-code-ne0.false c.requires
     c.fill-middle.ensures.same_lengths c.fill-middle.ensures.visited c.right_at-right.ensures c.if-kind-eq-STAR.false
-    c.fill-last.ensures.same_lengths c.fill-last.ensures.visited
+    c.fill-last.ensures.same_lengths c.fill-last.ensures.visited in
+    (begun, ordered, few)
 
 pub returns-clause-visited : goal.returns-clause-visited
 returns-clause-visited t c =
