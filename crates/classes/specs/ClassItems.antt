@@ -290,12 +290,17 @@ pub inside_at : (bytes : List ℕ) (at : ℕ) → ClassHere bytes at → at < le
 inside_at bytes at (dot_here h e) = h
 inside_at bytes at (bracket_here h e f) = h
 
--- the values of the dot: all are taken, and then 10 is not
-pub dot_members : (filled : List ℕ) → length filled ≡ value_count → EveryValue filled 1
+-- the values of the dot
+pub dot_members : (filled after : List ℕ) → length filled ≡ value_count → EveryValue filled 1
+    → length after ≡ length filled → Put filled after 10 11 0 → Members the_dot after
+dot_members filled after long f same put =
+    put_members (class_of_items true []) filled after 10 10 (filled_members true filled long f) same put
+
+-- the same where all are taken, and then 10 is not
+pub dot_members_set : (filled : List ℕ) → length filled ≡ value_count → EveryValue filled 1
     → Members the_dot (set filled 10 0)
-dot_members filled long f =
-    put_members (class_of_items true []) filled (set filled 10 0) 10 10 (filled_members true filled long f)
-    (length-set filled 10 0)
+dot_members_set filled long f =
+    dot_members filled (set filled 10 0) long f (length-set filled 10 0)
     (record {
       inside = λ v l k.
           let here : v ≡ 10 = omega arith in rw here (get_or-set_same filled 10 0 0 (omega (arith, long)));

@@ -208,10 +208,24 @@ run_length {scratch} {run} {begin} {size} {count} room at h =
     ∙ omega (arith, long)
 
 -- all of it is copied
-pub copied_all : {earlier later : List ℕ} {begin size count n : ℕ} → CopyRoom earlier begin size count
+pub copied_all : {earlier later : List ℕ} {begin size count i : ℕ} → CopyRoom earlier begin size count
+    → count + size ≤ most_labels → i ≡ size → CopiedUpTo earlier begin size count i later
+    → Copies earlier begin size count (λ run. run) (count + size) later
+copied_all {earlier} {later} {begin} {size} {count} room fits e s =
+    let whole : take (count + size) later ≡ take count earlier ++ drop begin (take (begin + size) earlier)
+    = rw e at s.copy in
+    record {
+      on = λ run at. record {
+        counted = omega (arith, run_length room at (omega arith));
+        written = λ h. whole ∙ ap (λ (l : List ℕ). take count earlier ++ l) (at.here (omega arith));
+      };
+    }
+
+-- all of it is pasted at once
+pub pasted_all : {earlier later : List ℕ} {begin size count n : ℕ} → CopyRoom earlier begin size count
     → count + size ≤ most_labels → n ≡ size → later ≡ paste earlier count (drop begin earlier) n
     → Copies earlier begin size count (λ run. run) (count + size) later
-copied_all {earlier} {later} {begin} {size} {count} room fits all pasted =
+pasted_all {earlier} {later} {begin} {size} {count} room fits all pasted =
     let whole : take (count + size) later ≡ take count earlier ++ take size (drop begin earlier)
     = rw (pasted, all)
     (take_at (take count earlier ++ take size (drop begin earlier)) (drop (count + size) earlier) (count + size)
