@@ -1,11 +1,11 @@
 // Closing inside one piece, by passes over its states in their order: marks are carried on along states that lead to
 // the next one, then the jumps of the states that were newly marked are taken, while there are any.
-ghost use Rattle.std.specs.Prelude.{◌≡◌, ℕ, ◌+◌, ◌*◌, ◌^◌, ◌≤◌, ◌<◌, length};
+ghost use Rattle.std.specs.Prelude.{◌≡◌, ◌^◌, ◌≤◌, ◌<◌};
 ghost use Rattle.language.specs.Nested.{Nested};
 ghost use Rattle.tree.specs.Limits.{most_states};
 ghost use Rattle.tree.specs.Leaf.{Leaf};
 ghost use Rattle.tables.specs.Words.{width};
-ghost use Rattle.tables.specs.Plan.{row_words, Closes};
+ghost use Rattle.tables.specs.Plan.{Closes};
 ghost use Rattle.closing.specs.BitsOfWords.Bits.{Tells};
 ghost use Rattle.closing.specs.Passes.RunOn.{RanOn};
 ghost use Rattle.closing.specs.Passes.Jumping.{Jumped};
@@ -13,8 +13,7 @@ ghost use Rattle.closing.specs.Passes.Laid.{Lays};
 ghost use Rattle.closing.specs.Passes.Closing.{ClosesAfter};
 
 use crate::bits::{SetBits, with_bit};
-use tables::ROW_WORDS;
-use tables::rows::byte_of;
+use tables::rows::PieceRow;
 
 // A piece has at most 62 states, so no mask of it has a bit at or above this one, and an addition cannot overflow.
 const TOP_BIT: u64 = 9223372036854775808;
@@ -31,13 +30,12 @@ fn run_on(word: u64, on: u64) -> u64
 }
 
 // The states that the jumps of the given ones lead to.
-fn targets(rows: &[u64], piece: usize, from: u64) -> u64
-    requires { row_words * piece + row_words ≤ length rows.now }
-    ensures { Jumped rows.now piece from 0 result }
+fn targets(row: PieceRow, from: u64) -> u64
+    ensures { Jumped row.entry.rows.now row.entry.piece from 0 result }
 {
     let mut reached: u64 = 0;
     for state in SetBits(from) {
-        let target = byte_of(rows, piece, state) % WORD_BITS;
+        let target = row.byte(state) % WORD_BITS;
         reached = with_bit(reached, target);
     }
     reached
@@ -45,31 +43,28 @@ fn targets(rows: &[u64], piece: usize, from: u64) -> u64
 
 // The word of a piece, closed, where the part `done` of it was closed before: of what that part reaches nothing is
 // looked at again. Each jump is taken at most once.
-pub fn close_after(rows: &[u64], piece: usize, word: u64, done: u64) -> u64
-    requires { row_words * piece + row_words ≤ length rows.now }
-    ensures { ClosesAfter rows.now piece word done result }
+pub fn close_after(row: PieceRow, word: u64, done: u64) -> u64
+    ensures { ClosesAfter row.entry.rows.now row.entry.piece word done result }
 {
-    let at = ROW_WORDS * piece;
-    let on = rows[at] % TOP_BIT;
-    let jumps = rows[at + 1];
+    let on = row.word(0) % TOP_BIT;
+    let jumps = row.word(1);
     let mut left = jumps ^ (done & jumps);
     let mut closed = run_on(word, on);
     // No walk over a list: which jumps are taken next hangs on what those before have reached.
     while closed & left != 0 {
         let taken = closed & left;
         left ^= taken;
-        closed = run_on(closed | targets(rows, piece, taken), on);
+        closed = run_on(closed | targets(row, taken), on);
     }
     closed
 }
 
 // The word of a piece, closed.
-pub fn close(rows: &[u64], piece: usize, word: u64) -> u64
-    requires { row_words * piece + row_words ≤ length rows.now }
-    ensures { (x : Nested Leaf) → width x ≤ most_states → Lays rows.now x piece
+pub fn close(row: PieceRow, word: u64) -> u64
+    ensures { (x : Nested Leaf) → width x ≤ most_states → Lays row.entry.rows.now x row.entry.piece
         → word < 2 ^ width x → Closes x word result }
 {
-    close_after(rows, piece, word, 0)
+    close_after(row, word, 0)
 }
 
 // Whether nothing is marked in the word of a piece.

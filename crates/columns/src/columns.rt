@@ -1,9 +1,8 @@
 // The columns of a table of steps: for each byte which it has, and for each the byte that it begins with.
-ghost use Rattle.std.specs.Prelude.{◌+◌, ◌*◌, ◌≤◌, ◌<◌, ◌≡◌, length, take};
+ghost use Rattle.std.specs.Prelude.{◌≤◌, ◌<◌, ◌≡◌, length, take};
 ghost use Rattle.language.specs.Tree.{Tree};
 ghost use Rattle.tree.specs.Leaf.{Leaf};
 ghost use Rattle.tree.specs.Limits.{most_states};
-ghost use Rattle.tables.specs.Plan.{row_words};
 ghost use Rattle.tables.specs.Tables.{Prepared, Roomy};
 ghost use Rattle.machines.specs.Columns.{byte_count, Columned};
 ghost use Rattle.columns.specs.Alike.{start_code_at};
@@ -13,19 +12,18 @@ use crate::BYTE_COUNT;
 use crate::parting::{KNOWN_COUNT, look_at};
 use closing::bits::has_bit;
 use moving::classes::class_of;
-use tables::ROW_WORDS;
-use tables::rows::byte_of;
+use tables::rows::PieceRow;
 use tree::limits::MOST_STATES;
 
 // The number of the leaf that starts at a state, by the row of its piece.
-fn start_code_at(rows: &[u64], piece: usize, state: usize) -> u16
-    requires { (row_words * piece + row_words ≤ length rows.now) × (state < most_states) }
-    ensures { result ≡ start_code_at rows.now piece state }
+fn start_code_at(row: PieceRow, state: usize) -> u16
+    requires { state < most_states }
+    ensures { result ≡ start_code_at row.entry.rows.now row.entry.piece state }
 {
-    if has_bit(rows[ROW_WORDS * piece + 3], state) {
-        return (2 * class_of(rows, piece, state) + 1) as u16;
+    if has_bit(row.word(3), state) {
+        return (2 * class_of(row, state) + 1) as u16;
     }
-    (2 * (byte_of(rows, piece, state) + 1)) as u16
+    (2 * (row.byte(state) + 1)) as u16
 }
 
 // Numbers the groups in the order of their least bytes. Answers how many there are.
@@ -69,10 +67,13 @@ pub fn columns_of(
     let mut least = [0u8; BYTE_COUNT];
     let mut known = [0u8; KNOWN_COUNT];
     for entry in 0..MOST_STATES * count {
-        let piece = entry / MOST_STATES;
+        let row = PieceRow {
+            rows,
+            piece: entry / MOST_STATES,
+        };
         let state = entry % MOST_STATES;
-        if has_bit(rows[ROW_WORDS * piece + 2], state) {
-            let number = start_code_at(rows, piece, state);
+        if has_bit(row.word(2), state) {
+            let number = start_code_at(row, state);
             look_at(classes, number, &mut known, &mut least);
         }
     }

@@ -6,8 +6,7 @@ ghost use Rattle.tables.specs.Tables.{Roomy};
 ghost use Rattle.exploring.specs.Keys.{Keys};
 
 use closing::bits::with_bit;
-use tables::ROW_WORDS;
-use tables::rows::top_of;
+use tables::rows::PieceRow;
 
 // Notes the masks under which words are compared: the starts of leaves, and in the first the root's accepting state.
 pub fn note_keys(rows: &[u64], count: usize, masks: &mut [u64])
@@ -16,9 +15,9 @@ pub fn note_keys(rows: &[u64], count: usize, masks: &mut [u64])
     ensures { Keys rows.now count masks.new }
 {
     for k in 0..count {
-        masks[k] = rows[ROW_WORDS * k + 2];
+        masks[k] = PieceRow { rows, piece: k }.word(2);
     }
-    let top = top_of(rows, 0);
+    let root = PieceRow { rows, piece: 0 };
     let leaves = masks[0];
-    masks[0] = with_bit(leaves, top);
+    masks[0] = with_bit(leaves, root.top());
 }

@@ -12,7 +12,7 @@ ghost use Rattle.marks.specs.Along.{Steppable, ToldOf, Walkable};
 use closing::bits::has_bit;
 use closing::close::none_marked;
 use stepping::inner::{Told, advance};
-use tables::rows::top_of;
+use tables::rows::PieceRow;
 
 // What is told of the marks as they are.
 fn told_of(rows: &[u64], count: usize, words: &[u64]) -> Told
@@ -21,8 +21,9 @@ fn told_of(rows: &[u64], count: usize, words: &[u64]) -> Told
         → Prepared t rows.now count → MarksOf t words.now
         → ToldOf t words.now result.accepting result.nothing }
 {
+    let root = PieceRow { rows, piece: 0 };
     Told {
-        accepting: has_bit(words[0], top_of(rows, 0)),
+        accepting: has_bit(words[0], root.top()),
         nothing: words[..count].iter().all(|word| none_marked(*word)),
     }
 }

@@ -1,6 +1,6 @@
 -- Moving the word of one piece along a byte: the bits of the states whose leaves take the byte, each one place up.
 use Rattle.std.specs.Prelude.{ℕ, zero, suc, ◌*◌, ◌/◌, ◌%◌, ◌^◌, ◌≤◌, ◌<◌, ◌≡◌, refl, ◌↔◌, List, get_or}
-use Rattle.std.proofs.Common.{sym, ap, ◌∙◌, subst, inl, inr, ⊎_elim, mod-eq_of_lt, lt_of_lt_of_le, arith, pow_mono}
+use Rattle.std.proofs.Common.{sym, ap, ◌∙◌, subst, subst₂, inl, inr, ⊎_elim, mod-eq_of_lt, lt_of_lt_of_le, arith, pow_mono}
 use Rattle.std.specs.Int.Bits.{bit_or, bit_and, bit_xor}
 use Rattle.language.specs.Automaton.{State}
 use Rattle.language.specs.Nested.{Nested, OwnReads}
@@ -239,3 +239,18 @@ module _ (rows classes : List ℕ) (piece b w characters taken : ℕ)
     exactly = λ q o. (λ c. comes_to q o (up (number x q) c), forth q o);
     clean = below_of_bits (width x) (r * 2) (λ j c. comes_below (up j c));
   }
+
+-- the same by the two masks as they were read
+pub moves_by_masks : {rows classes : List ℕ} {piece b w leaves_read classes_read characters taken : ℕ}
+    → leaves_read ≡ leaves_mask rows piece → classes_read ≡ classes_mask rows piece
+    → let among = bit_and w leaves_read in let starting = bit_and classes_read among in
+    PickedByByte rows piece b (bit_xor among starting) 0 characters
+    → PickedByClass rows classes piece b (starting % 2 ^ 63) 0 taken
+    → (x : Nested Leaf) → width x ≤ most_states → Lays rows x piece → w < 2 ^ width x
+    → Moves classes x b w (bit_or characters taken * 2 % 2 ^ word_bits)
+moves_by_masks {rows} {classes} {piece} {b} {w} {characters = characters} {taken = taken} e f by_byte by_class =
+    moves_by_leaves rows classes piece b w characters taken
+    (subst₂ (λ (m n : ℕ). PickedByByte rows piece b (bit_xor (bit_and w m) (bit_and n (bit_and w m))) 0 characters)
+    e f by_byte)
+    (subst₂ (λ (m n : ℕ). PickedByClass rows classes piece b (bit_and n (bit_and w m) % 2 ^ 63) 0 taken)
+    e f by_class)

@@ -1,12 +1,12 @@
 // Which bytes a leaf takes: a character takes one, a class those of its record.
-ghost use Rattle.std.specs.Prelude.{◌≡◌, ◌+◌, ◌*◌, ◌≤◌, ◌<◌, length};
+ghost use Rattle.std.specs.Prelude.{◌≡◌, ◌+◌, ◌<◌};
 ghost use Rattle.tree.specs.Leaf.{InClass};
 ghost use Rattle.tables.specs.Words.{word_bits};
-ghost use Rattle.tables.specs.Plan.{row_words, class_of};
+ghost use Rattle.tables.specs.Plan.{class_of};
 ghost use Rattle.closing.specs.BitsOfWords.Bits.{Tells};
 ghost use Rattle.moving.specs.Codes.{class_limit, CodeTakes};
 
-use tables::rows::byte_of;
+use tables::rows::PieceRow;
 use tree::layout::CLASS_RECORD_SIZE;
 
 // A class's number is a byte, and so many times the two high bits of the next one.
@@ -15,11 +15,11 @@ const BYTES: usize = 256;
 const WORD_BITS: usize = 64;
 
 // The number of the class that starts at a state, by the row of its piece.
-pub fn class_of(rows: &[u64], piece: usize, state: usize) -> usize
-    requires { (row_words * piece + row_words ≤ length rows.now) × (state + 1 < word_bits) }
-    ensures { (result ≡ class_of rows.now piece state) × (result < class_limit) }
+pub fn class_of(row: PieceRow, state: usize) -> usize
+    requires { state + 1 < word_bits }
+    ensures { (result ≡ class_of row.entry.rows.now row.entry.piece state) × (result < class_limit) }
 {
-    byte_of(rows, piece, state) + BYTES * (byte_of(rows, piece, state + 1) / WORD_BITS)
+    row.byte(state) + BYTES * (row.byte(state + 1) / WORD_BITS)
 }
 
 // Whether the byte lies in the class of this number: by one bit of its record. A byte past the buffer's end counts as

@@ -6,6 +6,7 @@ ghost use Rattle.moving.specs.WordsMovedClosed.{WordAfter};
 ghost use Rattle.moving.specs.Remembered.{remembered_steps, Remembers};
 
 use crate::moves::moved_closed;
+use tables::rows::PieceRow;
 
 // How many steps are remembered.
 const REMEMBERED_STEPS: u64 = 64;
@@ -37,16 +38,17 @@ pub fn remembered_step(
     ensures word_after { WordAfter rows.now classes.now 0 word byte result }
     ensures remembers { Remembers rows.now classes.now memo.new }
 {
-    let marked = word & rows[2];
+    let row = PieceRow { rows, piece: 0 };
+    let marked = word & row.word(2);
     if marked >= KEY_LIMIT {
-        return moved_closed(rows, classes, 0, marked, byte);
+        return moved_closed(row, classes, marked, byte);
     }
     let key = marked * BYTE_COUNT + u64::from(byte);
     let slot = 2 * slot_of(key);
     if memo[slot] == key {
         return memo[slot + 1];
     }
-    let after = moved_closed(rows, classes, 0, marked, byte);
+    let after = moved_closed(row, classes, marked, byte);
     memo[slot] = key;
     memo[slot + 1] = after;
     after

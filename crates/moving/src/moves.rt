@@ -15,26 +15,25 @@ ghost use Rattle.moving.specs.Spans.{SpanLonger, SpansOf};
 use crate::classes::{class_of, in_class};
 use closing::bits::{SetBits, set_where};
 use closing::close::{close, none_marked};
-use tables::ROW_WORDS;
-use tables::rows::byte_of;
+use tables::rows::PieceRow;
 
 // A piece has at most 62 states, so no class starts at or above this bit, and there is a state after its start.
 const TOP_BIT: u64 = 9223372036854775808;
 
 // Whether a state's byte in the piece's row is this one.
-fn has_byte(rows: &[u64], piece: usize, state: usize, byte: u8) -> bool
-    requires { (row_words * piece + row_words ≤ length rows.now) × (state < word_bits) }
-    ensures { Tells (byte_of rows.now piece state ≡ byte) result }
+fn has_byte(row: PieceRow, state: usize, byte: u8) -> bool
+    requires { state < word_bits }
+    ensures { Tells (byte_of row.entry.rows.now row.entry.piece state ≡ byte) result }
 {
-    byte_of(rows, piece, state) == usize::from(byte)
+    row.byte(state) == usize::from(byte)
 }
 
 // Whether the byte lies in the class that starts at a state.
-fn has_class(rows: &[u64], classes: &[u8], piece: usize, state: usize, byte: u8) -> bool
-    requires { (row_words * piece + row_words ≤ length rows.now) × (state + 1 < word_bits) }
-    ensures { Tells (InClass classes.now (class_of rows.now piece state) byte) result }
+fn has_class(row: PieceRow, classes: &[u8], state: usize, byte: u8) -> bool
+    requires { state + 1 < word_bits }
+    ensures { Tells (InClass classes.now (class_of row.entry.rows.now row.entry.piece state) byte) result }
 {
-    in_class(classes, class_of(rows, piece, state), byte)
+    in_class(classes, class_of(row, state), byte)
 }
 
 // Of the given states those of which the test says so. The test's answer takes no branch: which leaf takes a byte cannot
@@ -52,42 +51,38 @@ fn picked<F: Fn(usize) -> bool>(states: u64, takes: F) -> u64
 
 // The word of a piece, moved along the byte: a leaf's start that takes it goes over to the next state. Only starts of
 // leaves are looked at.
-pub fn moved(rows: &[u64], classes: &[u8], piece: usize, word: u64, byte: u8) -> u64
-    requires { row_words * piece + row_words ≤ length rows.now }
+pub fn moved(row: PieceRow, classes: &[u8], word: u64, byte: u8) -> u64
     ensures { (x : Nested Leaf) → width x ≤ most_states
-        → Lays rows.now x piece → word < 2 ^ width x
+        → Lays row.entry.rows.now x row.entry.piece → word < 2 ^ width x
         → Moves classes.now x byte word result }
 {
-    let at = ROW_WORDS * piece;
-    let leaves = word & rows[at + 2];
-    let starts = rows[at + 3] & leaves;
-    let characters = picked(leaves ^ starts, |state| has_byte(rows, piece, state, byte));
+    let leaves = word & row.word(2);
+    let starts = row.word(3) & leaves;
+    let characters = picked(leaves ^ starts, |state| has_byte(row, state, byte));
     let taken = picked(
         starts % TOP_BIT,
-        |state| has_class(rows, classes, piece, state, byte),
+        |state| has_class(row, classes, state, byte),
     );
     (characters | taken) << 1
 }
 
 // The word of a piece after the byte: moved, and closed in the piece.
-pub fn moved_closed(rows: &[u64], classes: &[u8], piece: usize, word: u64, byte: u8) -> u64
-    requires { row_words * piece + row_words ≤ length rows.now }
-    ensures { WordAfter rows.now classes.now piece word byte result }
+pub fn moved_closed(row: PieceRow, classes: &[u8], word: u64, byte: u8) -> u64
+    ensures { WordAfter row.entry.rows.now classes.now row.entry.piece word byte result }
 {
-    let moved = moved(rows, classes, piece, word, byte);
-    close(rows, piece, moved)
+    let moved = moved(row, classes, word, byte);
+    close(row, moved)
 }
 
 // The same, where a word of no marks stays one, and its row is not looked at: most words have none, and that is told
 // before anything is called.
-fn word_after(rows: &[u64], classes: &[u8], piece: usize, word: u64, byte: u8) -> u64
-    requires { row_words * piece + row_words ≤ length rows.now }
-    ensures { WordAfter rows.now classes.now piece word byte result }
+fn word_after(row: PieceRow, classes: &[u8], word: u64, byte: u8) -> u64
+    ensures { WordAfter row.entry.rows.now classes.now row.entry.piece word byte result }
 {
     if word == 0 {
         return 0;
     }
-    moved_closed(rows, classes, piece, word, byte)
+    moved_closed(row, classes, word, byte)
 }
 
 // Where marks are: in no word before `from` and in none from `to` on, but in the one before `to`.
@@ -127,7 +122,8 @@ pub fn move_all(
 {
     let mut span = None;
     for piece in 0..pieces {
-        words[piece] = word_after(rows, classes, piece, words[piece], byte);
+        let row = PieceRow { rows, piece };
+        words[piece] = word_after(row, classes, words[piece], byte);
         span = widened(span, piece, words[piece]);
     }
     span

@@ -9,7 +9,7 @@ ghost use Rattle.closing.specs.BitsOfWords.Bits.{Tells};
 ghost use Rattle.stepping.specs.SharedStates.Parents.{Parent};
 ghost use Rattle.stepping.specs.SharedStates.WordsChecked.{PairAgrees, ChildAgrees, Checkable};
 
-use tables::rows::{run_of, stand_of, top_of};
+use tables::rows::PieceRow;
 
 // Whether bit i of one word is as bit j of another.
 fn same_bit(one: u64, i: usize, other: u64, j: usize) -> bool
@@ -33,7 +33,8 @@ fn parent(rows: &[u64], child: usize) -> usize
     ensures { Parent rows.now child result }
 {
     for at in (1..child).rev() {
-        if child < at + run_of(rows, at) {
+        let row = PieceRow { rows, piece: at };
+        if child < at + row.run() {
             return at;
         }
     }
@@ -55,9 +56,8 @@ fn child_agrees(rows: &[u64], words: &[u64], pieces: usize, child: usize) -> boo
     ensures { Tells (ChildAgrees rows.now words.now child) result }
 {
     let over = parent(rows, child);
-    let stand = stand_of(rows, child);
-    let top = top_of(rows, child);
-    pair_agrees(words[over], stand, words[child], top)
+    let row = PieceRow { rows, piece: child };
+    pair_agrees(words[over], row.stand(), words[child], row.top())
 }
 
 // Whether the words may be stepped: no bit past a last state is set, and the two bits of each shared state agree.
@@ -66,6 +66,7 @@ pub fn agreeing(rows: &[u64], words: &[u64], pieces: usize) -> bool
     ensures { (x : Nested Leaf) → Planned rows.now x → 1 + run x ≡ pieces
         → Tells (Clean x words.now × Agreeing x words.now) result }
 {
-    none_past(words[0], top_of(rows, 0))
+    let root = PieceRow { rows, piece: 0 };
+    none_past(words[0], root.top())
         && (1..pieces).all(|child| child_agrees(rows, words, pieces, child))
 }

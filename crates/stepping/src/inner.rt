@@ -17,7 +17,7 @@ use closing::bits::has_bit;
 use moving::moves::{WordSpan, move_all};
 use planning::plan::plan;
 use sweeping::sweep::close_twice;
-use tables::rows::top_of;
+use tables::rows::PieceRow;
 use tree::limits::MOST_PIECES;
 
 // Lists of so few pieces take few rows, of so many words.
@@ -68,7 +68,8 @@ pub fn begin_in(rows: &[u64], count: usize, words: &mut [u64]) -> bool
 {
     words[0] = 1;
     close_twice(rows, count, 0, 0, words);
-    has_bit(words[0], top_of(rows, 0))
+    let root = PieceRow { rows, piece: 0 };
+    has_bit(words[0], root.top())
 }
 
 // The same in lent words, of which one for each piece is written, whatever they hold.
@@ -113,8 +114,9 @@ pub fn advance(rows: &[u64], count: usize, classes: &[u8], words: &mut [u64], by
         };
     };
     let nothing = close_moved(rows, count, span, words);
+    let root = PieceRow { rows, piece: 0 };
     Told {
-        accepting: has_bit(words[0], top_of(rows, 0)),
+        accepting: has_bit(words[0], root.top()),
         nothing,
     }
 }

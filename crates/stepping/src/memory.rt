@@ -11,7 +11,7 @@ use crate::inner::{Told, advance};
 use closing::bits::has_bit;
 use closing::close::none_marked;
 use moving::memo::{MEMO_WORDS, remembered_step};
-use tables::rows::top_of;
+use tables::rows::PieceRow;
 
 // A step of a list of one piece: the move has closed the piece, so that nothing is left to do.
 fn advance_alone(
@@ -30,8 +30,9 @@ fn advance_alone(
 {
     let after = remembered_step(rows, classes, memo, words[0], byte);
     words[0] = after;
+    let root = PieceRow { rows, piece: 0 };
     Told {
-        accepting: has_bit(after, top_of(rows, 0)),
+        accepting: has_bit(after, root.top()),
         nothing: none_marked(after),
     }
 }

@@ -1,11 +1,10 @@
 // A sweep: the piece itself is closed, and its child pieces are gone through from left to right.
-ghost use Rattle.std.specs.Prelude.{◌≡◌, true, ℕ, ◌+◌, ◌*◌, ◌-◌, ◌≤◌, ◌<◌, length};
+ghost use Rattle.std.specs.Prelude.{◌≡◌, true, ◌≤◌, ◌<◌, length};
 ghost use Rattle.language.specs.Nested.{Nested};
 ghost use Rattle.language.specs.Settled.{Settled};
 ghost use Rattle.tree.specs.Limits.{most_pieces};
 ghost use Rattle.tree.specs.Leaf.{Leaf, byteless};
-ghost use Rattle.tables.specs.Plan.{row_words};
-ghost use Rattle.tables.specs.Words.{word_bits, Bit, Holds};
+ghost use Rattle.tables.specs.Words.{word_bits, Holds};
 ghost use Rattle.closing.specs.BitsOfWords.Bits.{Tells};
 ghost use Rattle.closing.specs.BitsOfWords.Zero.{AllZero};
 ghost use Rattle.sweeping.specs.Swept.{passed, SweepReady, Sweepable, Swept, AtRest, Missed, Apart};
@@ -15,7 +14,7 @@ ghost use Rattle.sweeping.specs.Twice.{Closable, ClosedTwice};
 use closing::bits::{has_bit, with_bit};
 use closing::close::{close, close_after, none_marked};
 use tables::ROW_WORDS;
-use tables::rows::{run_of, stand_of, top_of};
+use tables::rows::PieceRow;
 
 // The word with bit `to` set where bit `from` of the other is.
 fn pass(other: u64, from: usize, word: u64, to: usize) -> u64
@@ -26,12 +25,12 @@ fn pass(other: u64, from: usize, word: u64, to: usize) -> u64
 }
 
 // The word of a piece, closed: it was closed but for what one state reaches, so closing that state alone is enough.
-fn close_from(rows: &[u64], piece: usize, word: u64, state: usize) -> u64
-    requires { (row_words * piece + row_words ≤ length rows.now) × (state < word_bits) }
-    ensures { ClosesFrom rows.now piece word state result }
+fn close_from(row: PieceRow, word: u64, state: usize) -> u64
+    requires { state < word_bits }
+    ensures { ClosesFrom row.entry.rows.now row.entry.piece word state result }
 {
     if has_bit(word, state) {
-        word | close(rows, piece, with_bit(0, state))
+        word | close(row, with_bit(0, state))
     } else {
         word
     }
@@ -110,7 +109,8 @@ pub fn sweep(rows: &[u64], from: usize, to: usize, words: &mut [u64]) -> Reporte
         → result.settled ≡ true → Settled byteless x (Holds x words.new) }
     ensures tells { Tells (AllZero (length words.old) words.new) result.zero }
 {
-    let first = close_from(rows, 0, words[0], 0);
+    let own_row = PieceRow { rows, piece: 0 };
+    let first = close_from(own_row, words[0], 0);
     words[0] = first;
     let mut settled = true;
     let mut zero = none_marked(first);
@@ -121,8 +121,9 @@ pub fn sweep(rows: &[u64], from: usize, to: usize, words: &mut [u64]) -> Reporte
         if idle(words[0], at, to) {
             return Reported { settled, zero };
         }
-        let stand = stand_of(rows, at);
-        let next = at + run_of(rows, at);
+        let child = PieceRow { rows, piece: at };
+        let stand = child.stand();
+        let next = at + child.run();
         waiting = missed(words[0], stand, waiting);
         if !at_rest(words[0], stand, words[at], at, next, from, to) {
             words[at] = pass(words[0], stand, words[at], 0);
@@ -133,8 +134,8 @@ pub fn sweep(rows: &[u64], from: usize, to: usize, words: &mut [u64]) -> Reporte
                 to.saturating_sub(at),
                 &mut words[at..next],
             );
-            let raised = pass(words[at], top_of(rows, at), words[0], stand + 1);
-            let own = close_after(rows, 0, raised, words[0]);
+            let raised = pass(words[at], child.top(), words[0], stand + 1);
+            let own = close_after(own_row, raised, words[0]);
             words[0] = own;
             settled &= below.settled;
             zero = zero & below.zero & none_marked(own);

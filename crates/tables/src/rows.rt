@@ -17,43 +17,57 @@ pub const NUMBERS: usize = 4;
 // The first of the words that have the bytes of the states.
 pub const STATES: usize = 5;
 
-// A byte of a word of a piece's row.
-fn row_byte(rows: &[u64], piece: usize, word: usize, byte: usize) -> usize
-    requires row_words_in_bounds { (row_words * piece + row_words ≤ length rows.now) × (word < row_words) }
-    requires byte_bound { byte < 8 }
-    ensures { result ≡ word_of rows.now piece word / 2 ^ (8 * byte) % 256 }
-{
-    ((rows[ROW_WORDS * piece + word] >> (BYTE_BITS * byte)) % BYTES) as usize
+// The row of a piece, among those of a list.
+#[derive(Clone, Copy)]
+pub struct PieceRow<'a> {
+    pub rows: &'a [u64],
+    pub piece: usize,
+    pub ghost inside: { row_words * piece + row_words ≤ length rows.now },
 }
 
-// How many pieces it and those below it are.
-pub fn run_of(rows: &[u64], piece: usize) -> usize
-    requires { row_words * piece + row_words ≤ length rows.now }
-    ensures { result ≡ run_of rows.now piece }
-{
-    row_byte(rows, piece, NUMBERS, 0)
-}
+impl<'a> PieceRow<'a> {
+    // A word of it, by its number in the row.
+    pub fn word(self, number: usize) -> u64
+        requires { number < row_words }
+        ensures { result ≡ word_of self.entry.rows.now self.entry.piece number }
+    {
+        self.rows[ROW_WORDS * self.piece + number]
+    }
 
-// The number of its stand-in's start in its parent.
-pub fn stand_of(rows: &[u64], piece: usize) -> usize
-    requires { row_words * piece + row_words ≤ length rows.now }
-    ensures { result ≡ stand_of rows.now piece }
-{
-    row_byte(rows, piece, NUMBERS, 1)
-}
+    // A byte of a word of it.
+    fn byte_of_word(self, number: usize, byte: usize) -> usize
+        requires { (number < row_words) × (byte < 8) }
+        ensures { result ≡ word_of self.entry.rows.now self.entry.piece number / 2 ^ (8 * byte) % 256 }
+    {
+        ((self.word(number) >> (BYTE_BITS * byte)) % BYTES) as usize
+    }
 
-// The number of its last state.
-pub fn top_of(rows: &[u64], piece: usize) -> usize
-    requires { row_words * piece + row_words ≤ length rows.now }
-    ensures { result ≡ top_of rows.now piece }
-{
-    row_byte(rows, piece, NUMBERS, 2)
-}
+    // How many pieces the piece and those below it are.
+    pub fn run(self) -> usize
+        ensures { result ≡ run_of self.entry.rows.now self.entry.piece }
+    {
+        self.byte_of_word(NUMBERS, 0)
+    }
 
-// The byte of a state.
-pub fn byte_of(rows: &[u64], piece: usize, state: usize) -> usize
-    requires { (row_words * piece + row_words ≤ length rows.now) × (state < word_bits) }
-    ensures { result ≡ byte_of rows.now piece state }
-{
-    row_byte(rows, piece, STATES + state / WORD_BYTES, state % WORD_BYTES)
+    // The number of its stand-in's start in its parent.
+    pub fn stand(self) -> usize
+        ensures { result ≡ stand_of self.entry.rows.now self.entry.piece }
+    {
+        self.byte_of_word(NUMBERS, 1)
+    }
+
+    // The number of its last state.
+    pub fn top(self) -> usize
+        ensures { result ≡ top_of self.entry.rows.now self.entry.piece }
+    {
+        self.byte_of_word(NUMBERS, 2)
+    }
+
+    // The byte of a state.
+    pub fn byte(self, state: usize) -> usize
+        requires { state < word_bits }
+        ensures { result ≡ byte_of self.entry.rows.now self.entry.piece state }
+    {
+        self.byte_of_word(STATES + state / WORD_BYTES, state % WORD_BYTES)
+    }
 }

@@ -16,7 +16,7 @@ use columns::BYTE_COUNT;
 use columns::columns::columns_of;
 use exploring::explore::explore;
 use running::HEADING;
-use tables::rows::top_of;
+use tables::rows::PieceRow;
 use writing::{Places, write_table};
 
 // How many entries a table has at most, so that an entry of 16 bits can say where a column begins.
@@ -68,11 +68,11 @@ fn fill(
     let states = 1 + texts;
     let entries = HEADING + (width + 1) * states;
     let found_at = most + count * most;
-    let top = top_of(rows, 0);
+    let root = PieceRow { rows, piece: 0 };
     let places = Places {
         marks: most,
         pieces: count,
-        top,
+        top: root.top(),
         entries: found_at,
         columns: width,
         texts,

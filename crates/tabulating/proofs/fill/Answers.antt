@@ -47,21 +47,21 @@ pub returns-in_err-texts : goal.returns-in_err-texts
 returns-in_err-texts c = λ t prepared.
     rw (c.from_residual.ensures) (none_written (never_all (c.in_err-texts.ensures t prepared)) refl)
 
-pub top_of-top-requires : goal.top_of-top-requires
-top_of-top-requires c =
+pub invariant_of-root : goal.invariant_of-root
+invariant_of-root c =
     let ready = c.requires.ready in
-    omega (arith, ready.roomy, some_piece ready.of_tree.1)
+    record { inside = omega (arith, ready.roomy, some_piece ready.of_tree.1) }
 
 pub write_table-requires : goal.write_table-requires
 write_table-requires c =
     let tree = c.requires.ready.of_tree in
     let told = (goal.at.write_table-requires c).In_ok-texts in
-    found_writable tree.1 c.top_of-top.ensures (c.requires.columned tree.0 tree.1) (width_is told)
+    found_writable tree.1 c.top.ensures (c.requires.columned tree.0 tree.1) (width_is told)
     (found_at told tree.0 tree.1) c.args.table.now (fits_in c.explore.auto.room (fits_at told))
 
 pub returns : goal.returns
 returns c =
     λ t prepared.
     let told = (goal.at.returns c).In_ok-texts in
-    found_written prepared c.top_of-top.ensures (c.requires.columned t prepared) (width_is told)
+    found_written prepared c.top.ensures (c.requires.columned t prepared) (width_is told)
     (found_at told t prepared) c.write_table.ensures

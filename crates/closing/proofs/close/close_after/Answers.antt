@@ -1,5 +1,6 @@
 -- `closing::close::close_after` meets its contract.
-use Rattle.std.proofs.Common.{refl}
+use Rattle.std.proofs.Common.{ℕ, ◌*◌, ◌%◌, ◌^◌, ◌∙◌, ap, get_or, add-zero}
+use Rattle.tables.specs.Plan.{row_words}
 use Rattle.closing.specs.Passes.Closing.{passing_none, passing_more, fewer_left, closed_by_passes}
 use Rattle.closing.proofs.close.close_after.Goals as goal
 
@@ -14,4 +15,8 @@ loop-closed-preserved c =
     passing_more c.loop-closed.invariant c.targets.ensures c.run_on-closed-in-loop-closed.ensures
 
 pub returns : goal.returns
-returns c = closed_by_passes _ _ _ _ _ _ _ _ refl refl c.loop-closed.invariant c.loop-closed-test.false
+returns c =
+    let row = c.args.row in
+    let on_read = c.word-on.ensures ∙ ap (λ (n : ℕ). get_or row.rows.now n 0) (add-zero (row_words * row.piece)) in
+    closed_by_passes _ _ _ _ _ _ _ _ (ap (λ (n : ℕ). n % 2 ^ 63) on_read) c.word-jumps.ensures
+    c.loop-closed.invariant c.loop-closed-test.false

@@ -4,7 +4,7 @@ use Rattle.closing.specs.Passes.Closing.{PassedSoFar}
 use Rattle.closing.proofs.close.close_after.Given as goal
 
 abbrev pub invariant-loop-closed : goal.invariant-loop-closed
-invariant-loop-closed l = PassedSoFar l.on l.jumps l.rows l.piece l.word l.done l.left l.closed
+invariant-loop-closed l = PassedSoFar l.on l.jumps l.row.rows.now l.row.piece l.word l.done l.left l.closed
 
 abbrev pub decreases-loop-closed : goal.decreases-loop-closed
 decreases-loop-closed l = l.left

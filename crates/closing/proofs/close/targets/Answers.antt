@@ -7,4 +7,4 @@ use Rattle.closing.proofs.close.targets.Goals as goal
 pub loop-state-preserved : goal.loop-state-preserved
 loop-state-preserved c =
     jumped_more c.loop-state.invariant c.in-Some.ensures.steps.0
-    (ap (λ (n : ℕ). n % word_bits) c.byte_of-target.ensures) c.with_bit-reached.ensures c.in-Some.ensures.steps.2
+    (ap (λ (n : ℕ). n % word_bits) c.byte-target.ensures) c.with_bit-reached.ensures c.in-Some.ensures.steps.2

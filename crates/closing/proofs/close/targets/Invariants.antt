@@ -3,4 +3,4 @@ use Rattle.closing.specs.Passes.Jumping.{Jumped}
 use Rattle.closing.proofs.close.targets.Given as goal
 
 abbrev pub invariant-loop-state : goal.invariant-loop-state
-invariant-loop-state l = Jumped l.rows l.piece l.from l.state-iterator.0 l.reached
+invariant-loop-state l = Jumped l.row.rows.now l.row.piece l.from l.state-iterator.0 l.reached

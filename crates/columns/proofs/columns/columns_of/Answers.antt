@@ -14,7 +14,7 @@ loop-entry-init c =
 pub loop-entry-preserved : goal.loop-entry-preserved
 loop-entry-preserved c =
     let so_far = c.loop-entry.invariant in
-    let told = c.has_bit.ensures in (
+    let told = rw c.word.ensures at c.has_bit.ensures in (
       omega (arith, c.loop-entry-test.true),
       elim c.if-has_bit.branch [
         | then-has_bit w ↦

@@ -32,14 +32,14 @@ bounds-words-0 c =
     let running = c.requires in
     omega (arith, all_words running.ready.of_tree.0, running.ready.of_tree.1.counted, running.enough)
 
-pub top_of-requires : goal.top_of-requires
-top_of-requires c = first_row c.requires.ready
+pub invariant_of-root : goal.invariant_of-root
+invariant_of-root c = record { inside = first_row c.requires.ready }
 
 pub has_bit-requires : goal.has_bit-requires
-has_bit-requires c = omega (arith, c.top_of.ensures, top_low c.requires.ready.of_tree.1)
+has_bit-requires c = omega (arith, c.top.ensures, top_low c.requires.ready.of_tree.1)
 
 pub returns : goal.returns
 returns c = λ t prepared marks.
-    told_by prepared marks _ c.top_of.ensures c.has_bit.ensures (told_zeros c.args.count c.args.words.now c.all.result c.requires.enough
+    told_by prepared marks _ c.top.ensures c.has_bit.ensures (told_zeros c.args.count c.args.words.now c.all.result c.requires.enough
     (cases_from_all _ _ _ (λ x. x ≡ 0) (λ x. x ≡ 0 → ⊥) c.all.ensures.ran (YieldsList-from_slice (take c.args.count c.args.words.now) c.iter.ensures.rest)
     (λ x q k. search rules) (λ x q k. search rules)))

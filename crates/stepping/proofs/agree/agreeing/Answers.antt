@@ -29,7 +29,7 @@ told_from_one {P} n false (k, low, not) = record {
 pub returns-then-none_past : goal.returns-then-none_past
 returns-then-none_past c =
     let words = c.args.words.now in
-    let top_small = subst (λ (n : ℕ). get_or words 0 0 < 2 ^ (n + 1)) c.top_of.ensures (c.none_past.ensures.holds c.if-none_past.true) in
+    let top_small = subst (λ (n : ℕ). get_or words 0 0 < 2 ^ (n + 1)) c.top.ensures (c.none_past.ensures.holds c.if-none_past.true) in
     let told = told_from_one c.args.pieces c.all.result
     (cases_from_all _ _ _ (λ x. ChildAgrees c.args.rows.now words x) (λ x. ChildAgrees c.args.rows.now words x → ⊥)
     c.all.ensures.ran (YieldsList-from_range 1 c.args.pieces (c.args.pieces - 1) refl refl)

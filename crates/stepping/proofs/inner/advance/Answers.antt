@@ -14,15 +14,14 @@ close_moved-nothing-requires c = record {
   spans = c.in-Some.ensures.spans;
 }
 
-pub top_of-requires : goal.top_of-requires
-top_of-requires c =
-    first_row c.requires.ready
+pub invariant_of-root : goal.invariant_of-root
+invariant_of-root c = record { inside = first_row c.requires.ready }
 
 pub has_bit-requires : goal.has_bit-requires
 has_bit-requires c =
     omega (
       arith,
-      c.top_of.ensures,
+      c.top.ensures,
       top_low c.requires.ready.of_tree.1,
     )
 
@@ -30,5 +29,5 @@ pub returns : goal.returns
 returns c =
     λ t prepared marks.
     advanced prepared _ _ _ _ _ _ marks c.move_all.ensures.moved_closed c.close_moved-nothing.ensures.closed_moved
-    c.close_moved-nothing.auto.words _ c.top_of.ensures c.has_bit.ensures
+    c.close_moved-nothing.auto.words _ c.top.ensures c.has_bit.ensures
     c.close_moved-nothing.ensures.tells

@@ -20,17 +20,16 @@ pub bounds-words-0-2 : goal.bounds-words-0-2
 bounds-words-0-2 c =
     search (rules, c.close_twice.auto.words, ap length c.requires.words_value)
 
-pub top_of-requires : goal.top_of-requires
-top_of-requires c =
-    first_row c.requires.ready
+pub invariant_of-root : goal.invariant_of-root
+invariant_of-root c = record { inside = first_row c.requires.ready }
 
 pub has_bit-requires : goal.has_bit-requires
 has_bit-requires c =
-    omega (arith, c.top_of.ensures, top_low c.requires.ready.of_tree.1)
+    omega (arith, c.top.ensures, top_low c.requires.ready.of_tree.1)
 
 pub returns : goal.returns
 returns c =
     λ classes t prepared.
     begun prepared classes _ _ _ c.requires.words_value c.close_twice.ensures.closed_twice
     (c.close_twice.auto.words ∙ length-set c.args.words.now 0 1) _
-    c.top_of.ensures c.has_bit.ensures
+    c.top.ensures c.has_bit.ensures

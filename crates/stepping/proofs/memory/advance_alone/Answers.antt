@@ -16,19 +16,18 @@ pub bounds-words-0-2 : goal.bounds-words-0-2
 bounds-words-0-2 c =
     omega (arith, c.requires.running.enough)
 
-pub top_of-requires : goal.top_of-requires
-top_of-requires c =
-    first_row c.requires.running.ready
+pub invariant_of-root : goal.invariant_of-root
+invariant_of-root c = record { inside = first_row c.requires.running.ready }
 
 pub has_bit-requires : goal.has_bit-requires
 has_bit-requires c =
-    omega (arith, c.top_of.ensures, top_low c.requires.running.ready.of_tree.1)
+    omega (arith, c.top.ensures, top_low c.requires.running.ready.of_tree.1)
 
 pub returns : goal.returns
 returns c =
     record {
       advanced = λ t prepared marks. advanced_alone prepared (omega (arith, c.requires.running.enough)) marks
-          c.remembered_step-after.ensures.word_after _ c.top_of.ensures c.has_bit.ensures
+          c.remembered_step-after.ensures.word_after _ c.top.ensures c.has_bit.ensures
           c.none_marked.ensures;
       remembers_2 = c.remembered_step-after.ensures.remembers;
     }

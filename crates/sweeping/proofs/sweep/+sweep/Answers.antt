@@ -34,7 +34,7 @@ use Rattle.sweeping.specs.Sweeping.{
   zeros_on,
 }
 use Rattle.sweeping.proofs.sweep.+sweep.Goals as goal
-use Rattle.sweeping.proofs.sweep.+sweep.Goals.{In-loop-at, After-run_of}
+use Rattle.sweeping.proofs.sweep.+sweep.Goals.{In-loop-at, After-run}
 
 -- the words as a sweep begins with them are those of the run's pieces
 begun_here : (t : ℕ) (c : In-loop-at t)
@@ -68,12 +68,12 @@ quiet_here t c =
     (room_here t c).own_before
 
 -- what was read of it fits the words
-read_here : (t : ℕ) (c : After-run_of t)
-    → ChildRead c.loop-at.at c.loop-at.words c.stand_of-stand.result c.run_of.result
+read_here : (t : ℕ) (c : After-run t)
+    → ChildRead c.loop-at.at c.loop-at.words c.stand-stand.result c.run.result
 read_here t c =
     read_for _ _ _ _ _ _ c.loop-at.invariant.0 c.loop-at-test.true _
     (begun_sweepable _ _ _ c.close_from-first.ensures _ c.requires.sweepable)
-    (own_begun _ _ _ c.close_from-first.ensures _ c.requires.sweepable) _ _ c.stand_of-stand.ensures c.run_of.ensures
+    (own_begun _ _ _ c.close_from-first.ensures _ c.requires.sweepable) _ _ c.stand-stand.ensures c.run.ensures
 
 pub loop-at-init : goal.loop-at-init
 loop-at-init t c =
@@ -103,14 +103,14 @@ returns-then-idle-clause-tells t c =
 pub missed-waiting-requires : goal.missed-waiting-requires
 missed-waiting-requires t c = omega (
   arith,
-  (read_here t (goal.at.missed-waiting-requires t c).After-run_of).stand_small,
+  (read_here t (goal.at.missed-waiting-requires t c).After-run).stand_small,
 )
 
 pub at_rest-requires : goal.at_rest-requires
 at_rest-requires t c = (
   omega (
     arith,
-    (read_here t (goal.at.at_rest-requires t c).After-run_of).stand_small,
+    (read_here t (goal.at.at_rest-requires t c).After-run).stand_small,
   ),
   omega (
     arith,
@@ -123,7 +123,7 @@ pub pass-requires : goal.pass-requires
 pass-requires t c = (
   omega (
     arith,
-    (read_here t (goal.at.pass-requires t c).After-run_of).stand_small,
+    (read_here t (goal.at.pass-requires t c).After-run).stand_small,
   ),
   omega arith,
 )
@@ -131,7 +131,7 @@ pass-requires t c = (
 pub slice_bounds-sweep-end-then-not-at_rest : goal.slice_bounds-sweep-end-then-not-at_rest
 slice_bounds-sweep-end-then-not-at_rest t c = search (
   rules,
-  read_here t (goal.at.slice_bounds-sweep-end-then-not-at_rest t c).After-run_of,
+  read_here t (goal.at.slice_bounds-sweep-end-then-not-at_rest t c).After-run,
 )
 
 pub sweep-below-requires : goal.sweep-below-requires
@@ -140,11 +140,11 @@ sweep-below-requires t c =
       omega (
         arith,
         c.decreases,
-        lent_shorter _ _ _ _ _ c.stand_of-stand.ensures c.run_of.ensures _ _ can _ c.pass.ensures,
+        lent_shorter _ _ _ _ _ c.stand-stand.ensures c.run.ensures _ _ can _ c.pass.ensures,
         c.loop-at.invariant.0.same_length,
         length-set c.args.words.now 0 c.close_from-first.result,
       ),
-      lent_ready _ _ _ _ _ c.stand_of-stand.ensures c.run_of.ensures _ _ can _ c.pass.ensures c.args.from c.args.to _ _
+      lent_ready _ _ _ _ _ c.stand-stand.ensures c.run.ensures _ _ can _ c.pass.ensures c.args.from c.args.to _ _
           c.saturating_sub.ensures c.saturating_sub-then-not-at_rest.ensures (sized_same _ c.args.words.now _ (c.loop-at.invariant.0.same_length ∙ length-set c.args.words.now 0 c.close_from-first.result) c.requires.sized) (quiet_here t (goal.at.sweep-below-requires t c).In-loop-at),
     )
 
@@ -153,67 +153,67 @@ pass-raised-requires t c = (
   omega (
     arith,
     (room_here t (goal.at.pass-raised-requires t c).In-loop-at).top_small,
-    c.top_of.ensures,
+    c.top.ensures,
   ),
   omega (
     arith,
-    (read_here t (goal.at.pass-raised-requires t c).After-run_of).stand_small,
+    (read_here t (goal.at.pass-raised-requires t c).After-run).stand_small,
   ),
 )
 
 pub loop-at-smaller-then-not-at_rest : goal.loop-at-smaller-then-not-at_rest
 loop-at-smaller-then-not-at_rest t c =
     let here = waits_here t (goal.at.loop-at-smaller-then-not-at_rest t c).In-loop-at in
-    let lent = lent_sweepable _ _ _ _ _ c.stand_of-stand.ensures c.run_of.ensures _ _ here.visitable _ c.pass.ensures in
-    let seen = visited _ _ _ _ _ c.stand_of-stand.ensures c.run_of.ensures _ _ here.visitable _ c.pass.ensures _ c.sweep-below.auto.words
-    (c.sweep-below.ensures.swept here.child.tree lent) _ _ _ c.top_of.ensures c.pass-raised.ensures
+    let lent = lent_sweepable _ _ _ _ _ c.stand-stand.ensures c.run.ensures _ _ here.visitable _ c.pass.ensures in
+    let seen = visited _ _ _ _ _ c.stand-stand.ensures c.run.ensures _ _ here.visitable _ c.pass.ensures _ c.sweep-below.auto.words
+    (c.sweep-below.ensures.swept here.child.tree lent) _ _ _ c.top.ensures c.pass-raised.ensures
     c.close_after-own.ensures in
     omega (
       arith,
-      read_here t (goal.at.loop-at-smaller-then-not-at_rest t c).After-run_of,
+      read_here t (goal.at.loop-at-smaller-then-not-at_rest t c).After-run,
       seen.same_length,
     )
 
 pub loop-at-preserved-then-not-at_rest : goal.loop-at-preserved-then-not-at_rest
 loop-at-preserved-then-not-at_rest t c =
     let both = and-eq-true_iff c.loop-at.settled c.sweep-below.result.settled in (
-      sweeping_on _ _ _ _ _ _ c.loop-at.invariant.0 c.loop-at-test.true _ _ c.stand_of-stand.ensures c.run_of.ensures _ _ _ _
+      sweeping_on _ _ _ _ _ _ c.loop-at.invariant.0 c.loop-at-test.true _ _ c.stand-stand.ensures c.run.ensures _ _ _ _
           (begun_here t (goal.at.loop-at-preserved-then-not-at_rest t c).In-loop-at) (own_here t (goal.at.loop-at-preserved-then-not-at_rest t c).In-loop-at) c.missed-waiting.ensures
           (λ e. (both.0 e).0)
           (λ x child can.
-          let lent = lent_sweepable _ _ _ _ _ c.stand_of-stand.ensures c.run_of.ensures x child can _ c.pass.ensures in
+          let lent = lent_sweepable _ _ _ _ _ c.stand-stand.ensures c.run.ensures x child can _ c.pass.ensures in
           let swept = c.sweep-below.ensures.swept child.tree lent in
           record {
-            visited = visited _ _ _ _ _ c.stand_of-stand.ensures c.run_of.ensures x child can _ c.pass.ensures _ c.sweep-below.auto.words swept _ _ _
-                c.top_of.ensures c.pass-raised.ensures c.close_after-own.ensures;
+            visited = visited _ _ _ _ _ c.stand-stand.ensures c.run.ensures x child can _ c.pass.ensures _ c.sweep-below.auto.words swept _ _ _
+                c.top.ensures c.pass-raised.ensures c.close_after-own.ensures;
             rests = λ e. subst (λ (l : List ℕ). Settled byteless child.tree (Holds child.tree l))
-                (sym (after_part _ _ _ _ _ c.stand_of-stand.ensures c.run_of.ensures x child can _ c.pass.ensures _ c.sweep-below.auto.words swept
-                _ _ _ c.top_of.ensures c.pass-raised.ensures c.close_after-own.ensures))
+                (sym (after_part _ _ _ _ _ c.stand-stand.ensures c.run.ensures x child can _ c.pass.ensures _ c.sweep-below.auto.words swept
+                _ _ _ c.top.ensures c.pass-raised.ensures c.close_after-own.ensures))
                 (c.sweep-below.ensures.settled child.tree lent (both.0 e).1);
           }),
       let here = waits_here t (goal.at.loop-at-preserved-then-not-at_rest t c).In-loop-at in
-          zeros_on _ _ _ _ _ c.stand_of-stand.ensures c.run_of.ensures _ _ here.visitable _ c.pass.ensures _ c.sweep-below.auto.words
+          zeros_on _ _ _ _ _ c.stand-stand.ensures c.run.ensures _ _ here.visitable _ c.pass.ensures _ c.sweep-below.auto.words
           (c.sweep-below.ensures.swept here.child.tree
-          (lent_sweepable _ _ _ _ _ c.stand_of-stand.ensures c.run_of.ensures _ _ here.visitable _ c.pass.ensures)) _ _ _
-          c.top_of.ensures c.pass-raised.ensures c.close_after-own.ensures
+          (lent_sweepable _ _ _ _ _ c.stand-stand.ensures c.run.ensures _ _ here.visitable _ c.pass.ensures)) _ _ _
+          c.top.ensures c.pass-raised.ensures c.close_after-own.ensures
           c.loop-at.invariant.1 c.sweep-below.ensures.tells c.none_marked.ensures,
     )
 
 pub loop-at-smaller : goal.loop-at-smaller
 loop-at-smaller t c = omega (
   arith,
-  read_here t (goal.at.loop-at-smaller t c).After-run_of,
+  read_here t (goal.at.loop-at-smaller t c).After-run,
 )
 
 pub loop-at-preserved : goal.loop-at-preserved
 loop-at-preserved t c =
     let rest = c.at_rest.ensures c.if-not-at_rest.false in
     let here = waits_here t (goal.at.loop-at-preserved t c).In-loop-at in (
-      sweeping_on _ _ _ _ _ _ c.loop-at.invariant.0 c.loop-at-test.true _ _ c.stand_of-stand.ensures c.run_of.ensures _ _ _ _
+      sweeping_on _ _ _ _ _ _ c.loop-at.invariant.0 c.loop-at-test.true _ _ c.stand-stand.ensures c.run.ensures _ _ _ _
           (begun_here t (goal.at.loop-at-preserved t c).In-loop-at) (own_here t (goal.at.loop-at-preserved t c).In-loop-at) c.missed-waiting.ensures
           (λ e. e)
-          (passed_over _ _ _ _ _ _ c.loop-at.invariant.0 c.loop-at-test.true _ _ c.stand_of-stand.ensures c.run_of.ensures _ _ rest (quiet_here t (goal.at.loop-at-preserved t c).In-loop-at)),
-      zeros_passed _ _ _ _ _ _ c.loop-at.invariant.0 c.loop-at-test.true _ _ c.stand_of-stand.ensures c.run_of.ensures _ _ rest (quiet_here t (goal.at.loop-at-preserved t c).In-loop-at) _ _
+          (passed_over _ _ _ _ _ _ c.loop-at.invariant.0 c.loop-at-test.true _ _ c.stand-stand.ensures c.run.ensures _ _ rest (quiet_here t (goal.at.loop-at-preserved t c).In-loop-at)),
+      zeros_passed _ _ _ _ _ _ c.loop-at.invariant.0 c.loop-at-test.true _ _ c.stand-stand.ensures c.run.ensures _ _ rest (quiet_here t (goal.at.loop-at-preserved t c).In-loop-at) _ _
           here.visitable c.loop-at.invariant.1,
     )
 
