@@ -1,5 +1,5 @@
 -- Where an entry leads: the marks of a state, copied out and moved, are sought among those of the states.
-use Rattle.std.specs.Prelude.{ℕ, ◌+◌, ◌-◌, ◌*◌, ◌≤◌, ◌<◌, ◌≡◌, ◌↔◌, List, ◌∷◌, [], ◌++◌, get_or, length, take}
+use Rattle.std.specs.Prelude.{ℕ, ◌+◌, ◌-◌, ◌*◌, ◌≤◌, ◌<◌, ◌≡◌, ◌↔◌, List, ◌∷◌, [], ◌++◌, get_or, drop, length, take}
 use Rattle.std.proofs.Common.{sym, subst, arith}
 use Rattle.std.proofs.Math.Logic.Iff
 use Rattle.language.specs.Nested.{origin}
@@ -21,7 +21,7 @@ use Rattle.machines.specs.Explored.{MarksAfter, NothingAfter}
 use Rattle.exploring.specs.Keys.{SameUnder}
 use Rattle.exploring.specs.MaskedWords.{held_bit}
 use Rattle.exploring.specs.Room.{marks_of, Sought}
-use Rattle.exploring.specs.RoomLaws.{marks_copied}
+use Rattle.exploring.specs.RoomLaws.{marks_copied, marks_part_copied}
 use Rattle.exploring.specs.FindingStates.{Leading}
 
 -- where no state is marked, the words are 0
@@ -96,3 +96,19 @@ module _ {t : Tree Leaf} {rows : List ℕ} {count : ℕ}
       → Holding classes t w words
   copied_holding {classes} {w} holding = (holding_front prepared words).0
       (subst (Holding classes t w) (sym (marks_copied rest count most room i few fits put)) holding)
+
+-- so have words into which the part of the room that the marks lie in was copied:
+-- they have no bit past a last state, and hold what the marks hold
+module _ {t : Tree Leaf} {rows : List ℕ} {count : ℕ}
+    (prepared : Prepared t rows count) {words : List ℕ} (rest : List ℕ) (most : ℕ)
+    (room : List ℕ) (i : ℕ) (few : i < most) (fits : most + count * most ≤ length room)
+    (put : words ≡ take count (take (most + count * i + count - (most + count * i)) (drop (most + count * i) room))
+    ++ rest) where
+  pub part_copied_clean : Clean (cut_up t) (marks_of count most room i) → Clean (cut_up t) words
+  part_copied_clean clean = (front_clean (cut_up t) count words (prepared_count prepared)).0
+      (subst (Clean (cut_up t)) (sym (marks_part_copied rest count most room i few fits put)) clean)
+
+  pub part_copied_holding : {classes w : List ℕ} → Holding classes t w (marks_of count most room i)
+      → Holding classes t w words
+  part_copied_holding {classes} {w} holding = (holding_front prepared words).0
+      (subst (Holding classes t w) (sym (marks_part_copied rest count most room i few fits put)) holding)

@@ -43,6 +43,15 @@ marks_copied {words} rest count most room i few fits put =
     put ∙ ap (λ (l : List ℕ). l ++ rest) (take_all count (marks_of count most room i) (omega arith)) in
     ap (take count) out ∙ take_at (marks_of count most room i) rest count whole
 
+-- where that part is copied out, the first words are the marks
+pub marks_part_copied : {words : List ℕ} (rest : List ℕ) (count most : ℕ) (room : List ℕ) (i : ℕ) → i < most
+    → most + count * most ≤ length room
+    → words ≡ take count (take (most + count * i + count - (most + count * i)) (drop (most + count * i) room)) ++ rest
+    → take count words ≡ marks_of count most room i
+marks_part_copied {words} rest count most room i few fits put =
+    marks_copied rest count most room i few fits
+    (put ∙ ap (λ (l : List ℕ). take count l ++ rest) (marks_part count most room i))
+
 -- the parts of a list with words pasted into it
 module _ (room words : List ℕ) (at count : ℕ) (enough : count ≤ length words) (fits : at + count ≤ length room) where
   -- what a copy into that part gives back

@@ -52,7 +52,7 @@ returns-in-Err c =
     let told = refusal (goal.at.returns-in-Err c).In-Err in
     let long = lent_long (length c.args.out.now) c.args.rule.now (refusal_number c.in-Err.refused.refusal)
     c.in-Err.refused.place c.requires in
-    rw (told ∙ sym long) c.refusal.ensures
+    rw (told ∙ sym long) (rw c.number.ensures at c.refusal.ensures)
 
 pub returns-in-Ok : goal.returns-in-Ok
 returns-in-Ok c =

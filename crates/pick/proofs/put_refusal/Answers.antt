@@ -12,4 +12,4 @@ pub returns-in-Err : goal.returns-in-Err
 returns-in-Err c =
     let bytes = c.args.expression.now in
     says (said_refused bytes _ _ c.in-Err.ensures ∙ sym (lent_whole (length c.args.out.now) bytes _ _ c.requires.room))
-    c.refusal.ensures
+    (rw c.number.ensures at c.refusal.ensures)
