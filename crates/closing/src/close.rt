@@ -41,10 +41,18 @@ fn targets(row: PieceRow, from: u64) -> u64
     reached
 }
 
+// A closed word of a piece, and whether it is zero.
+#[derive(Clone, Copy, Debug, PartialEq, Eq)]
+pub struct ClosedWord {
+    pub word: u64,
+    pub zero: bool,
+}
+
 // The word of a piece, closed, where the part `done` of it was closed before: of what that part reaches nothing is
-// looked at again. Each jump is taken at most once.
-pub fn close_after(row: PieceRow, word: u64, done: u64) -> u64
-    ensures { ClosesAfter row.entry.rows.now row.entry.piece word done result }
+// looked at again. Each jump is taken at most once. Says also whether nothing is marked in the closed word.
+pub fn close_after(row: PieceRow, word: u64, done: u64) -> ClosedWord
+    ensures closes_after { ClosesAfter row.entry.rows.now row.entry.piece word done result.word }
+    ensures tells { Tells (result.word ≡ 0) result.zero }
 {
     let on = row.word(0) % TOP_BIT;
     let jumps = row.word(1);
@@ -56,13 +64,17 @@ pub fn close_after(row: PieceRow, word: u64, done: u64) -> u64
         left ^= taken;
         closed = run_on(closed | targets(row, taken), on);
     }
-    closed
+    ClosedWord {
+        word: closed,
+        zero: closed == 0,
+    }
 }
 
-// The word of a piece, closed.
-pub fn close(row: PieceRow, word: u64) -> u64
-    ensures { (x : Nested Leaf) → width x ≤ most_states → Lays row.entry.rows.now x row.entry.piece
-        → word < 2 ^ width x → Closes x word result }
+// The word of a piece, closed, and whether nothing is marked in it.
+pub fn close(row: PieceRow, word: u64) -> ClosedWord
+    ensures closes { (x : Nested Leaf) → width x ≤ most_states → Lays row.entry.rows.now x row.entry.piece
+        → word < 2 ^ width x → Closes x word result.word }
+    ensures tells { Tells (result.word ≡ 0) result.zero }
 {
     close_after(row, word, 0)
 }

@@ -41,14 +41,14 @@ pub fn remembered_step(
     let row = PieceRow { rows, piece: 0 };
     let marked = word & row.word(2);
     if marked >= KEY_LIMIT {
-        return moved_closed(row, classes, marked, byte);
+        return moved_closed(row, classes, marked, byte).word;
     }
     let key = marked * BYTE_COUNT + u64::from(byte);
     let slot = 2 * slot_of(key);
     if memo[slot] == key {
         return memo[slot + 1];
     }
-    let after = moved_closed(row, classes, marked, byte);
+    let after = moved_closed(row, classes, marked, byte).word;
     memo[slot] = key;
     memo[slot + 1] = after;
     after

@@ -14,7 +14,7 @@ ghost use Rattle.moving.specs.Spans.{SpanLonger, SpansOf};
 
 use crate::classes::{class_of, in_class};
 use closing::bits::{SetBits, set_where};
-use closing::close::{close, none_marked};
+use closing::close::{ClosedWord, close};
 use tables::rows::PieceRow;
 
 // A piece has at most 62 states, so no class starts at or above this bit, and there is a state after its start.
@@ -66,9 +66,10 @@ pub fn moved(row: PieceRow, classes: &[u8], word: u64, byte: u8) -> u64
     (characters | taken) << 1
 }
 
-// The word of a piece after the byte: moved, and closed in the piece.
-pub fn moved_closed(row: PieceRow, classes: &[u8], word: u64, byte: u8) -> u64
-    ensures { WordAfter row.entry.rows.now classes.now row.entry.piece word byte result }
+// The word of a piece after the byte: moved, and closed in the piece, which also says whether it is zero.
+pub fn moved_closed(row: PieceRow, classes: &[u8], word: u64, byte: u8) -> ClosedWord
+    ensures word_after { WordAfter row.entry.rows.now classes.now row.entry.piece word byte result.word }
+    ensures tells { Tells (result.word ≡ 0) result.zero }
 {
     let moved = moved(row, classes, word, byte);
     close(row, moved)
@@ -76,11 +77,15 @@ pub fn moved_closed(row: PieceRow, classes: &[u8], word: u64, byte: u8) -> u64
 
 // The same, where a word of no marks stays one, and its row is not looked at: most words have none, and that is told
 // before anything is called.
-fn word_after(row: PieceRow, classes: &[u8], word: u64, byte: u8) -> u64
-    ensures { WordAfter row.entry.rows.now classes.now row.entry.piece word byte result }
+fn word_after(row: PieceRow, classes: &[u8], word: u64, byte: u8) -> ClosedWord
+    ensures word_after { WordAfter row.entry.rows.now classes.now row.entry.piece word byte result.word }
+    ensures tells { Tells (result.word ≡ 0) result.zero }
 {
     if word == 0 {
-        return 0;
+        return ClosedWord {
+            word: 0,
+            zero: true,
+        };
     }
     moved_closed(row, classes, word, byte)
 }
@@ -92,12 +97,13 @@ pub struct WordSpan {
     pub to: usize,
 }
 
-// The span with one piece more, by its closed word. Where nothing is marked there is none.
-fn widened(span: Option<WordSpan>, piece: usize, word: u64) -> Option<WordSpan>
-    requires { piece < most_pieces }
-    ensures { SpanLonger span piece word result }
+// The span with one piece more, of whose closed word it is known whether it is zero. Where nothing is marked there is none.
+fn widened(span: Option<WordSpan>, piece: usize, closed: ClosedWord) -> Option<WordSpan>
+    requires piece_in_bounds { piece < most_pieces }
+    requires told { Tells (closed.word ≡ 0) closed.zero }
+    ensures { SpanLonger span piece closed.word result }
 {
-    if none_marked(word) {
+    if closed.zero {
         return span;
     }
     Some(WordSpan {
@@ -106,7 +112,8 @@ fn widened(span: Option<WordSpan>, piece: usize, word: u64) -> Option<WordSpan>
     })
 }
 
-// Moves the words of all pieces along the byte, and closes each piece in itself. Answers where marks are left.
+// Moves the words of all pieces along the byte, and closes each piece in itself. Answers where marks are left, as the
+// closing of each piece says whether its word has any.
 pub fn move_all(
     rows: &[u64],
     classes: &[u8],
@@ -123,8 +130,9 @@ pub fn move_all(
     let mut span = None;
     for piece in 0..pieces {
         let row = PieceRow { rows, piece };
-        words[piece] = word_after(row, classes, words[piece], byte);
-        span = widened(span, piece, words[piece]);
+        let after = word_after(row, classes, words[piece], byte);
+        words[piece] = after.word;
+        span = widened(span, piece, after);
     }
     span
 }

@@ -12,7 +12,7 @@ ghost use Rattle.sweeping.specs.ClosedFromState.{ClosesFrom};
 ghost use Rattle.sweeping.specs.Twice.{Closable, ClosedTwice};
 
 use closing::bits::{has_bit, with_bit};
-use closing::close::{close, close_after, none_marked};
+use closing::close::{ClosedWord, close, close_after, none_marked};
 use tables::ROW_WORDS;
 use tables::rows::PieceRow;
 
@@ -25,14 +25,22 @@ fn pass(other: u64, from: usize, word: u64, to: usize) -> u64
 }
 
 // The word of a piece, closed: it was closed but for what one state reaches, so closing that state alone is enough.
-fn close_from(row: PieceRow, word: u64, state: usize) -> u64
+// Says also whether the closed word is zero.
+fn close_from(row: PieceRow, word: u64, state: usize) -> ClosedWord
     requires { state < word_bits }
-    ensures { ClosesFrom row.entry.rows.now row.entry.piece word state result }
+    ensures closes_from { ClosesFrom row.entry.rows.now row.entry.piece word state result.word }
+    ensures tells { Tells (result.word ≡ 0) result.zero }
 {
     if has_bit(word, state) {
-        word | close(row, with_bit(0, state))
+        ClosedWord {
+            word: word | close(row, with_bit(0, state)).word,
+            zero: false,
+        }
     } else {
-        word
+        ClosedWord {
+            word,
+            zero: none_marked(word),
+        }
     }
 }
 
@@ -111,9 +119,9 @@ pub fn sweep(rows: &[u64], from: usize, to: usize, words: &mut [u64]) -> Reporte
 {
     let own_row = PieceRow { rows, piece: 0 };
     let first = close_from(own_row, words[0], 0);
-    words[0] = first;
+    words[0] = first.word;
     let mut settled = true;
-    let mut zero = none_marked(first);
+    let mut zero = first.zero;
     let mut waiting: u64 = 0;
     let mut at = 1;
     // No `for` over a range: from one child piece the next stands behind that one's run.
@@ -136,9 +144,9 @@ pub fn sweep(rows: &[u64], from: usize, to: usize, words: &mut [u64]) -> Reporte
             );
             let raised = pass(words[at], child.top(), words[0], stand + 1);
             let own = close_after(own_row, raised, words[0]);
-            words[0] = own;
+            words[0] = own.word;
             settled &= below.settled;
-            zero = zero & below.zero & none_marked(own);
+            zero = zero & below.zero & own.zero;
         }
         at = next;
     }

@@ -16,7 +16,7 @@ key_is rows word {converted = converted} read same =
 
 pub returns-then-marked-ge-KEY_LIMIT : goal.returns-then-marked-ge-KEY_LIMIT
 returns-then-marked-ge-KEY_LIMIT c =
-    record { word_after = after_by_leaves (rw c.word.ensures at c.moved_closed.ensures); remembers = c.requires.1 }
+    record { word_after = after_by_leaves (rw c.word.ensures at c.moved_closed.ensures.word_after); remembers = c.requires.1 }
 
 pub returns-then-memo-slot : goal.returns-then-memo-slot
 returns-then-memo-slot c =
@@ -32,7 +32,7 @@ pub returns : goal.returns
 returns c =
     let rows = c.args.rows.now in
     let classes = c.args.classes.now in
-    let stepped = rw c.word.ensures at c.moved_closed-after.ensures in record {
+    let stepped = rw c.word.ensures at c.moved_closed-after.ensures.word_after in record {
       word_after = after_by_leaves stepped;
       remembers = remembers_more _ _ c.requires.1 c.slot_of-slot.ensures refl
           (step_made rows classes c.args.word c.args.byte _ c.ranges.byte.fits (key_is rows c.args.word c.word.ensures c.from.ensures) stepped);

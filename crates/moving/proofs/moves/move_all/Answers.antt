@@ -1,5 +1,5 @@
 -- `moving::moves::move_all` meets its contract: one word more is moved and closed, and the span widened by it.
-use Rattle.std.proofs.Common.{ℕ, ◌<◌, List, length, get_or-set_same, arith}
+use Rattle.std.proofs.Common.{ℕ, ◌<◌, List, length, arith}
 use Rattle.moving.specs.WordsMovedClosed.{MovingClosing, moving_more, moving_all}
 use Rattle.moving.specs.Spans.{spans_gathered}
 use Rattle.moving.proofs.moves.move_all.Goals as goal
@@ -14,9 +14,9 @@ loop-piece-preserved c =
     let loop = c.loop-piece in
     let invariant = loop.invariant in
     let inside = inside_words invariant.0 (omega arith) in (
-      moving_more (omega arith) invariant.0 c.word_after.ensures,
+      moving_more (omega arith) invariant.0 c.word_after-after.ensures.word_after,
       spans_gathered loop.words loop.piece loop.span _ invariant.1 inside
-          (rw get_or-set_same at c.widened-span.ensures),
+          c.widened-span.ensures,
     )
 
 pub returns-clause-moved_closed : goal.returns-clause-moved_closed
