@@ -1,9 +1,10 @@
 // A piece's codes, filled in by a walk of the piece's own tree: for each state where its empty transitions lead, or
 // which leaf starts there.
-ghost use Rattle.std.specs.Prelude.{◌≡◌, ◌+◌, ◌*◌, ◌<◌, ◌≤◌, replicate};
+ghost use Rattle.std.specs.Prelude.{◌≡◌, ◌+◌, ◌*◌, ◌-◌, ◌<◌, ◌≤◌, length, set, replicate};
 ghost use Rattle.tree.specs.Limits.{most_pieces, most_records, most_states};
 ghost use Rattle.tables.specs.Plan.{row_size, jumps_to, leads_and_jumps};
-ghost use Rattle.tables.specs.Filling.{SameLengths, begin_code, left_exit, right_exit, tables, start_entry, stand_entries, joined};
+ghost use Rattle.tables.specs.Entries.{thrice};
+ghost use Rattle.tables.specs.Filling.{SameLengths, begin_code, left_exit, right_exit, tables, stand_entries};
 ghost use Rattle.tables.specs.Walking.{code_at, CodeReadable, SiteVisited, SiteVisitable};
 
 use crate::ROW_SIZE;
@@ -107,6 +108,93 @@ fn code_at(list: &[u8], node: usize, kind: u8) -> u16
     }
 }
 
+// The code of a leaf's start, numbered `at`. Gives the number after its last state's.
+fn leaf(code: u16, at: usize, codes: &mut [u16]) -> usize
+    requires { (row_size ≤ length codes.old) × (at + 2 ≤ most_states) }
+    ensures value { result ≡ at + 2 }
+    ensures codes_after { codes.new ≡ set codes.old at code }
+{
+    codes[at] = code;
+    at + 2
+}
+
+// The code of the start of the stand-in of the piece `child`, whose root's record is `node`, and what is told of that
+// piece.
+fn stand(
+    child: usize,
+    node: usize,
+    at: usize,
+    codes: &mut [u16],
+    stands: &mut [u8],
+    roots: &mut [u16],
+) -> usize
+    requires child_in_bounds { (child < length stands.old) × (child < length roots.old) × (node < most_records) }
+    requires row_size_in_bounds { (row_size ≤ length codes.old) × (at + 2 ≤ most_states) }
+    ensures value { result ≡ at + 2 }
+    ensures roots_after { tables codes.new stands.new roots.new
+        ≡ stand_entries (tables codes.old stands.old roots.old)
+        at child at node }
+{
+    codes[at] = 0;
+    stands[child] = at as u8;
+    roots[child] = node as u16;
+    at + 2
+}
+
+// The codes that a node gives when those of its children are there: its start's and its children's accepting states'.
+fn join(kind: u8, at: usize, middle: usize, last: usize, codes: &mut [u16]) -> usize
+    requires { (row_size ≤ length codes.old) × (at < middle) × (middle ≤ last)
+        × (last < most_states) }
+    ensures value { result ≡ last + 1 }
+    ensures codes_after { codes.new
+        ≡ thrice codes.old at (middle - 1)
+        (last - 1) (begin_code kind middle) (left_exit kind last) (right_exit kind at) }
+{
+    let begin = begin_code(kind, middle);
+    let left = left_exit(kind, last);
+    let right = right_exit(kind, at);
+    codes[at] = begin;
+    codes[middle - 1] = left;
+    codes[last - 1] = right;
+    last + 1
+}
+
+// The codes of the part of a piece at and below a record, from the number `at` on, but for that of its accepting state.
+// Gives the number after its last state's. A record of another piece is a stand-in's. The three tables may be lent with
+// more room than a piece needs, and with less than `Tables` has for child pieces that are not met.
+pub fn fill(
+    list: &[u8],
+    node: usize,
+    piece: usize,
+    at: usize,
+    codes: &mut [u16],
+    stands: &mut [u8],
+    roots: &mut [u16],
+) -> usize
+    requires { SiteVisitable list.now node piece at (tables codes.old stands.old roots.old) }
+    ensures { SiteVisited list.now node piece at
+        (tables codes.old stands.old roots.old)
+        (tables codes.new stands.new roots.new) result }
+{
+    let own = piece_at(list, node);
+    if own != piece {
+        return stand(own, node, at, codes, stands, roots);
+    }
+    let kind = kind_at(list, node);
+    let code = code_at(list, node, kind);
+    if code != 0 {
+        return leaf(code, at, codes);
+    }
+    let left = left_at(list, node);
+    let middle = fill(list, left, piece, at + 1, codes, stands, roots);
+    if kind == STAR {
+        return join(kind, at, middle, middle, codes);
+    }
+    let right = right_at(list, node);
+    let last = fill(list, right, piece, middle, codes, stands, roots);
+    join(kind, at, middle, last, codes)
+}
+
 impl Tables {
     // Tables of zeros.
     pub fn new() -> Tables
@@ -119,72 +207,20 @@ impl Tables {
         }
     }
 
-    // The code of a leaf's start, numbered `at`. Gives the number after its last state's.
-    fn leaf(&mut self, code: u16, at: usize) -> usize
-        requires { at + 2 ≤ most_states }
-        ensures value { result ≡ at + 2 }
-        ensures filled { self.new ≡ start_entry self.old at code }
-        ensures same_lengths { SameLengths self.old self.new }
-    {
-        self.codes[at] = code;
-        at + 2
-    }
-
-    // The code of the start of the stand-in of the piece `child`, whose root's record is `node`, and what is told of
-    // that piece.
-    fn stand(&mut self, child: usize, node: usize, at: usize) -> usize
-        requires child_in_bounds { (child < most_pieces) × (node < most_records) }
-        requires row_size_in_bounds { at + 2 ≤ most_states }
-        ensures value { result ≡ at + 2 }
-        ensures filled { self.new ≡ stand_entries self.old at child at node }
-        ensures same_lengths { SameLengths self.old self.new }
-    {
-        self.codes[at] = 0;
-        self.stands[child] = at as u8;
-        self.roots[child] = node as u16;
-        at + 2
-    }
-
-    // The codes that a node gives when those of its children are there: its start's and its children's accepting
-    // states'.
-    fn join(&mut self, kind: u8, at: usize, middle: usize, last: usize) -> usize
-        requires { (at < middle) × (middle ≤ last) × (last < most_states) }
-        ensures value { result ≡ last + 1 }
-        ensures filled { self.new ≡ joined self.old kind at middle last }
-        ensures same_lengths { SameLengths self.old self.new }
-    {
-        let begin = begin_code(kind, middle);
-        let left = left_exit(kind, last);
-        let right = right_exit(kind, at);
-        self.codes[at] = begin;
-        self.codes[middle - 1] = left;
-        self.codes[last - 1] = right;
-        last + 1
-    }
-
-    // The codes of the part of a piece at and below a record, from the number `at` on, but for that of its accepting
-    // state. Gives the number after its last state's. A record of another piece is a stand-in's.
+    // The same in these tables.
     pub fn fill(&mut self, list: &[u8], node: usize, piece: usize, at: usize) -> usize
         requires { SiteVisitable list.now node piece at self.old }
         ensures visited { SiteVisited list.now node piece at self.old self.new result }
         ensures same_lengths { SameLengths self.old self.new }
     {
-        let own = piece_at(list, node);
-        if own != piece {
-            return self.stand(own, node, at);
-        }
-        let kind = kind_at(list, node);
-        let code = code_at(list, node, kind);
-        if code != 0 {
-            return self.leaf(code, at);
-        }
-        let left = left_at(list, node);
-        let middle = self.fill(list, left, piece, at + 1);
-        if kind == STAR {
-            return self.join(kind, at, middle, middle);
-        }
-        let right = right_at(list, node);
-        let last = self.fill(list, right, piece, middle);
-        self.join(kind, at, middle, last)
+        fill(
+            list,
+            node,
+            piece,
+            at,
+            &mut self.codes,
+            &mut self.stands,
+            &mut self.roots,
+        )
     }
 }

@@ -1,7 +1,22 @@
 -- What was found at the record and filled by the calls is what a visit of the site there makes.
 use Rattle.std.proofs.Common.{ℕ, ◌<◌, subst, arith}
-use Rattle.tables.specs.Walking.{bounds, row_within, stand_few, code_readable, visited_stand, visited_leaf, left_ready, right_ready, star_bounds, two_bounds, visited_star, visited_two}
-use Rattle.tables.proofs.fill.Tables.+fill.Goals as goal
+use Rattle.tables.specs.Filling.{tables_same}
+use Rattle.tables.specs.Walking.{
+  bounds,
+  row_within,
+  stand_few,
+  OfPiece,
+  code_readable,
+  visited_stand,
+  visited_leaf,
+  left_ready,
+  right_ready,
+  star_bounds,
+  two_bounds,
+  visited_star,
+  visited_two,
+}
+use Rattle.tables.proofs.fill.+fill.Goals as goal
 
 pub piece_at-own-requires : goal.piece_at-own-requires
 piece_at-own-requires t c = let within = bounds c.requires.sitting in omega arith
@@ -20,9 +35,9 @@ stand-requires-clause-row_size_in_bounds t c =
     let row = row_within c.requires in
     omega arith
 
-pub returns-then-own-piece-clause-visited : goal.returns-then-own-piece-clause-visited
-returns-then-own-piece-clause-visited t c =
-    visited_stand c.piece_at-own.ensures c.if-own-piece.true c.stand.ensures.value c.stand.ensures.filled
+pub returns-then-own-piece : goal.returns-then-own-piece
+returns-then-own-piece t c =
+    visited_stand c.piece_at-own.ensures c.if-own-piece.true c.stand.ensures.value c.stand.ensures.roots_after
 
 pub kind_at-kind-requires : goal.kind_at-kind-requires
 kind_at-kind-requires t c = let within = bounds c.requires.sitting in omega arith
@@ -39,11 +54,11 @@ leaf-requires t c =
     let row = row_within c.requires in
     omega arith
 
-pub returns-then-code-ne0-clause-visited : goal.returns-then-code-ne0-clause-visited
-returns-then-code-ne0-clause-visited t c =
+pub returns-then-code-ne0 : goal.returns-then-code-ne0
+returns-then-code-ne0 t c =
     visited_leaf
     (record { shown = c.piece_at-own.ensures; same = c.if-own-piece.false; of_kind = c.kind_at-kind.ensures })
-    c.code_at-code.ensures c.if-code-ne0.true c.leaf.ensures.value c.leaf.ensures.filled
+    c.code_at-code.ensures c.if-code-ne0.true c.leaf.ensures.value (tables_same _ _ c.leaf.ensures.codes_after)
 
 pub left_at-left-requires : goal.left_at-left-requires
 left_at-left-requires t c = let within = bounds c.requires.sitting in omega arith
@@ -57,18 +72,25 @@ fill-middle-requires t c =
 
 pub join-requires : goal.join-requires
 join-requires t c =
-    let (_, begun, ordered, few) = star_bounds
+    star_bounds
     (record { shown = c.piece_at-own.ensures; same = c.if-own-piece.false; of_kind = c.kind_at-kind.ensures })
     c.code_at-code.ensures c.left_at-left.ensures c.if-code-ne0.false c.requires
-    c.fill-middle.ensures.same_lengths c.fill-middle.ensures.visited c.if-kind-eq-STAR.true in
-    (begun, ordered, few)
+    (record {
+      of_codes = c.fill-middle.auto.codes;
+      of_stands = c.fill-middle.auto.stands;
+      of_roots = c.fill-middle.auto.roots;
+    }) c.fill-middle.ensures c.if-kind-eq-STAR.true
 
-pub returns-then-kind-eq-STAR-clause-visited : goal.returns-then-kind-eq-STAR-clause-visited
-returns-then-kind-eq-STAR-clause-visited t c =
+pub returns-then-kind-eq-STAR : goal.returns-then-kind-eq-STAR
+returns-then-kind-eq-STAR t c =
     visited_star
     (record { shown = c.piece_at-own.ensures; same = c.if-own-piece.false; of_kind = c.kind_at-kind.ensures })
     c.code_at-code.ensures c.left_at-left.ensures c.if-code-ne0.false c.requires
-    c.fill-middle.ensures.same_lengths c.fill-middle.ensures.visited c.if-kind-eq-STAR.true c.join.ensures.value c.join.ensures.filled
+    (record {
+      of_codes = c.fill-middle.auto.codes;
+      of_stands = c.fill-middle.auto.stands;
+      of_roots = c.fill-middle.auto.roots;
+    }) c.fill-middle.ensures c.if-kind-eq-STAR.true c.join.ensures.value (tables_same _ _ c.join.ensures.codes_after)
 
 pub right_at-right-requires : goal.right_at-right-requires
 right_at-right-requires t c = let within = bounds c.requires.sitting in omega arith
@@ -78,22 +100,41 @@ fill-last-requires t c =
     let ready = right_ready
     (record { shown = c.piece_at-own.ensures; same = c.if-own-piece.false; of_kind = c.kind_at-kind.ensures })
     c.code_at-code.ensures c.left_at-left.ensures c.if-code-ne0.false c.requires
-    c.fill-middle.ensures.same_lengths c.fill-middle.ensures.visited c.right_at-right.ensures c.if-kind-eq-STAR.false in
+    (record {
+      of_codes = c.fill-middle.auto.codes;
+      of_stands = c.fill-middle.auto.stands;
+      of_roots = c.fill-middle.auto.roots;
+    }) c.fill-middle.ensures c.right_at-right.ensures c.if-kind-eq-STAR.false in
     (subst (λ (k : ℕ). c.right_at-right.result < k) c.decreases ready.0, ready.1)
 
 pub join-requires-2 : goal.join-requires-2
 join-requires-2 t c =
-    let (_, begun, ordered, few) = two_bounds
+    two_bounds
     (record { shown = c.piece_at-own.ensures; same = c.if-own-piece.false; of_kind = c.kind_at-kind.ensures })
     c.code_at-code.ensures c.left_at-left.ensures c.if-code-ne0.false c.requires
-    c.fill-middle.ensures.same_lengths c.fill-middle.ensures.visited c.right_at-right.ensures c.if-kind-eq-STAR.false
-    c.fill-last.ensures.same_lengths c.fill-last.ensures.visited in
-    (begun, ordered, few)
+    (record {
+      of_codes = c.fill-middle.auto.codes;
+      of_stands = c.fill-middle.auto.stands;
+      of_roots = c.fill-middle.auto.roots;
+    }) c.fill-middle.ensures c.right_at-right.ensures c.if-kind-eq-STAR.false
+    (record {
+      of_codes = c.fill-last.auto.codes;
+      of_stands = c.fill-last.auto.stands;
+      of_roots = c.fill-last.auto.roots;
+    }) c.fill-last.ensures
 
-pub returns-clause-visited : goal.returns-clause-visited
-returns-clause-visited t c =
+pub returns : goal.returns
+returns t c =
     visited_two
     (record { shown = c.piece_at-own.ensures; same = c.if-own-piece.false; of_kind = c.kind_at-kind.ensures })
     c.code_at-code.ensures c.left_at-left.ensures c.if-code-ne0.false c.requires
-    c.fill-middle.ensures.same_lengths c.fill-middle.ensures.visited c.right_at-right.ensures c.if-kind-eq-STAR.false
-    c.fill-last.ensures.same_lengths c.fill-last.ensures.visited c.join-2.ensures.value c.join-2.ensures.filled
+    (record {
+      of_codes = c.fill-middle.auto.codes;
+      of_stands = c.fill-middle.auto.stands;
+      of_roots = c.fill-middle.auto.roots;
+    }) c.fill-middle.ensures c.right_at-right.ensures c.if-kind-eq-STAR.false
+    (record {
+      of_codes = c.fill-last.auto.codes;
+      of_stands = c.fill-last.auto.stands;
+      of_roots = c.fill-last.auto.roots;
+    }) c.fill-last.ensures c.join-2.ensures.value (tables_same _ _ c.join-2.ensures.codes_after)
