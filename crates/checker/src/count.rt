@@ -72,15 +72,17 @@ fn count_labels(labels: &[u16]) -> Result<Counts, Refused>
 // the signs stand for has more nodes than there are labels, which in the first syntax none has (`first_bounded`:
 // specs/Counted.antt).
 pub fn read_and_count(expr: &[u8], notes: &mut Notes, syntax: Syntax) -> Result<Counts, Refused>
-    ensures { CheckAnswer (syntax_of syntax) expr.now notes.new.numbers result }
+    ensures answer { CheckAnswer (syntax_of syntax) expr.now notes.new.numbers.now result }
+    ensures same_buffer { notes.new.numbers.ghost_name ≡ notes.old.numbers.ghost_name }
 {
     notes.places = false;
     expression(expr, notes, syntax)?;
-    if notes.count > MOST_LABELS {
+    let count = notes.count;
+    if count > MOST_LABELS {
         return Err(Refused {
             refusal: Refusal::TooManyNodes,
             place: 0,
         });
     }
-    count_labels(&notes.numbers[..notes.count])
+    count_labels(notes.first(count))
 }

@@ -12,13 +12,15 @@ use count::read_and_count;
 use operands::syntax::Syntax;
 use repeats::notes::Notes;
 use tree::counted::Counts;
+use tree::limits::MOST_LABELS;
 use tree::refusal::Refused;
 
 // Checks an expression of either syntax.
 fn check_by(expr: &[u8], syntax: Syntax) -> Result<Counts, Refused>
     ensures { counted_numbers result ≡ checked (syntax_of syntax) expr.now }
 {
-    let mut notes = Notes::new(false);
+    let mut numbers = [0u16; MOST_LABELS];
+    let mut notes = Notes::new(&mut numbers, false);
     read_and_count(expr, &mut notes, syntax)
 }
 

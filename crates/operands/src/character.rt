@@ -28,9 +28,10 @@ fn is_special(byte: u8, syntax: Syntax) -> bool
 // Notes a leaf, and answers the place after it.
 pub fn leaf(label: u16, place: usize, next: usize, notes: &mut Notes) -> usize
     requires { place ≤ most_labels }
-    ensures answer { LeafAnswer notes.old.places label place next notes.old.count notes.old.numbers
-        notes.new.count notes.new.numbers result }
+    ensures answer { LeafAnswer notes.old.places label place next notes.old.count notes.old.numbers.now
+        notes.new.count notes.new.numbers.now result }
     ensures kind { notes.new.places ≡ notes.old.places }
+    ensures same_buffer { notes.new.numbers.ghost_name ≡ notes.old.numbers.ghost_name }
 {
     notes.put_note(label, place as u16);
     next
@@ -49,8 +50,9 @@ pub fn character(
     requires common { class_begins (sign_of (syntax_of syntax) (get_or expr.now at 0)) ≡ false }
     requires room { Begins expr.now at 0 }
     ensures answer { CharacterAnswer (syntax_of syntax) notes.old.places expr.now at
-        notes.old.count notes.old.numbers notes.new.count notes.new.numbers result }
+        notes.old.count notes.old.numbers.now notes.new.count notes.new.numbers.now result }
     ensures kind { notes.new.places ≡ notes.old.places }
+    ensures same_buffer { notes.new.numbers.ghost_name ≡ notes.old.numbers.ghost_name }
 {
     let byte = expr[at];
     if byte == b'\\' {

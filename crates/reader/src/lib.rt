@@ -33,16 +33,19 @@ fn read_by(
     ensures { ReaderAnswer (syntax_of syntax) expr.now records.old
         classes.old records.new classes.new result }
 {
-    let mut notes = Notes::new(false);
+    let mut numbers = [0u16; MOST_LABELS];
+    let mut notes = Notes::new(&mut numbers, false);
     expression(expr, &mut notes, syntax)?;
-    let count = notes.count;
+    let Notes { numbers, count, .. } = notes;
     if count > MOST_LABELS {
         return Err(Refused {
             refusal: Refusal::TooManyNodes,
             place: 0,
         });
     }
-    let counts = store_front(expr, &mut notes.numbers, count, records, classes)?;
+    let counts = store_front(expr, numbers, count, records, classes)?;
+    // The places are noted in the same scratch, over the labels.
+    let mut notes = Notes::new(numbers, true);
     place_records(expr, &mut notes, counts.records, syntax, records);
     Ok(counts)
 }

@@ -55,8 +55,7 @@ fn store(
     Ok(counts)
 }
 
-// The same for the first `count` labels of an array. It is lent whole: that notes keep their ghost fields while a part of
-// their array is lent is not proved.
+// The same for the first `count` labels of the scratch, which is lent whole.
 pub fn store_front(
     expr: &[u8],
     labels: &mut [u16],
@@ -88,5 +87,5 @@ pub fn place_records(
 {
     notes.places = true;
     let _ = expression(expr, notes, syntax);
-    write_places(&notes.numbers[..count], records);
+    write_places(notes.first(count), records);
 }

@@ -15,8 +15,9 @@ fn counted(expr: &[u8], at: usize, notes: &mut Notes, begin: usize) -> Result<us
     requires brace { get_or expr.now at 0 ≡ 123 }
     requires room { SignsBegin expr.now at begin notes.old.count }
     ensures answer { OneSignAnswer second notes.old.places expr.now begin at
-        notes.old.count notes.old.numbers notes.new.count notes.new.numbers result }
+        notes.old.count notes.old.numbers.now notes.new.count notes.new.numbers.now result }
     ensures kind { notes.new.places ≡ notes.old.places }
+    ensures same_buffer { notes.new.numbers.ghost_name ≡ notes.old.numbers.ghost_name }
 {
     let found = count(expr, at).ok_or(Refused {
         refusal: Refusal::CountFaulty,
@@ -32,8 +33,9 @@ fn second_sign(expr: &[u8], at: usize, notes: &mut Notes, begin: usize) -> Resul
     requires other { get_or expr.now at 0 ≡ 42 → ⊥ }
     requires room { SignsBegin expr.now at begin notes.old.count }
     ensures answer { OneSignAnswer second notes.old.places expr.now begin at
-        notes.old.count notes.old.numbers notes.new.count notes.new.numbers result }
+        notes.old.count notes.old.numbers.now notes.new.count notes.new.numbers.now result }
     ensures kind { notes.new.places ≡ notes.old.places }
+    ensures same_buffer { notes.new.numbers.ghost_name ≡ notes.old.numbers.ghost_name }
 {
     match expr[at] {
         b'+' => notes.more(begin, at as u16),
@@ -55,8 +57,9 @@ fn sign(
     requires within { at < length expr.now }
     requires room { SignsBegin expr.now at begin notes.old.count }
     ensures answer { OneSignAnswer (syntax_of syntax) notes.old.places expr.now begin at
-        notes.old.count notes.old.numbers notes.new.count notes.new.numbers result }
+        notes.old.count notes.old.numbers.now notes.new.count notes.new.numbers.now result }
     ensures kind { notes.new.places ≡ notes.old.places }
+    ensures same_buffer { notes.new.numbers.ghost_name ≡ notes.old.numbers.ghost_name }
 {
     if expr[at] == b'*' {
         notes.put_note(STAR_LABEL, at as u16);
@@ -78,8 +81,9 @@ pub fn signs(
 ) -> Result<usize, Refused>
     requires { SignsBegin expr.now at begin notes.old.count }
     ensures answer { SignsAnswer (syntax_of syntax) notes.old.places expr.now begin at
-        notes.old.count notes.old.numbers notes.new.count notes.new.numbers result }
+        notes.old.count notes.old.numbers.now notes.new.count notes.new.numbers.now result }
     ensures kind { notes.new.places ≡ notes.old.places }
+    ensures same_buffer { notes.new.numbers.ghost_name ≡ notes.old.numbers.ghost_name }
 {
     let mut place = at;
     // Each sign says where the next one begins, so this goes from place to place and not by an index.

@@ -16,8 +16,9 @@ fn class(expr: &[u8], begin: usize, notes: &mut Notes) -> Result<usize, Refused>
     requires bracket { get_or expr.now begin 0 ≡ 91 }
     requires room { Begins expr.now begin 0 }
     ensures answer { CharacterAnswer second notes.old.places expr.now begin
-        notes.old.count notes.old.numbers notes.new.count notes.new.numbers result }
+        notes.old.count notes.old.numbers.now notes.new.count notes.new.numbers.now result }
     ensures kind { notes.new.places ≡ notes.old.places }
+    ensures same_buffer { notes.new.numbers.ghost_name ≡ notes.old.numbers.ghost_name }
 {
     let next = class_end(expr, begin).ok_or(Refused {
         refusal: Refusal::ClassFaulty,
@@ -32,8 +33,9 @@ fn second_single(expr: &[u8], at: usize, notes: &mut Notes) -> Result<usize, Ref
     requires character { get_or expr.now at 0 ≡ 40 → ⊥ }
     requires room { Begins expr.now at 0 }
     ensures answer { CharacterAnswer second notes.old.places expr.now at
-        notes.old.count notes.old.numbers notes.new.count notes.new.numbers result }
+        notes.old.count notes.old.numbers.now notes.new.count notes.new.numbers.now result }
     ensures kind { notes.new.places ≡ notes.old.places }
+    ensures same_buffer { notes.new.numbers.ghost_name ≡ notes.old.numbers.ghost_name }
 {
     match expr[at] {
         b'.' => Ok(leaf(class_label(at), at, at + 1, notes)),
@@ -56,8 +58,9 @@ pub fn single(expr: &[u8], at: usize, notes: &mut Notes, syntax: Syntax) -> Resu
     requires character { get_or expr.now at 0 ≡ 40 → ⊥ }
     requires room { Begins expr.now at 0 }
     ensures answer { CharacterAnswer (syntax_of syntax) notes.old.places expr.now at
-        notes.old.count notes.old.numbers notes.new.count notes.new.numbers result }
+        notes.old.count notes.old.numbers.now notes.new.count notes.new.numbers.now result }
     ensures kind { notes.new.places ≡ notes.old.places }
+    ensures same_buffer { notes.new.numbers.ghost_name ≡ notes.old.numbers.ghost_name }
 {
     match syntax {
         Syntax::First => character(expr, at, notes, Syntax::First),

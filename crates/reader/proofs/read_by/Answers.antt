@@ -11,11 +11,11 @@ use Rattle.reader.proofs.read_by.Goals.{Else-count-gt-MOST_LABELS, In_ok-express
 
 -- the expression is read, and the labels of its tree are noted
 tree_read : (c : In_ok-expression)
-    → LabelsRead (syntax_of c.args.syntax) c.args.expr.now c.expression.new.notes.numbers c.expression.new.notes.count
+    → LabelsRead (syntax_of c.args.syntax) c.args.expr.now c.expression.new.notes.numbers.now c.expression.new.notes.count
 tree_read c = labels_read (rw (← c.new-notes.ensures.kind) c.in_ok-expression.ensures.answer)
 
 -- there are no more labels than there is room for
-within : (c : Else-count-gt-MOST_LABELS) → c.expression.new.notes.count ≤ length c.expression.new.notes.numbers
+within : (c : Else-count-gt-MOST_LABELS) → c.expression.new.notes.count ≤ length c.expression.new.notes.numbers.now
 within c = omega (arith, c.if-count-gt-MOST_LABELS.false)
 
 pub returns-in_err-expression : goal.returns-in_err-expression
@@ -56,7 +56,7 @@ place_records-requires-clause-due c =
 pub returns : goal.returns
 returns c =
     record {
-      later = c.expression.new.notes.numbers;
+      later = c.expression.new.notes.numbers.now;
       total = c.expression.new.notes.count;
       read = tree_read (goal.at.returns c).In_ok-expression;
       few = c.if-count-gt-MOST_LABELS.false;

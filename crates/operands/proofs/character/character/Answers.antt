@@ -22,7 +22,7 @@ returns-then-not-is_special-clause-answer c =
 pub returns-then-byte-eq92-clause-answer : goal.returns-then-byte-eq92-clause-answer
 returns-then-byte-eq92-clause-answer c =
     let special = sym c.is_special.ensures ∙ c.if-not-is_special.false in
-    leaf_read c.args.notes.now.places c.args.notes.now.numbers c.leaf.new.notes.numbers c.leaf.result _ (character _) tt
+    leaf_read c.args.notes.now.places c.args.notes.now.numbers.now c.leaf.new.notes.numbers.now c.leaf.result _ (character _) tt
     (λ depth. leads_escaped _ c.args.expr.now depth c.args.at (omega arith) c.if-byte-eq92.true special)
     (omega arith) (omega arith) (omega arith) c.label_of.ensures c.leaf.ensures.answer
 
@@ -36,7 +36,7 @@ returns-then-is_special-clause-answer c =
 pub returns-clause-answer : goal.returns-clause-answer
 returns-clause-answer c =
     let itself = not_special _ (sym c.is_special-2.ensures ∙ c.if-is_special.false) in
-    leaf_read c.args.notes.now.places c.args.notes.now.numbers c.leaf-2.new.notes.numbers c.leaf-2.result _
+    leaf_read c.args.notes.now.places c.args.notes.now.numbers.now c.leaf-2.new.notes.numbers.now c.leaf-2.result _
     (character _) tt
     (λ depth. leads_plain _ c.args.expr.now depth c.args.at c.requires.within itself) (omega arith) (omega arith)
     (omega arith) c.label_of-2.ensures c.leaf-2.ensures.answer

@@ -10,8 +10,8 @@ use Rattle.signs.proofs.signs.signs.Goals.{In_ok-next}
 -- what the reader of one sign found at the loop's place
 one_read : (c : In_ok-next)
     → OneSign (syntax_of c.args.syntax) c.args.notes.now.places c.args.expr.now c.args.begin c.loop-place.place
-    c.loop-place.notes.count c.loop-place.notes.numbers c.in_ok-next.next c.sign.new.notes.count
-    c.sign.new.notes.numbers
+    c.loop-place.notes.count c.loop-place.notes.numbers.now c.in_ok-next.next c.sign.new.notes.count
+    c.sign.new.notes.numbers.now
 one_read c = rw (← c.loop-place.invariant.2) c.in_ok-next.ensures.answer
 
 pub returns-in_err-next-clause-answer : goal.returns-in_err-next-clause-answer
@@ -33,6 +33,7 @@ loop-place-preserved c =
       omega (arith, c.loop-place.invariant.1, f.grown),
       c.sign.ensures.kind ∙ c.loop-place.invariant.2,
       one_more c.loop-place.invariant.3 o c.if-next-place.false,
+      c.sign.ensures.same_buffer ∙ c.loop-place.invariant.4,
     )
 
 pub returns-then-next-place-clause-answer : goal.returns-then-next-place-clause-answer

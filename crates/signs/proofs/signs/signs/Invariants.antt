@@ -10,7 +10,8 @@ abbrev pub invariant-loop-place : goal.invariant-loop-place
 invariant-loop-place l =
     (l.place ≤ length l.expr) × (l.begin ≤ l.notes.count) × (l.notes.places ≡ l.initial.notes.places)
     × ((depth : ℕ) → Carries (syntax_of l.syntax) l.initial.notes.places starred l.expr depth l.begin l.initial.place
-    l.initial.notes.count l.initial.notes.numbers l.place l.notes.count l.notes.numbers)
+    l.initial.notes.count l.initial.notes.numbers.now l.place l.notes.count l.notes.numbers.now)
+    × (l.notes.numbers.ghost_name ≡ l.initial.notes.numbers.ghost_name)
 
 abbrev pub decreases-loop-place : goal.decreases-loop-place
 decreases-loop-place l = length l.expr - l.place

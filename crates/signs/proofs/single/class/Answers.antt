@@ -24,7 +24,7 @@ pub returns-clause-answer : goal.returns-clause-answer
 returns-clause-answer c =
     let r = found_so (ClassEndAnswer c.args.expr.now c.args.begin) c.class_end.result _
     (sym c.in_ok-next.ensures.value) c.class_end.ensures in
-    leaf_read c.args.notes.now.places c.args.notes.now.numbers c.leaf.new.notes.numbers c.leaf.result _
+    leaf_read c.args.notes.now.places c.args.notes.now.numbers.now c.leaf.new.notes.numbers.now c.leaf.result _
     (Leaf.class c.args.begin) (bracket_here c.requires.within c.requires.bracket r.finds)
     (λ depth. class_leads depth c.requires.within c.requires.bracket r) r.further r.within (omega arith)
     c.class_label.ensures c.leaf.ensures.answer

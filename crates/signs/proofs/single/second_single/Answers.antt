@@ -10,7 +10,7 @@ use Rattle.signs.proofs.single.second_single.Goals as goal
 pub returns-in-46-clause-answer : goal.returns-in-46-clause-answer
 returns-in-46-clause-answer c =
     let dot = c.in-46.is in
-    leaf_read c.args.notes.now.places c.args.notes.now.numbers c.leaf.new.notes.numbers c.leaf.result _
+    leaf_read c.args.notes.now.places c.args.notes.now.numbers.now c.leaf.new.notes.numbers.now c.leaf.result _
     (Leaf.class c.args.at) (dot_here c.requires.within dot)
     (λ depth. dot_leads c.args.expr.now depth c.args.at c.requires.within dot) (omega arith) (omega arith)
     (omega arith) c.class_label.ensures c.leaf.ensures.answer

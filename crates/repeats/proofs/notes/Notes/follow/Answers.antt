@@ -17,4 +17,5 @@ loop-preserved c =
           c.loop.invariant.copies c.copy_run.ensures.written end;
       onward = omega (arith, c.loop.invariant.onward, a.onward, b.onward);
       kind = c.end_copy.ensures.kind ∙ kept;
+      same_buffer = c.end_copy.ensures.same_buffer ∙ (c.copy_run.ensures.same_buffer ∙ c.loop.invariant.same_buffer);
     }
