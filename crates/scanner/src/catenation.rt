@@ -33,13 +33,17 @@ pub fn catenation(
 ) -> Result<usize, Refused>
     requires { Begins expr.now at depth }
     ensures answer { PartAnswer (syntax_of syntax) notes.old.places joined expr.now at depth
-        notes.old.count notes.old.numbers notes.new.count notes.new.numbers result }
+        notes.old.count notes.old.numbers.now notes.new.count notes.new.numbers.now result }
     ensures kind { notes.new.places ≡ notes.old.places }
+    ensures same_buffer { notes.new.numbers.ghost_name ≡ notes.old.numbers.ghost_name }
 {
     let mut place = at;
     // Each operand says where the next one begins, so this goes from place to place and not by an index.
     'operands: while operand_due(expr, at, place) {
-        let next = operand(expr, place, depth, notes, syntax)?;
+        let reading = operand(expr, place, depth, notes, syntax);
+        let Ok(next) = reading else {
+            return reading;
+        };
         put_join(notes, CATENATION_LABEL, at, place);
         place = next;
     }

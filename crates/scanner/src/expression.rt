@@ -13,8 +13,9 @@ use tree::refusal::{Refusal, Refused};
 // and while there is room: refuses by 1, 2, or the first fault from left to right.
 pub fn expression(expr: &[u8], notes: &mut Notes, syntax: Syntax) -> Result<(), Refused>
     ensures answer { ExpressionAnswer (syntax_of syntax) notes.old.places expr.now notes.new.count
-        notes.new.numbers result }
+        notes.new.numbers.now result }
     ensures kind { notes.new.places ≡ notes.old.places }
+    ensures same_buffer { notes.new.numbers.ghost_name ≡ notes.old.numbers.ghost_name }
 {
     if expr.is_empty() {
         return Err(Refused {

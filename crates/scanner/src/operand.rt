@@ -33,8 +33,9 @@ pub fn operand(
 ) -> Result<usize, Refused>
     requires { Begins expr.now at depth }
     ensures answer { PartAnswer (syntax_of syntax) notes.old.places starred expr.now at depth
-        notes.old.count notes.old.numbers notes.new.count notes.new.numbers result }
+        notes.old.count notes.old.numbers.now notes.new.count notes.new.numbers.now result }
     ensures kind { notes.new.places ≡ notes.old.places }
+    ensures same_buffer { notes.new.numbers.ghost_name ≡ notes.old.numbers.ghost_name }
 {
     if at == expr.len() {
         return Err(Refused {

@@ -41,14 +41,18 @@ pub fn union(
 ) -> Result<usize, Refused>
     requires { Begins expr.now at depth }
     ensures answer { PartAnswer (syntax_of syntax) notes.old.places united expr.now at depth
-        notes.old.count notes.old.numbers notes.new.count notes.new.numbers result }
+        notes.old.count notes.old.numbers.now notes.new.count notes.new.numbers.now result }
     ensures kind { notes.new.places ≡ notes.old.places }
+    ensures same_buffer { notes.new.numbers.ghost_name ≡ notes.old.numbers.ghost_name }
 {
     let mut place = at;
     // Each branch says where the next one begins, so this goes from place to place and not by an index.
     'branches: while branch_due(expr, at, place) {
         let begin = branch_begin(at, place);
-        let next = catenation(expr, begin, depth, notes, syntax)?;
+        let reading = catenation(expr, begin, depth, notes, syntax);
+        let Ok(next) = reading else {
+            return reading;
+        };
         put_join(notes, UNION_LABEL, at, place);
         place = next;
     }

@@ -7,22 +7,22 @@ use Rattle.operands.specs.ReadingLaws.{went_group, then_signs}
 use Rattle.scanner.specs.RoundsLaws.{operand_more, operand_fails, begin_after, branch_more, branch_fails}
 use Rattle.scanner.proofs.+catenation_operand_union.Goals as goal
 
-pub catenation::catenation-returns-in_err-next-clause-answer :
-    goal.catenation::catenation-returns-in_err-next-clause-answer
-catenation::catenation-returns-in_err-next-clause-answer t c =
-    let p = err_from_is_err_and c.from_residual.result c.from_residual.ensures.1 in
-    rw (p.1, p.2)
-    (operand_fails c.operands.invariant.0 c.operand_due.ensures c.operands-test.true c.in_err-next.ensures.answer)
+pub catenation::catenation-returns-in_default-clause-answer :
+    goal.catenation::catenation-returns-in_default-clause-answer
+catenation::catenation-returns-in_default-clause-answer t c =
+    rw c.in_default.is
+    (operand_fails c.operands.invariant.0 c.operand_due.ensures c.operands-test.true c.in_default.ensures.answer)
 
 pub catenation::catenation-operands-preserved : goal.catenation::catenation-operands-preserved
 catenation::catenation-operands-preserved t c =
-    let r = rw c.operands.invariant.3 at c.in_ok-next.ensures.answer in
-    let kept = c.operand.ensures.kind ∙ c.operands.invariant.3 in (
+    let r = rw c.operands.invariant.3 at c.in-Ok.ensures.answer in
+    let kept = c.operand-reading.ensures.kind ∙ c.operands.invariant.3 in (
       operand_more c.operands.invariant.0 c.operand_due.ensures c.operands-test.true r
           (rw kept at c.put_join.ensures.joined),
       omega (arith, r.went.further, c.operands.invariant.1),
       omega (arith, r.went.within),
       c.put_join.ensures.kind ∙ kept,
+      c.put_join.ensures.same_buffer ∙ (c.operand-reading.ensures.same_buffer ∙ c.operands.invariant.4),
     )
 
 pub operand::operand-returns-then-at-expr-clause-answer : goal.operand::operand-returns-then-at-expr-clause-answer
@@ -51,7 +51,7 @@ pub operand::operand-returns-then-expr-at-eq40-clause-answer :
 operand::operand-returns-then-expr-at-eq40-clause-answer t c =
     let r = c.in_ok-closing.ensures.answer in
     let group = went_group r (omega (arith, r.went.within)) (omega arith) (omega arith) c.if-expr-at-eq40.true in
-    then_signs _ c.signs.new.notes.numbers c.signs.result group (rw c.union.ensures.kind at c.signs.ensures.answer)
+    then_signs _ c.signs.new.notes.numbers.now c.signs.result group (rw c.union.ensures.kind at c.signs.ensures.answer)
 
 pub operand::operand-sign_follows-requires : goal.operand::operand-sign_follows-requires
 operand::operand-sign_follows-requires t c =
@@ -65,25 +65,25 @@ operand::operand-signs-requires-then-sign_follows t c =
 pub operand::operand-returns-then-sign_follows-clause-answer :
     goal.operand::operand-returns-then-sign_follows-clause-answer
 operand::operand-returns-then-sign_follows-clause-answer t c =
-    then_signs _ c.signs-then-sign_follows.new.notes.numbers c.signs-then-sign_follows.result
+    then_signs _ c.signs-then-sign_follows.new.notes.numbers.now c.signs-then-sign_follows.result
     (c.in_ok-next.ensures.answer.went c.args.depth)
     (rw c.single.ensures.kind at c.signs-then-sign_follows.ensures.answer)
 
-pub union::union-returns-in_err-next-clause-answer : goal.union::union-returns-in_err-next-clause-answer
-union::union-returns-in_err-next-clause-answer t c =
-    let p = err_from_is_err_and c.from_residual.result c.from_residual.ensures.1 in
-    rw (p.1, p.2)
+pub union::union-returns-in_default-clause-answer : goal.union::union-returns-in_default-clause-answer
+union::union-returns-in_default-clause-answer t c =
+    rw c.in_default.is
     (branch_fails c.branches.invariant.0 c.branch_due.ensures c.branches-test.true c.branch_begin-begin.ensures
-    c.in_err-next.ensures.answer)
+    c.in_default.ensures.answer)
 
 pub union::union-branches-preserved : goal.union::union-branches-preserved
 union::union-branches-preserved t c =
-    let r = rw c.branches.invariant.3 at c.in_ok-next.ensures.answer in
-    let kept = c.catenation.ensures.kind ∙ c.branches.invariant.3 in
+    let r = rw c.branches.invariant.3 at c.in-Ok.ensures.answer in
+    let kept = c.catenation-reading.ensures.kind ∙ c.branches.invariant.3 in
     let o = begin_after c.branch_begin-begin.ensures in (
       branch_more c.branches.invariant.0 c.branch_due.ensures c.branches-test.true c.branch_begin-begin.ensures r
           (rw kept at c.put_join.ensures.joined),
       omega (arith, r.went.further, o, c.branches.invariant.1),
       omega (arith, r.went.within),
       c.put_join.ensures.kind ∙ kept,
+      c.put_join.ensures.same_buffer ∙ (c.catenation-reading.ensures.same_buffer ∙ c.branches.invariant.4),
     )

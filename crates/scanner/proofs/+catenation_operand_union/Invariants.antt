@@ -19,8 +19,9 @@ decreases-union::union l = 3 * (length l.expr.now - l.at) + 2
 abbrev pub invariant-catenation::catenation-operands : goal.invariant-catenation::catenation-operands
 invariant-catenation::catenation-operands l =
     Round (syntax_of l.syntax) l.initial.notes.places joined starred l.expr l.depth l.at l.initial.notes.count
-    l.initial.notes.numbers l.place l.notes.count l.notes.numbers
+    l.initial.notes.numbers.now l.place l.notes.count l.notes.numbers.now
     × (l.at ≤ l.place) × (l.place ≤ length l.expr) × (l.notes.places ≡ l.initial.notes.places)
+    × (l.notes.numbers.ghost_name ≡ l.initial.notes.numbers.ghost_name)
 
 abbrev pub decreases-catenation::catenation-operands : goal.decreases-catenation::catenation-operands
 decreases-catenation::catenation-operands l = length l.expr - l.place
@@ -28,8 +29,9 @@ decreases-catenation::catenation-operands l = length l.expr - l.place
 abbrev pub invariant-union::union-branches : goal.invariant-union::union-branches
 invariant-union::union-branches l =
     Round (syntax_of l.syntax) l.initial.notes.places united joined l.expr l.depth l.at l.initial.notes.count
-    l.initial.notes.numbers l.place l.notes.count l.notes.numbers
+    l.initial.notes.numbers.now l.place l.notes.count l.notes.numbers.now
     × (l.at ≤ l.place) × (l.place ≤ length l.expr) × (l.notes.places ≡ l.initial.notes.places)
+    × (l.notes.numbers.ghost_name ≡ l.initial.notes.numbers.ghost_name)
 
 abbrev pub decreases-union::union-branches : goal.decreases-union::union-branches
 decreases-union::union-branches l = length l.expr - l.place
