@@ -39,30 +39,29 @@ fn make_in<const WORDS: usize>(
 // Makes a table of steps where so many bytes of texts pay for it: in the largest room that has no more words than
 // these. A step that is tried is the work of one byte by marks, or two. Answers whether there is a table. It calls
 // itself with less room, so that each size has a stack frame of its own.
-pub fn make_if_paying<'a>(
+pub fn make_if_paying(
     rows: &[u64],
     count: usize,
     classes: &[u8],
     bytes: usize,
     words: usize,
-    table: &'a mut [u16],
-) -> Option<&'a [u16]>
+    table: &mut [u16],
+) -> bool
     requires { Ready rows.now count }
-    ensures { (t : Tree Leaf) → Prepared t rows.now count
-        → MatchOption result ⊤ (λ made. AcceptsLanguage classes.now t made.now) }
+    ensures { (t : Tree Leaf) → Prepared t rows.now count → result ≡ true
+        → AcceptsLanguage classes.now t table.new }
 {
     if words < SMALL_ROOM {
-        return None;
+        return false;
     }
     if bytes < words {
         return make_if_paying(rows, count, classes, bytes, words / 2, table);
     }
-    let made = if words < LARGE_ROOM {
+    if words < LARGE_ROOM {
         make_in::<SMALL_ROOM>(rows, count, classes, table)
     } else {
         make_in::<LARGE_ROOM>(rows, count, classes, table)
-    };
-    if made { Some(table) } else { None }
+    }
 }
 
 // Whether the text is in the language of the tree that the rows are of: by the table of steps where there is one, by

@@ -1,6 +1,6 @@
 -- The end at a place by its bytes, and the line before it.
 use Rattle.std.specs.Prelude.{ℕ, zero, suc, ◌+◌, ◌-◌, ◌≤◌, ◌<◌, ◌≡◌, refl, Bool, true, false, ◌&&◌, cond, List, [], ◌∷◌, ◌++◌, length, get_or, take, drop, eqb}
-use Rattle.std.proofs.Common.{sym, ap, ◌∙◌, add-one, arith, drop_of_length-le, length-drop, take-append-drop, eqb-true, ne_eqb, take-add, take_all, drop_at, drop-drop, length-take-le}
+use Rattle.std.proofs.Common.{sym, ap, ◌∙◌, subst, add-one, arith, drop_of_length-le, length-drop, take-append-drop, eqb-true, ne_eqb, take-add, take_all, drop_at, drop-drop, length-take-le}
 use Rattle.std.proofs.Math.Bool.{and-false}
 use Rattle.std.proofs.Math.Decide.{dec_lt}
 use Rattle.std.proofs.Math.Seq.{take-nil, length-slice}
@@ -121,3 +121,17 @@ lent_part start end text h k =
     let split : end ≡ start + (end - start) = omega arith in
     sym (ap (λ (n : ℕ). drop start (take n text)) split ∙ ap (drop start) (take-add start (end - start) text)
     ∙ drop_at (take start text) _ start (length-take-le start text k))
+
+-- an end that is the first of the bytes from a place on is the next one from there
+pub ends_from : (input : List ℕ) (start end : ℕ) → start ≤ length input → Ends (drop start input) 0 end
+    → Ends input start (start + end)
+ends_from input start end within e = record {
+  ordered = omega arith;
+  inside = omega (arith, within, e.inside, length-drop start input);
+  unbroken = λ i h k.
+      let there : drop (i - start) (drop start input) ≡ drop i input =
+      drop-drop (i - start) start input ∙ ap (λ (n : ℕ). drop n input) (omega (arith, h)) in
+      sym (ap end_size there) ∙ e.unbroken (i - start) (omega arith) (omega (arith, h, k));
+  stops = λ h. subst (λ (l : List ℕ). 0 < end_size l) (drop-drop end start input)
+      (e.stops (omega (arith, h, length-drop start input)));
+}

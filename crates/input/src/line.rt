@@ -1,8 +1,8 @@
-// The lines of a text.
+// The lines of a text, and where one ends and the next begins.
 ghost use Rattle.std.specs.Prelude.{◌≤◌, ◌≡◌, length};
 ghost use Rattle.std.specs.Iterator.{YieldsFirstRef, item_count};
 ghost use Rattle.input.specs.Lines.{lines};
-ghost use Rattle.input.specs.Ends.{end_size, Ends};
+ghost use Rattle.input.specs.Ends.{end_size, Ends, after_end};
 ghost use Rattle.input.specs.Left.{lines_left};
 
 // The lines of a text that are left.
@@ -31,7 +31,7 @@ impl<'a> Iterator for Lines<'a> {
         if self.rest.is_empty() {
             return None;
         }
-        let (line, rest) = self.rest.split_at(line_end(self.rest));
+        let (line, rest) = self.rest.split_at(first_end(self.rest));
         self.rest = &rest[end_size(rest)..];
         Some(line)
     }
@@ -53,7 +53,7 @@ fn end_size(bytes: &[u8]) -> usize
 const LAST_OF_ENDS: u8 = b'\r';
 
 // Where the first end stands, or the text's length where there is none.
-fn line_end(text: &[u8]) -> usize
+fn first_end(text: &[u8]) -> usize
     ensures { Ends text.now 0 result }
 {
     for (end, byte) in text.iter().enumerate() {
@@ -62,4 +62,20 @@ fn line_end(text: &[u8]) -> usize
         }
     }
     text.len()
+}
+
+// The place of the next end from a place on, or the input's length where none stands there.
+pub fn line_end(input: &[u8], start: usize) -> usize
+    requires { start ≤ length input.now }
+    ensures { Ends input.now start result }
+{
+    start + first_end(&input[start..])
+}
+
+// The place where the line after an end begins.
+pub fn next_line(input: &[u8], end: usize) -> usize
+    requires { end ≤ length input.now }
+    ensures { result ≡ after_end input.now end }
+{
+    end + end_size(&input[end..])
 }

@@ -11,7 +11,7 @@ ghost use Rattle.reporting.specs.Print.{reading_outcome, reported, picked};
 ghost use Rattle.printing.specs.Printing.{Prints};
 ghost use Rattle.picker.specs.Promise.{Picks};
 
-use input::line::Lines;
+use input::line::{Lines, next_line};
 use printing::print::Printer;
 use printing::report::{refusal_line, too_long_line};
 use reader::read;
@@ -40,12 +40,12 @@ fn report_lines(input: &[u8], out: &mut [u8]) -> usize
     let mut list = [0u8; RECORD_SIZE * MOST_RECORDS];
     match read(expression, &mut list) {
         Ok(read) => {
-            let bytes = input.len() - expression.len();
+            let bytes = input.len() - next_line(input, expression.len());
             list_texts(&list[..RECORD_SIZE * read.records], bytes, lines, out)
         }
         Err(refused) => {
             let mut printer = Printer::new(out);
-            refusal_line(&mut printer, refused);
+            refusal_line(&mut printer, refused.refusal.number(), refused.place);
             printer.at
         }
     }

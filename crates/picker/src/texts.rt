@@ -54,8 +54,11 @@ fn tables_texts(rows: &[u64], pieces: usize, bytes: usize, lines: Lines, out: &m
         → Prints out.old 0 (text_lines (matches []) t 0 0 (lines_left lines.entry)) out.new result }
 {
     let mut table = [0u16; TABLE_ENTRIES];
-    let made = make_if_paying(rows, pieces, b"", bytes, LARGE_ROOM, &mut table);
-    texts(made, rows, pieces, lines, out)
+    if make_if_paying(rows, pieces, b"", bytes, LARGE_ROOM, &mut table) {
+        texts(Some(&table), rows, pieces, lines, out)
+    } else {
+        texts(None, rows, pieces, lines, out)
+    }
 }
 
 // Prints a line for each text, by an expression's list, whose rows are made once, and the last line.

@@ -22,7 +22,7 @@ returns-then-is_empty-clause-steps c =
 pub returns-clause-steps : goal.returns-clause-steps
 returns-clause-steps c =
     let cut = c.split_at.ensures in
-    one_line _ _ _ _ _ c.line_end.ensures (grind (arith, nat_tests)) cut.front cut.back c.end_size.ensures.size
+    one_line _ _ _ _ _ c.first_end.ensures (grind (arith, nat_tests)) cut.front cut.back c.end_size.ensures.size
 
 pub returns-clause-goes : goal.returns-clause-goes
 returns-clause-goes c = record {
