@@ -45,7 +45,7 @@ fn put_mark(printer: &mut Printer, byte: u8, marked: u8)
     requires { HasRoom printer.old (length (mark_at marked byte)) }
     ensures { Puts printer.old (mark_at marked byte) printer.new }
 {
-    printer.put(&[marked]);
+    printer.put_byte(marked);
     put_spaces(printer, shown_width(byte) - 1);
 }
 

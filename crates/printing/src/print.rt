@@ -1,5 +1,5 @@
 // Bytes and numbers printed into a buffer, one after the other.
-ghost use Rattle.std.specs.Prelude.{◌≡◌, length};
+ghost use Rattle.std.specs.Prelude.{[], ◌∷◌, ◌≡◌, length};
 ghost use Rattle.printing.specs.Digits.{digits};
 ghost use Rattle.printing.specs.Printer.{HasRoom, Puts};
 
@@ -29,6 +29,15 @@ impl<'a> Printer<'a> {
         self.at = end;
     }
 
+    // Prints one byte: it is stored, where `put` would call for a copy.
+    pub fn put_byte(&mut self, byte: u8)
+        requires { HasRoom self.old 1 }
+        ensures { Puts self.old (byte ∷ []) self.new }
+    {
+        self.out[self.at] = byte;
+        self.at += 1;
+    }
+
     // Prints a number in decimal digits, those of its tenth before its last.
     pub fn put_number(&mut self, n: usize)
         requires { HasRoom self.old (length (digits n)) }
@@ -37,6 +46,6 @@ impl<'a> Printer<'a> {
         if n >= 10 {
             self.put_number(n / 10);
         }
-        self.put(&[b'0' + (n % 10) as u8]);
+        self.put_byte(b'0' + (n % 10) as u8);
     }
 }

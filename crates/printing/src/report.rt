@@ -1,12 +1,10 @@
 // The lines of the output.
 ghost use Rattle.std.specs.Prelude.{◌≤◌, length};
-ghost use Rattle.tree.specs.Refusing.{refusal_number};
 ghost use Rattle.printing.specs.ReportLines.{text_line, total_line, refused_at, refusal_line, too_long_line};
 ghost use Rattle.printing.specs.Printing.{Prints};
 ghost use Rattle.printing.specs.Printer.{HasRoom, Puts};
 
 use crate::print::Printer;
-use tree::refusal::Refused;
 
 // Prints the line of a text: its number, `yes` and its rank, or `no`.
 pub fn text_line(printer: &mut Printer, yes: bool, number: usize, rank: usize)
@@ -17,31 +15,29 @@ pub fn text_line(printer: &mut Printer, yes: bool, number: usize, rank: usize)
     if yes {
         printer.put(b" yes ");
         printer.put_number(rank);
-        printer.put(b"\n");
+        printer.put_byte(b'\n');
     } else {
         printer.put(b" no -\n");
     }
 }
 
-// Prints a refusal: its number, and its place.
-pub fn put_refused(printer: &mut Printer, refused: Refused)
-    requires { HasRoom printer.old
-        (length (refused_at (refusal_number refused.refusal) refused.place)) }
-    ensures { Puts printer.old (refused_at (refusal_number refused.refusal) refused.place) printer.new }
+// Prints a refusal: its number, and its place. Any number is printed, as the definition has it.
+pub fn put_refused(printer: &mut Printer, number: u8, place: usize)
+    requires { HasRoom printer.old (length (refused_at number place)) }
+    ensures { Puts printer.old (refused_at number place) printer.new }
 {
     printer.put(b"refused ");
-    printer.put_number(usize::from(refused.refusal.number()));
+    printer.put_number(usize::from(number));
     printer.put(b" at ");
-    printer.put_number(refused.place);
+    printer.put_number(place);
 }
 
 // Prints the only line for an expression that is refused.
-pub fn refusal_line(printer: &mut Printer, refused: Refused)
-    requires { HasRoom printer.old
-        (length (refusal_line (refusal_number refused.refusal) refused.place)) }
-    ensures { Puts printer.old (refusal_line (refusal_number refused.refusal) refused.place) printer.new }
+pub fn refusal_line(printer: &mut Printer, number: u8, place: usize)
+    requires { HasRoom printer.old (length (refusal_line number place)) }
+    ensures { Puts printer.old (refusal_line number place) printer.new }
 {
-    put_refused(printer, refused);
+    put_refused(printer, number, place);
     printer.put(b"\n");
 }
 

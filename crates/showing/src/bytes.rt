@@ -35,7 +35,7 @@ pub fn put_byte(printer: &mut Printer, byte: u8)
     ensures { Puts printer.old (shown_byte byte) printer.new }
 {
     if printable(byte) {
-        printer.put(&[byte]);
+        printer.put_byte(byte);
     } else {
         printer.put(&[b'\\', b'x', hex_digit(byte / 16), hex_digit(byte % 16)]);
     }
@@ -57,6 +57,6 @@ pub fn put_spaces(printer: &mut Printer, count: usize)
     ensures { Puts printer.old (spaces count) printer.new }
 {
     for _ in 0..count {
-        printer.put(b" ");
+        printer.put_byte(b' ');
     }
 }

@@ -10,4 +10,4 @@ overflow_sub-shown_width c = omega (arith, (wide c.args.byte).some)
 
 pub returns : goal.returns
 unfolding mark_at
-returns c = rw (← c.shown_width.ensures) (puts_join c.put.ensures c.put_spaces.ensures)
+returns c = rw (← c.shown_width.ensures) (puts_join c.put_byte.ensures c.put_spaces.ensures)

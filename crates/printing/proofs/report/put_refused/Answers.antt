@@ -4,5 +4,5 @@ use Rattle.printing.proofs.report.put_refused.Goals as goal
 
 pub returns : goal.returns
 returns c =
-    rw (← c.number.ensures, ← c.from.ensures)
+    rw (← c.from.ensures)
     (puts_join (puts_join (puts_join c.put.ensures c.put_number.ensures) c.put-2.ensures) c.put_number-2.ensures)

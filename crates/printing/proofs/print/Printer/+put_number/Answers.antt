@@ -12,8 +12,8 @@ put_number-requires t c = (
   omega (arith, large_room c.args.self.now.out.now c.args.self.now.at c.args.n c.requires (omega arith)),
 )
 
-pub put-requires : goal.put-requires
-put-requires t c =
+pub put_byte-requires : goal.put_byte-requires
+put_byte-requires t c =
     elim c.if-n-ge10.branch [
       | then-n-ge10 w ↦
           rw w.self-is
@@ -28,8 +28,8 @@ returns t c =
     elim c.if-n-ge10.branch [
       | then-n-ge10 w ↦
           puts_large c.args.self.now c.args.n c.requires w.if-n-ge10.true w.put_number.ensures
-          (rw w.self-is at c.put.ensures)
+          (rw w.self-is at c.put_byte.ensures)
       | else-n-ge10 w ↦
           let small : c.args.n % 10 ≡ c.args.n = mod-eq_of_lt w.if-n-ge10.false in
-          puts_small c.args.self.now c.args.n c.requires w.if-n-ge10.false (rw (w.self-is, small) at c.put.ensures)
+          puts_small c.args.self.now c.args.n c.requires w.if-n-ge10.false (rw (w.self-is, small) at c.put_byte.ensures)
     ]
