@@ -6,17 +6,16 @@ mod date;
 mod trial;
 
 use date::dates;
-use std::alloc::Global;
 use std::io;
 use streams::read_input;
 use trial::trial;
 
 // Tries each line's expression; what the first picks is listed.
-fn each_line(rt: &impl Print, alloc: Global, input: &[u8]) -> io::Result<()> {
-    let dates = dates(alloc)?;
+fn each_line(rt: &impl Print, input: &[u8]) -> io::Result<()> {
+    let dates = dates();
     for (i, line) in input.split_inclusive(|byte| *byte == b'\n').enumerate() {
         let expr = line.strip_suffix(b"\n").unwrap_or(line);
-        trial(rt, alloc, expr, &dates, i == 0)?;
+        trial(rt, expr, &dates, i == 0)?;
     }
     Ok(())
 }
@@ -25,5 +24,5 @@ fn main(rt: HostRuntime) -> io::Result<()> {
     let mut stdin = rt.stdin();
     let mut input = [0u8; 65536];
     let count = read_input(&mut stdin, &mut input)?;
-    each_line(&rt, rt.alloc(), &input[..count])
+    each_line(&rt, &input[..count])
 }

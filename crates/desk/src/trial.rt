@@ -1,6 +1,5 @@
 // One expression on dates and on texts that are none.
-use crate::date::{Date, changed};
-use std::alloc::Global;
+use crate::date::{DATE_COUNT, Date, changed};
 use std::io;
 use tree::layout::RECORD_SIZE;
 use tree::limits::MOST_RECORDS;
@@ -40,43 +39,55 @@ fn say_texts(rt: &impl Print, list: &[u8], texts: &[&str]) -> io::Result<()> {
     println!(rt;)
 }
 
+// Of each date its place among those that are picked, from 1; 0 of a date that is not picked.
+fn places_of(list: &[u8], dates: &[Date; DATE_COUNT]) -> [usize; DATE_COUNT] {
+    let mut places = [0; DATE_COUNT];
+    let mut picked: usize = 0;
+    for (place, date) in places.iter_mut().zip(dates) {
+        if picks(list, date) {
+            picked = picked.saturating_add(1);
+            *place = picked;
+        }
+    }
+    places
+}
+
 // A line for each date that was picked, with its place among them.
-fn list_dates(rt: &impl Print, picked: &[Date]) -> io::Result<()> {
-    for (place, date) in (1u64..).zip(picked) {
-        print!(rt; "{place} ")?;
-        rt.write_all(date)?;
-        println!(rt;)?;
+fn list_dates(rt: &impl Print, dates: &[Date], places: &[usize]) -> io::Result<()> {
+    for (date, place) in dates.iter().zip(places) {
+        if *place > 0 {
+            print!(rt; "{place} ")?;
+            rt.write_all(date)?;
+            println!(rt;)?;
+        }
     }
     Ok(())
 }
 
-// The place of a date among those that are picked, from 1; 0 for a date that is not picked.
-fn place_of(date: &Date, picked: &[Date]) -> usize {
-    picked
+// The place of a date among those that are picked; 0 for a date that is not picked.
+fn place_of(date: &Date, dates: &[Date], places: &[usize]) -> usize {
+    dates
         .iter()
         .position(|other| other == date)
-        .map_or(0, |i| i + 1)
+        .and_then(|i| places.get(i))
+        .copied()
+        .unwrap_or(0)
 }
 
 // All dates: how many are picked, and the places of 29 February and 1 March.
 fn say_dates(
     rt: &impl Print,
-    alloc: Global,
     list: &[u8],
-    dates: &[Date],
+    dates: &[Date; DATE_COUNT],
     listed: bool,
 ) -> io::Result<()> {
-    let picked: Vec<Date> = dates
-        .iter()
-        .copied()
-        .filter(|date| picks(list, date))
-        .collect(alloc)?;
+    let places = places_of(list, dates);
     if listed {
-        list_dates(rt, &picked)?;
+        list_dates(rt, dates, &places)?;
     }
-    let count = picked.len();
-    let leap_day = place_of(b"02-29", &picked);
-    let next_day = place_of(b"03-01", &picked);
+    let count = places.iter().filter(|place| **place > 0).count();
+    let leap_day = place_of(b"02-29", dates, &places);
+    let next_day = place_of(b"03-01", dates, &places);
     println!(rt; "{count} of 366 dates, 02-29 is {leap_day}, 03-01 is {next_day}")
 }
 
@@ -95,13 +106,12 @@ fn say_changed(rt: &impl Print, list: &[u8], dates: &[Date], bit: u8) -> io::Res
 // Tries a list on everything, the dates that matter most first.
 fn try_list(
     rt: &impl Print,
-    alloc: Global,
     list: &[u8],
-    dates: &[Date],
+    dates: &[Date; DATE_COUNT],
     listed: bool,
 ) -> io::Result<()> {
     say_texts(rt, list, &END_OF_FEBRUARY)?;
-    say_dates(rt, alloc, list, dates, listed)?;
+    say_dates(rt, list, dates, listed)?;
     say_texts(rt, list, &NO_DATES)?;
     say_changed(rt, list, dates, LOWEST_BIT)?;
     println!(rt; "of 366 with the lowest bit of a byte changed")?;
@@ -112,16 +122,15 @@ fn try_list(
 // Reads an expression and tries it; lists what dates it picks where that is asked.
 pub fn trial(
     rt: &impl Print,
-    alloc: Global,
     expr: &[u8],
-    dates: &[Date],
+    dates: &[Date; DATE_COUNT],
     listed: bool,
 ) -> io::Result<()> {
-    let mut list = vec![in alloc; 0u8; RECORD_SIZE * MOST_RECORDS]?;
+    let mut list = [0u8; RECORD_SIZE * MOST_RECORDS];
     let Ok(read) = reader::read(expr, &mut list) else {
         return println!(rt; "refused");
     };
-    list.truncate(RECORD_SIZE.saturating_mul(read.records));
     println!(rt; "{} pieces", read.pieces)?;
-    try_list(rt, alloc, &list, dates, listed)
+    let size = RECORD_SIZE.saturating_mul(read.records).min(list.len());
+    try_list(rt, &list[..size], dates, listed)
 }

@@ -13,5 +13,5 @@ fn main(rt: HostRuntime) -> io::Result<()> {
     let mut stdin = rt.stdin();
     let mut input = [0u8; 65536];
     let count = read_input(&mut stdin, &mut input)?;
-    rows::each_row(&rt, rt.alloc(), &input[..count])
+    rows::each_row(&rt, &input[..count])
 }

@@ -1,7 +1,6 @@
 // The rows of the table, a case each.
 use crate::calls;
-use fields::{Row, number};
-use std::alloc::Global;
+use fields::{MOST_BYTES, MOST_FIELDS, Row, number};
 use std::io;
 use tree::limits::MOST_PIECES;
 
@@ -74,8 +73,10 @@ fn numbers_of(field: &[u8]) -> [u64; MOST_NUMBERS] {
 
 // Tries the case of a line. Its fields: by what it calls, and the letter of the call; what is printed first; the expression or
 // the list; the text; numbers; the classes of a list.
-fn try_case(rt: &impl Print, alloc: Global, line: &[u8]) -> io::Result<()> {
-    let row = Row::parse(alloc, line)?;
+fn try_case(rt: &impl Print, line: &[u8]) -> io::Result<()> {
+    let mut bytes = [0u8; MOST_BYTES];
+    let mut ends = [0usize; MOST_FIELDS];
+    let row = Row::parse(line, &mut bytes, &mut ends);
     let [by, call, ..] = row.field(0) else {
         return Ok(());
     };
@@ -88,14 +89,14 @@ fn try_case(rt: &impl Print, alloc: Global, line: &[u8]) -> io::Result<()> {
         classes: row.field(5),
     };
     rt.write_all(row.field(1))?;
-    calls::call(rt, alloc, &case)?;
+    calls::call(rt, &case)?;
     rt.write_all(b"\n")
 }
 
 // Each line's case.
-pub fn each_row(rt: &impl Print, alloc: Global, input: &[u8]) -> io::Result<()> {
+pub fn each_row(rt: &impl Print, input: &[u8]) -> io::Result<()> {
     for line in input.split_inclusive(|byte| *byte == b'\n') {
-        try_case(rt, alloc, line.strip_suffix(b"\n").unwrap_or(line))?;
+        try_case(rt, line.strip_suffix(b"\n").unwrap_or(line))?;
     }
     Ok(())
 }

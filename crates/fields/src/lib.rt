@@ -2,14 +2,14 @@
 // `;` are as many more of the byte before them.
 #![tactic(auto)]
 
-ghost use Rattle.std.specs.Prelude.{◌≡◌, ◌<◌, ◌≤◌, length, vec_len, IfOk};
+ghost use Rattle.std.specs.Prelude.{◌≡◌, ◌<◌, ◌≤◌, length, None};
 ghost use Rattle.std.specs.Option.{ForSome};
 ghost use Rattle.fields.specs.Number.{digit_value, spelled};
 
-use std::alloc::{AllocError, Global};
+// How many bytes the fields of a row have at most, and how many fields: what is past them is left out.
+pub const MOST_BYTES: usize = 66000;
 
-// How many bytes the fields of a row have at most: those past them are left out.
-const MOST_BYTES: usize = 66000;
+pub const MOST_FIELDS: usize = 6;
 
 // A number as large takes no more digits.
 const LARGE: u64 = 1000000000000;
@@ -42,6 +42,7 @@ pub fn number(digits: &[u8]) -> u64
 // a field.
 fn part_size(line: &[u8]) -> Option<usize>
     ensures some { ForSome result (λ size. 0 < size) }
+    ensures none { result ≡ None → length line.now ≡ 0 }
     ensures within { ForSome result (λ size. size ≤ length line.now) }
 {
     let size = match line.first()? {
@@ -55,67 +56,103 @@ fn part_size(line: &[u8]) -> Option<usize>
     Some(size.min(line.len()))
 }
 
-// A row: the bytes of its fields, one behind the other, and where each field ends.
+// A row: the bytes of its fields, one behind the other, and where each field ends. They stand in lent buffers, so that no
+// row can fail for want of memory; what has no room there is left out.
 #[derive(Drop)]
-pub struct Row {
-    bytes: Vec<u8>,
-    ends: Vec<usize>,
+pub struct Row<'a> {
+    bytes: &'a mut [u8],
+    // How many bytes there are.
+    size: usize,
+    ends: &'a mut [usize],
+    // How many fields there are.
+    count: usize,
 }
 
-impl Row {
+impl<'a> Row<'a> {
     // The row of a line: each part says how long it is, so this goes from part to part.
-    pub fn parse(alloc: Global, line: &[u8]) -> Result<Row, AllocError>
-        ensures { IfOk result (λ row. vec_len row.bytes ≤ MOST_BYTES) }
+    pub fn parse(line: &[u8], bytes: &'a mut [u8], ends: &'a mut [usize]) -> Row<'a>
+        ensures { result.size ≤ length result.bytes.now }
     {
         let mut row = Row {
-            bytes: Vec::new(alloc),
-            ends: Vec::new(alloc),
+            bytes,
+            size: 0,
+            ends,
+            count: 0,
         };
         let mut rest = line;
         while let Some(size) = part_size(rest) {
             let (part, after) = rest.split_at(size);
-            row.put(part)?;
+            row.put(part);
             rest = after;
         }
-        row.ends.push(row.bytes.len())?;
-        Ok(row)
+        row.end_field();
+        row
     }
 
     // Puts what a part stands for.
-    fn put(&mut self, part: &[u8]) -> Result<(), AllocError>
-        requires { vec_len self.old.bytes ≤ MOST_BYTES }
-        ensures { vec_len self.new.bytes ≤ MOST_BYTES }
+    fn put(&mut self, part: &[u8])
+        requires { self.old.size ≤ length self.old.bytes.now }
+        ensures { self.new.size ≤ length self.new.bytes.now }
     {
         match part {
-            [b'\t'] => Ok(self.ends.push(self.bytes.len())?),
+            [b'\t'] => self.end_field(),
             [byte] => self.put_bytes(*byte, 1),
             [b'%', high, low] => self.put_bytes(digit(*high) << 4 | digit(*low), 1),
             [_, digits @ .., _] => {
-                let last = self.bytes.last().copied().unwrap_or(0);
-                self.put_bytes(last, number(digits) as usize)
+                let last = self.last();
+                self.put_bytes(last, number(digits) as usize);
             }
-            [] => Ok(()),
+            [] => (),
+        }
+    }
+
+    // The last byte, 0 where there is none.
+    fn last(&self) -> u8 {
+        match self.size.checked_sub(1) {
+            Some(place) => self.bytes.get(place).copied().unwrap_or(0),
+            None => 0,
         }
     }
 
     // Puts so many of a byte, as far as there is room.
-    fn put_bytes(&mut self, byte: u8, count: usize) -> Result<(), AllocError>
-        requires { vec_len self.old.bytes ≤ MOST_BYTES }
-        ensures { vec_len self.new.bytes ≤ MOST_BYTES }
+    fn put_bytes(&mut self, byte: u8, count: usize)
+        requires { self.old.size ≤ length self.old.bytes.now }
+        ensures { self.new.size ≤ length self.new.bytes.now }
     {
-        let size = self.bytes.len().saturating_add(count).min(MOST_BYTES);
-        self.bytes.resize(size, byte)
+        let size = self.size.saturating_add(count).min(self.bytes.len());
+        self.bytes[self.size..size].fill(byte);
+        self.size = size;
+    }
+
+    // Ends a field, where there is room for one more.
+    fn end_field(&mut self)
+        requires { self.old.size ≤ length self.old.bytes.now }
+        ensures { self.new.size ≤ length self.new.bytes.now }
+    {
+        if let Some(end) = self.ends.get_mut(self.count) {
+            *end = self.size;
+            self.count += 1;
+        }
+    }
+
+    // Where a field ends, 0 where there is none.
+    fn end_of(&self, number: usize) -> usize {
+        if number < self.count {
+            self.ends.get(number).copied().unwrap_or(0)
+        } else {
+            0
+        }
     }
 
     // A field by its number, from 0: it is empty where there is none.
     pub fn field(&self, number: usize) -> &[u8]
-        ensures { length result.now ≤ vec_len self.now.bytes }
+        ensures { length result.now ≤ length self.now.bytes.now }
     {
         let start = match number.checked_sub(1) {
-            Some(before) => self.ends.get(before).copied().unwrap_or(0),
+            Some(before) => self.end_of(before),
             None => 0,
         };
-        let end = self.ends.get(number).copied().unwrap_or(0);
+        let end = self.end_of(number);
         self.bytes.get(start..end).unwrap_or(b"")
     }
 }
@@ -127,7 +164,9 @@ mod tests {
 
     #[test]
     fn fields_of_a_row(rt: HostRuntime) -> Result<(), Fail> {
-        let row = Row::parse(rt.alloc(), b"1r\ta%2ab\t(~3;~;x")?;
+        let mut bytes = [0u8; MOST_BYTES];
+        let mut ends = [0usize; MOST_FIELDS];
+        let row = Row::parse(b"1r\ta%2ab\t(~3;~;x", &mut bytes, &mut ends);
         assert_eq!(rt; row.field(0), b"1r".as_slice());
         assert_eq!(rt; row.field(1), b"a*b".as_slice());
         assert_eq!(rt; row.field(2), b"((((x".as_slice());
