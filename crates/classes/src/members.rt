@@ -14,16 +14,15 @@ pub fn set_range(members: &mut [u8], first: usize, last: usize, value: u8)
     members[first..=last].fill(value);
 }
 
-// Eight numbers as a byte, the first at the low end.
+// Eight numbers as a byte, the first at the low end: in one expression, since a loop over them costs each class record
+// a quarter more.
 fn eight(members: &[u8], at: usize) -> u8
     requires { (at + 8 ≤ value_count) × ZeroOrOne members.now }
     ensures { result ≡ eight_of members.now at }
 {
-    let mut byte = 0;
-    for i in (0..8).rev() {
-        byte = 2 * byte + members[at + i];
-    }
-    byte
+    let high = members[at + 4]
+        + 2 * (members[at + 5] + 2 * (members[at + 6] + 2 * members[at + 7]));
+    members[at] + 2 * (members[at + 1] + 2 * (members[at + 2] + 2 * (members[at + 3] + 2 * high)))
 }
 
 // Writes a class record: value v at bit v % 8 of byte v / 8.

@@ -12,7 +12,11 @@ pub fn cut_left(l: u16, r: u16) -> bool
     requires { (l ≤ most_nodes) × (r ≤ most_nodes) }
     ensures { result ≡ cut_left l r }
 {
-    MOST_NODES < 1 + l + r && (r <= l || MOST_NODES < 1 + l)
+    // Nearly every node ends here: in one expression with what follows, all of it is worked out for each node.
+    if 1 + l + r <= MOST_NODES {
+        return false;
+    }
+    r <= l || MOST_NODES < 1 + l
 }
 
 // Whether the right child is cut off: it is the larger where the two pass 15.
@@ -20,7 +24,10 @@ pub fn cut_right(l: u16, r: u16) -> bool
     requires { (l ≤ most_nodes) × (r ≤ most_nodes) }
     ensures { result ≡ cut_right l r }
 {
-    MOST_NODES < 1 + l + r && (l < r || MOST_NODES < 1 + r)
+    if 1 + l + r <= MOST_NODES {
+        return false;
+    }
+    l < r || MOST_NODES < 1 + r
 }
 
 // 1 for a cut edge.

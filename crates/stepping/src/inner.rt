@@ -40,12 +40,15 @@ pub fn prepare(list: &[u8], cuts: &[u16], count: usize, rows: &mut [u64])
     plan(list, cuts, count, rows);
 }
 
-// Puts the first `count` words of one slice in the place of those of another.
+// Puts the first `count` words of one slice in the place of those of another. A search does so at each start, mostly for
+// one word: the library's copy of a slice calls for each.
 pub fn copy(from: &[u64], count: usize, to: &mut [u64])
     requires { (count ≤ length from.now) × (count ≤ length to.old) }
     ensures { to.new ≡ take count from.now ++ drop count to.old }
 {
-    to[..count].copy_from_slice(&from[..count]);
+    for i in 0..count {
+        to[i] = from[i];
+    }
 }
 
 // What is told of the marks: whether the root's accepting state is among them, and whether nothing is left. Two flags,
