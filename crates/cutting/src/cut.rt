@@ -12,11 +12,7 @@ pub fn cut_left(l: u16, r: u16) -> bool
     requires { (l ≤ most_nodes) × (r ≤ most_nodes) }
     ensures { result ≡ cut_left l r }
 {
-    // Nearly every node ends here: in one expression with what follows, all of it is worked out for each node.
-    if 1 + l + r <= MOST_NODES {
-        return false;
-    }
-    r <= l || MOST_NODES < 1 + l
+    MOST_NODES < 1 + l + r && (r <= l || MOST_NODES < 1 + l)
 }
 
 // Whether the right child is cut off: it is the larger where the two pass 15.
@@ -24,10 +20,19 @@ pub fn cut_right(l: u16, r: u16) -> bool
     requires { (l ≤ most_nodes) × (r ≤ most_nodes) }
     ensures { result ≡ cut_right l r }
 {
+    MOST_NODES < 1 + l + r && (l < r || MOST_NODES < 1 + r)
+}
+
+// Which children are cut off, the left or only one first. Nearly every node is in one piece with both: there one test is
+// enough.
+pub fn cut_off(l: u16, r: u16) -> (bool, bool)
+    requires { (l ≤ most_nodes) × (r ≤ most_nodes) }
+    ensures { (result.0 ≡ cut_left l r) × (result.1 ≡ cut_right l r) }
+{
     if 1 + l + r <= MOST_NODES {
-        return false;
+        return (false, false);
     }
-    l < r || MOST_NODES < 1 + r
+    (cut_left(l, r), cut_right(l, r))
 }
 
 // 1 for a cut edge.
@@ -56,7 +61,8 @@ pub fn open_size(l: u16, r: u16) -> u16
     requires { (l ≤ most_nodes) × (r ≤ most_nodes) }
     ensures { result ≡ open_sum l r }
 {
-    1 + kept_size(cut_left(l, r), l) + kept_size(cut_right(l, r), r)
+    let (left, right) = cut_off(l, r);
+    1 + kept_size(left, l) + kept_size(right, r)
 }
 
 // The cut edges at and below a node.
@@ -65,5 +71,6 @@ pub fn cut_count(l: u16, r: u16, below_left: u16, below_right: u16) -> u16
     requires below_right_bound { below_left + below_right < 65000 }
     ensures { result ≡ cut_sum l r below_left below_right }
 {
-    one_if(cut_left(l, r)) + below_left + (one_if(cut_right(l, r)) + below_right)
+    let (left, right) = cut_off(l, r);
+    one_if(left) + below_left + (one_if(right) + below_right)
 }

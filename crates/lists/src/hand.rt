@@ -5,7 +5,7 @@ ghost use Rattle.tree.specs.Limits.{most_labels};
 ghost use Rattle.cutting.specs.Measured.{Postorder, RoomToMeasure, Measured};
 ghost use Rattle.lists.specs.Handed.{Pieced};
 
-use cutting::cut::{cut_left, cut_right, one_if, piece_below};
+use cutting::cut::{cut_off, one_if, piece_below};
 use cutting::slots::{left_slot, right_slot};
 
 // A parent comes after its children, so going backwards its slots are filled when it hands on to theirs. The new pieces
@@ -34,8 +34,7 @@ pub fn hand_down(
         let left = left_slot(labels[i], i, sizes[right]);
         let left_open = opens[left];
         let right_open = opens[right];
-        let left_off = cut_left(left_open, right_open);
-        let right_off = cut_right(left_open, right_open);
+        let (left_off, right_off) = cut_off(left_open, right_open);
         let past_left = one_if(left_off) + cuts[left] + new;
         pieces[left] = piece_below(left_off, own, new);
         pieces[right] = piece_below(right_off, own, past_left);

@@ -38,33 +38,29 @@ left_slot-left-requires c =
     (omega arith)
     (less.sized c.requires.postorder.tree c.requires.postorder.same) c.right_slot-right.ensures.0
 
-pub cut_left-left_off-requires : goal.cut_left-left_off-requires
-cut_left-left_off-requires c =
-    let few = small (goal.at.cut_left-left_off-requires c).After-left_slot-left in (few.left_le, few.right_le)
-
-pub cut_right-right_off-requires : goal.cut_right-right_off-requires
-cut_right-right_off-requires c =
-    let few = small (goal.at.cut_right-right_off-requires c).After-left_slot-left in (few.left_le, few.right_le)
+pub cut_off-left_off-requires : goal.cut_off-left_off-requires
+cut_off-left_off-requires c =
+    let few = small (goal.at.cut_off-left_off-requires c).After-left_slot-left in (few.left_le, few.right_le)
 
 pub overflow_add-past_left : goal.overflow_add-past_left
 overflow_add-past_left c =
     let few = small (goal.at.overflow_add-past_left c).After-left_slot-left in
-    omega (arith, few.all_new, ap one c.cut_left-left_off.ensures, ap one c.cut_right-right_off.ensures)
+    omega (arith, few.all_new, ap one c.cut_off-left_off.ensures.0, ap one c.cut_off-left_off.ensures.1)
 
 pub overflow_add-past_left-in-loop-i : goal.overflow_add-past_left-in-loop-i
 overflow_add-past_left-in-loop-i c =
     let few = small (goal.at.overflow_add-past_left-in-loop-i c).After-left_slot-left in
-    omega (arith, few.all_new, ap one c.cut_left-left_off.ensures, ap one c.cut_right-right_off.ensures)
+    omega (arith, few.all_new, ap one c.cut_off-left_off.ensures.0, ap one c.cut_off-left_off.ensures.1)
 
 pub overflow_add-news : goal.overflow_add-news
 overflow_add-news c =
     let few = small (goal.at.overflow_add-news c).After-left_slot-left in
-    omega (arith, few.all_new, ap one c.cut_left-left_off.ensures, ap one c.cut_right-right_off.ensures)
+    omega (arith, few.all_new, ap one c.cut_off-left_off.ensures.0, ap one c.cut_off-left_off.ensures.1)
 
 pub overflow_add-news-in-loop-i : goal.overflow_add-news-in-loop-i
 overflow_add-news-in-loop-i c =
     let few = small (goal.at.overflow_add-news-in-loop-i c).After-left_slot-left in
-    omega (arith, few.all_new, ap one c.cut_left-left_off.ensures, ap one c.cut_right-right_off.ensures)
+    omega (arith, few.all_new, ap one c.cut_off-left_off.ensures.0, ap one c.cut_off-left_off.ensures.1)
 
 pub loop-i-preserved : goal.loop-i-preserved
 loop-i-preserved c =
@@ -73,12 +69,12 @@ loop-i-preserved c =
     c.loop-i.pieces c.loop-i.news refl (omega arith) c.requires.measured
     (handed (goal.at.loop-i-preserved c).After-left_slot-left)
     c.right_slot-right.ensures.0 c.left_slot-left.ensures.0
-    c.cut_left-left_off.result c.cut_right-right_off.result c.piece_below.result
+    c.cut_off-left_off.result.0 c.cut_off-left_off.result.1 c.piece_below.result
     c.piece_below-in-loop-i.result
     c.one_if.result c.one_if-in-loop-i.result c.one_if-in-loop-i-2.result
     (omega (arith, length-set {A = ℕ})) (omega (arith, length-set {A = ℕ})) c.left_slot-left.ensures.1 c.right_slot-right.ensures.1
-    c.cut_left-left_off.ensures
-    c.cut_right-right_off.ensures
+    c.cut_off-left_off.ensures.0
+    c.cut_off-left_off.ensures.1
     c.one_if.ensures c.one_if-in-loop-i.ensures
     c.one_if-in-loop-i-2.ensures
     c.piece_below.ensures c.piece_below-in-loop-i.ensures
