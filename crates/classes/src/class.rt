@@ -86,7 +86,9 @@ fn item(expr: &[u8], at: usize) -> Option<ClassItem>
     })
 }
 
-// Reads what stands where an item is due, after `count` items.
+// Reads what stands where an item is due, after `count` items. It is put into its callers, so that what it finds is not
+// copied once more.
+#[inline(always)]
 fn due(expr: &[u8], at: usize, count: usize) -> Option<Due>
     requires { at ≤ length expr.now }
     ensures { DueAnswer expr.now at count result }

@@ -14,8 +14,7 @@ pub fn set_range(members: &mut [u8], first: usize, last: usize, value: u8)
     members[first..=last].fill(value);
 }
 
-// Eight numbers as a byte, the first at the low end: in one expression, since a loop over them costs each class record
-// a quarter more.
+// Eight numbers as a byte, the first at the low end.
 fn eight(members: &[u8], at: usize) -> u8
     requires { (at + 8 ≤ value_count) × ZeroOrOne members.now }
     ensures { result ≡ eight_of members.now at }
