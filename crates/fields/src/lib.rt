@@ -71,7 +71,8 @@ pub struct Row<'a> {
 impl<'a> Row<'a> {
     // The row of a line: each part says how long it is, so this goes from part to part.
     pub fn parse(line: &[u8], bytes: &'a mut [u8], ends: &'a mut [usize]) -> Row<'a>
-        ensures { result.size ≤ length result.bytes.now }
+        ensures size { result.size ≤ length result.bytes.now }
+        ensures same_length { length result.bytes.now ≡ length bytes.old }
     {
         let mut row = Row {
             bytes,
@@ -92,7 +93,8 @@ impl<'a> Row<'a> {
     // Puts what a part stands for.
     fn put(&mut self, part: &[u8])
         requires { self.old.size ≤ length self.old.bytes.now }
-        ensures { self.new.size ≤ length self.new.bytes.now }
+        ensures size { self.new.size ≤ length self.new.bytes.now }
+        ensures same_length { length self.new.bytes.now ≡ length self.old.bytes.now }
     {
         match part {
             [b'\t'] => self.end_field(),
@@ -117,7 +119,8 @@ impl<'a> Row<'a> {
     // Puts so many of a byte, as far as there is room.
     fn put_bytes(&mut self, byte: u8, count: usize)
         requires { self.old.size ≤ length self.old.bytes.now }
-        ensures { self.new.size ≤ length self.new.bytes.now }
+        ensures size { self.new.size ≤ length self.new.bytes.now }
+        ensures same_length { length self.new.bytes.now ≡ length self.old.bytes.now }
     {
         let size = self.size.saturating_add(count).min(self.bytes.len());
         self.bytes[self.size..size].fill(byte);
@@ -127,7 +130,8 @@ impl<'a> Row<'a> {
     // Ends a field, where there is room for one more.
     fn end_field(&mut self)
         requires { self.old.size ≤ length self.old.bytes.now }
-        ensures { self.new.size ≤ length self.new.bytes.now }
+        ensures size { self.new.size ≤ length self.new.bytes.now }
+        ensures same_length { length self.new.bytes.now ≡ length self.old.bytes.now }
     {
         if let Some(end) = self.ends.get_mut(self.count) {
             *end = self.size;
