@@ -1,6 +1,7 @@
 // Bytes and numbers printed into a buffer, one after the other.
-ghost use Rattle.std.specs.Prelude.{[], ◌∷◌, ◌≡◌, length};
+ghost use Rattle.std.specs.Prelude.{[], ◌∷◌, ◌≡◌, ◌+◌, ◌≤◌, length};
 ghost use Rattle.printing.specs.Digits.{digits};
+ghost use Rattle.printing.specs.Printing.{Prints};
 ghost use Rattle.printing.specs.Printer.{HasRoom, Puts};
 
 // A buffer, and the place in it up to which it is printed.
@@ -38,14 +39,26 @@ impl<'a> Printer<'a> {
         self.at += 1;
     }
 
-    // Prints a number in decimal digits, those of its tenth before its last.
+    // Prints a number in decimal digits.
     pub fn put_number(&mut self, n: usize)
         requires { HasRoom self.old (length (digits n)) }
         ensures { Puts self.old (digits n) self.new }
     {
-        if n >= 10 {
-            self.put_number(n / 10);
-        }
-        self.put_byte(b'0' + (n % 10) as u8);
+        self.at = put_digits(self.out, self.at, n);
     }
+}
+
+// Prints a number in decimal digits at a place, those of its tenth before its last, and answers the place after them. The
+// place is handed on alone: in a printer it would go through memory for each digit.
+fn put_digits(out: &mut [u8], at: usize, n: usize) -> usize
+    requires { at + length (digits n) ≤ length out.old }
+    ensures { Prints out.old at (digits n) out.new result }
+{
+    if n < 10 {
+        out[at] = b'0' + n as u8;
+        return at + 1;
+    }
+    let last = put_digits(out, at, n / 10);
+    out[last] = b'0' + (n % 10) as u8;
+    last + 1
 }
