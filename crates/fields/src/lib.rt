@@ -2,7 +2,7 @@
 // `;` are as many more of the byte before them.
 #![tactic(auto)]
 
-ghost use Rattle.std.specs.Prelude.{◌≡◌, ◌<◌, ◌≤◌, length, None};
+ghost use Rattle.std.specs.Prelude.{ℕ, ◌≡◌, ◌<◌, ◌≤◌, length, get_or, None};
 ghost use Rattle.std.specs.Option.{ForSome};
 ghost use Rattle.fields.specs.Number.{digit_value, spelled};
 
@@ -66,6 +66,8 @@ pub struct Row<'a> {
     ends: &'a mut [usize],
     // How many fields there are.
     count: usize,
+    // Each of them ends within the bytes.
+    ghost within: { (field : ℕ) → field < count → get_or ends.now field 0 ≤ size },
 }
 
 impl<'a> Row<'a> {
@@ -133,14 +135,17 @@ impl<'a> Row<'a> {
         ensures size { self.new.size ≤ length self.new.bytes.now }
         ensures same_length { length self.new.bytes.now ≡ length self.old.bytes.now }
     {
-        if let Some(end) = self.ends.get_mut(self.count) {
-            *end = self.size;
+        // By its place: that the row keeps its fact while one of the ends is lent, as by `get_mut`, is not proved.
+        if self.count < self.ends.len() {
+            self.ends[self.count] = self.size;
             self.count += 1;
         }
     }
 
     // Where a field ends, 0 where there is none.
-    fn end_of(&self, number: usize) -> usize {
+    fn end_of(&self, number: usize) -> usize
+        ensures { result ≤ self.now.size }
+    {
         if number < self.count {
             self.ends.get(number).copied().unwrap_or(0)
         } else {
@@ -150,7 +155,8 @@ impl<'a> Row<'a> {
 
     // A field by its number, from 0: it is empty where there is none.
     pub fn field(&self, number: usize) -> &[u8]
-        ensures { length result.now ≤ length self.now.bytes.now }
+        ensures in_buffer { length result.now ≤ length self.now.bytes.now }
+        ensures in_row { length result.now ≤ self.now.size }
     {
         let start = match number.checked_sub(1) {
             Some(before) => self.end_of(before),
