@@ -76,6 +76,7 @@ fn count_labels(labels: &[u16]) -> Result<Counts, Refused>
 pub fn read_and_count(expr: &[u8], notes: &mut Notes, syntax: Syntax) -> Result<Counts, Refused>
     ensures answer { CheckAnswer (syntax_of syntax) expr.now notes.new.numbers.now result }
     ensures same_buffer { notes.new.numbers.ghost_name ≡ notes.old.numbers.ghost_name }
+    ensures same_length { length notes.new.numbers.now ≡ length notes.old.numbers.now }
 {
     notes.places = false;
     expression(expr, notes, syntax)?;

@@ -32,6 +32,7 @@ pub fn leaf(label: u16, place: usize, next: usize, notes: &mut Notes) -> usize
         notes.new.count notes.new.numbers.now result }
     ensures kind { notes.new.places ≡ notes.old.places }
     ensures same_buffer { notes.new.numbers.ghost_name ≡ notes.old.numbers.ghost_name }
+    ensures same_length { length notes.new.numbers.now ≡ length notes.old.numbers.now }
 {
     notes.put_note(label, place as u16);
     next
@@ -53,6 +54,7 @@ pub fn character(
         notes.old.count notes.old.numbers.now notes.new.count notes.new.numbers.now result }
     ensures kind { notes.new.places ≡ notes.old.places }
     ensures same_buffer { notes.new.numbers.ghost_name ≡ notes.old.numbers.ghost_name }
+    ensures same_length { length notes.new.numbers.now ≡ length notes.old.numbers.now }
 {
     let byte = expr[at];
     if byte == b'\\' {

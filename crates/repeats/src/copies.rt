@@ -1,6 +1,6 @@
 // The labels of an operand, or the places of its nodes, which are noted last, become those of the tree that `+`, `?` or
 // a count makes of it.
-ghost use Rattle.std.specs.Prelude.{[], ◌∷◌, ◌++◌, ◌+◌, ◌-◌, ◌≤◌, ◌≡◌};
+ghost use Rattle.std.specs.Prelude.{[], ◌∷◌, ◌++◌, ◌+◌, ◌-◌, ◌≤◌, ◌≡◌, length};
 ghost use Rattle.language.specs.PlacedStandsFor.{placed_repeated, placed_perhaps, placed_times};
 ghost use Rattle.tree.specs.Leaf.{empty_text};
 ghost use Rattle.repeats.specs.Noted.{note};
@@ -26,6 +26,7 @@ impl Notes<'_> {
             self.new.count self.new.numbers.now }
         ensures kind { self.new.places ≡ self.old.places }
         ensures same_buffer { self.new.numbers.ghost_name ≡ self.old.numbers.ghost_name }
+        ensures same_length { length self.new.numbers.now ≡ length self.old.numbers.now }
     {
         self.put_note(first, place);
         self.put_note(second, place);
@@ -39,6 +40,7 @@ impl Notes<'_> {
             (placed_perhaps empty_text place) self.new.count self.new.numbers.now }
         ensures kind { self.new.places ≡ self.old.places }
         ensures same_buffer { self.new.numbers.ghost_name ≡ self.old.numbers.ghost_name }
+        ensures same_length { length self.new.numbers.now ≡ length self.old.numbers.now }
     {
         self.put_two(EMPTY_LABEL, UNION_LABEL, place);
     }
@@ -50,6 +52,7 @@ impl Notes<'_> {
             self.new.count self.new.numbers.now }
         ensures kind { self.new.places ≡ self.old.places }
         ensures same_buffer { self.new.numbers.ghost_name ≡ self.old.numbers.ghost_name }
+        ensures same_length { length self.new.numbers.now ≡ length self.old.numbers.now }
     {
         if self.count + size > MOST_LABELS {
             self.count = NO_ROOM;
@@ -66,6 +69,7 @@ impl Notes<'_> {
             (placed_repeated place) self.new.count self.new.numbers.now }
         ensures kind { self.new.places ≡ self.old.places }
         ensures same_buffer { self.new.numbers.ghost_name ≡ self.old.numbers.ghost_name }
+        ensures same_length { length self.new.numbers.now ≡ length self.old.numbers.now }
     {
         self.copy_run(begin, self.count - begin);
         self.put_two(STAR_LABEL, CATENATION_LABEL, place);
@@ -78,6 +82,7 @@ impl Notes<'_> {
             (copy_end self.old.places place with_question) self.new.count self.new.numbers.now }
         ensures kind { self.new.places ≡ self.old.places }
         ensures same_buffer { self.new.numbers.ghost_name ≡ self.old.numbers.ghost_name }
+        ensures same_length { length self.new.numbers.now ≡ length self.old.numbers.now }
     {
         if with_question {
             self.perhaps(place);
@@ -93,6 +98,7 @@ impl Notes<'_> {
             self.new.count self.new.numbers.now }
         ensures kind { self.new.places ≡ self.old.places }
         ensures same_buffer { self.new.numbers.ghost_name ≡ self.old.numbers.ghost_name }
+        ensures same_length { length self.new.numbers.now ≡ length self.old.numbers.now }
     {
         for _ in 0..n {
             self.copy_run(begin, size);
@@ -108,6 +114,7 @@ impl Notes<'_> {
             (placed_times empty_text place fewest most) self.new.count self.new.numbers.now }
         ensures kind { self.new.places ≡ self.old.places }
         ensures same_buffer { self.new.numbers.ghost_name ≡ self.old.numbers.ghost_name }
+        ensures same_length { length self.new.numbers.now ≡ length self.old.numbers.now }
     {
         let size = self.count - begin;
         if fewest == 0 {

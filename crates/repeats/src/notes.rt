@@ -55,6 +55,7 @@ impl<'a> Notes<'a> {
             self.new.count self.new.numbers.now }
         ensures kind { self.new.places ≡ self.old.places }
         ensures same_buffer { self.new.numbers.ghost_name ≡ self.old.numbers.ghost_name }
+        ensures same_length { length self.new.numbers.now ≡ length self.old.numbers.now }
     {
         let count = self.count;
         if count >= MOST_LABELS {
@@ -71,6 +72,7 @@ impl<'a> Notes<'a> {
             self.new.count self.new.numbers.now }
         ensures kind { self.new.places ≡ self.old.places }
         ensures same_buffer { self.new.numbers.ghost_name ≡ self.old.numbers.ghost_name }
+        ensures same_length { length self.new.numbers.now ≡ length self.old.numbers.now }
     {
         self.put(note(label, place, self.places));
     }

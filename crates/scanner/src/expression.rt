@@ -1,5 +1,5 @@
 // A whole expression.
-ghost use Rattle.std.specs.Prelude.{◌≡◌};
+ghost use Rattle.std.specs.Prelude.{◌≡◌, length};
 ghost use Rattle.operands.specs.Bytes.{syntax_of};
 ghost use Rattle.scanner.specs.Expression.{ExpressionAnswer};
 
@@ -16,6 +16,7 @@ pub fn expression(expr: &[u8], notes: &mut Notes, syntax: Syntax) -> Result<(), 
         notes.new.numbers.now result }
     ensures kind { notes.new.places ≡ notes.old.places }
     ensures same_buffer { notes.new.numbers.ghost_name ≡ notes.old.numbers.ghost_name }
+    ensures same_length { length notes.new.numbers.now ≡ length notes.old.numbers.now }
 {
     if expr.is_empty() {
         return Err(Refused {

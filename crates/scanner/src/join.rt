@@ -1,5 +1,5 @@
 // The node that joins two parts of a catenation or of a union.
-ghost use Rattle.std.specs.Prelude.{◌≡◌, ◌≤◌};
+ghost use Rattle.std.specs.Prelude.{◌≡◌, ◌≤◌, length};
 ghost use Rattle.tree.specs.Limits.{longest_expression};
 ghost use Rattle.scanner.specs.Rounds.{Joins};
 
@@ -12,6 +12,7 @@ pub fn put_join(notes: &mut Notes, label: u16, at: usize, place: usize)
         notes.new.count notes.new.numbers.now }
     ensures kind { notes.new.places ≡ notes.old.places }
     ensures same_buffer { notes.new.numbers.ghost_name ≡ notes.old.numbers.ghost_name }
+    ensures same_length { length notes.new.numbers.now ≡ length notes.old.numbers.now }
 {
     if place != at {
         notes.put_note(label, place as u16);

@@ -44,6 +44,7 @@ pub fn union(
         notes.old.count notes.old.numbers.now notes.new.count notes.new.numbers.now result }
     ensures kind { notes.new.places ≡ notes.old.places }
     ensures same_buffer { notes.new.numbers.ghost_name ≡ notes.old.numbers.ghost_name }
+    ensures same_length { length notes.new.numbers.now ≡ length notes.old.numbers.now }
 {
     let mut place = at;
     // Each branch says where the next one begins, so this goes from place to place and not by an index.

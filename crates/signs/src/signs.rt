@@ -18,6 +18,7 @@ fn counted(expr: &[u8], at: usize, notes: &mut Notes, begin: usize) -> Result<us
         notes.old.count notes.old.numbers.now notes.new.count notes.new.numbers.now result }
     ensures kind { notes.new.places ≡ notes.old.places }
     ensures same_buffer { notes.new.numbers.ghost_name ≡ notes.old.numbers.ghost_name }
+    ensures same_length { length notes.new.numbers.now ≡ length notes.old.numbers.now }
 {
     let found = count(expr, at).ok_or(Refused {
         refusal: Refusal::CountFaulty,
@@ -36,6 +37,7 @@ fn second_sign(expr: &[u8], at: usize, notes: &mut Notes, begin: usize) -> Resul
         notes.old.count notes.old.numbers.now notes.new.count notes.new.numbers.now result }
     ensures kind { notes.new.places ≡ notes.old.places }
     ensures same_buffer { notes.new.numbers.ghost_name ≡ notes.old.numbers.ghost_name }
+    ensures same_length { length notes.new.numbers.now ≡ length notes.old.numbers.now }
 {
     match expr[at] {
         b'+' => notes.more(begin, at as u16),
@@ -60,6 +62,7 @@ fn sign(
         notes.old.count notes.old.numbers.now notes.new.count notes.new.numbers.now result }
     ensures kind { notes.new.places ≡ notes.old.places }
     ensures same_buffer { notes.new.numbers.ghost_name ≡ notes.old.numbers.ghost_name }
+    ensures same_length { length notes.new.numbers.now ≡ length notes.old.numbers.now }
 {
     if expr[at] == b'*' {
         notes.put_note(STAR_LABEL, at as u16);
@@ -84,6 +87,7 @@ pub fn signs(
         notes.old.count notes.old.numbers.now notes.new.count notes.new.numbers.now result }
     ensures kind { notes.new.places ≡ notes.old.places }
     ensures same_buffer { notes.new.numbers.ghost_name ≡ notes.old.numbers.ghost_name }
+    ensures same_length { length notes.new.numbers.now ≡ length notes.old.numbers.now }
 {
     let mut place = at;
     // Each sign says where the next one begins, so this goes from place to place and not by an index.

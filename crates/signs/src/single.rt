@@ -19,6 +19,7 @@ fn class(expr: &[u8], begin: usize, notes: &mut Notes) -> Result<usize, Refused>
         notes.old.count notes.old.numbers.now notes.new.count notes.new.numbers.now result }
     ensures kind { notes.new.places ≡ notes.old.places }
     ensures same_buffer { notes.new.numbers.ghost_name ≡ notes.old.numbers.ghost_name }
+    ensures same_length { length notes.new.numbers.now ≡ length notes.old.numbers.now }
 {
     let next = class_end(expr, begin).ok_or(Refused {
         refusal: Refusal::ClassFaulty,
@@ -36,6 +37,7 @@ fn second_single(expr: &[u8], at: usize, notes: &mut Notes) -> Result<usize, Ref
         notes.old.count notes.old.numbers.now notes.new.count notes.new.numbers.now result }
     ensures kind { notes.new.places ≡ notes.old.places }
     ensures same_buffer { notes.new.numbers.ghost_name ≡ notes.old.numbers.ghost_name }
+    ensures same_length { length notes.new.numbers.now ≡ length notes.old.numbers.now }
 {
     match expr[at] {
         b'.' => Ok(leaf(class_label(at), at, at + 1, notes)),
@@ -61,6 +63,7 @@ pub fn single(expr: &[u8], at: usize, notes: &mut Notes, syntax: Syntax) -> Resu
         notes.old.count notes.old.numbers.now notes.new.count notes.new.numbers.now result }
     ensures kind { notes.new.places ≡ notes.old.places }
     ensures same_buffer { notes.new.numbers.ghost_name ≡ notes.old.numbers.ghost_name }
+    ensures same_length { length notes.new.numbers.now ≡ length notes.old.numbers.now }
 {
     match syntax {
         Syntax::First => character(expr, at, notes, Syntax::First),

@@ -23,6 +23,7 @@ catenation::catenation-operands-preserved t c =
       omega (arith, r.went.within),
       c.put_join.ensures.kind ∙ kept,
       c.put_join.ensures.same_buffer ∙ (c.operand-reading.ensures.same_buffer ∙ c.operands.invariant.4),
+      c.put_join.ensures.same_length ∙ (c.operand-reading.ensures.same_length ∙ c.operands.invariant.5),
     )
 
 pub operand::operand-returns-then-at-expr-clause-answer : goal.operand::operand-returns-then-at-expr-clause-answer
@@ -86,4 +87,5 @@ union::union-branches-preserved t c =
       omega (arith, r.went.within),
       c.put_join.ensures.kind ∙ kept,
       c.put_join.ensures.same_buffer ∙ (c.catenation-reading.ensures.same_buffer ∙ c.branches.invariant.4),
+      c.put_join.ensures.same_length ∙ (c.catenation-reading.ensures.same_length ∙ c.branches.invariant.5),
     )

@@ -22,6 +22,7 @@ invariant-catenation::catenation-operands l =
     l.initial.notes.numbers.now l.place l.notes.count l.notes.numbers.now
     × (l.at ≤ l.place) × (l.place ≤ length l.expr) × (l.notes.places ≡ l.initial.notes.places)
     × (l.notes.numbers.ghost_name ≡ l.initial.notes.numbers.ghost_name)
+    × (length l.notes.numbers.now ≡ length l.initial.notes.numbers.now)
 
 abbrev pub decreases-catenation::catenation-operands : goal.decreases-catenation::catenation-operands
 decreases-catenation::catenation-operands l = length l.expr - l.place
@@ -32,6 +33,7 @@ invariant-union::union-branches l =
     l.initial.notes.numbers.now l.place l.notes.count l.notes.numbers.now
     × (l.at ≤ l.place) × (l.place ≤ length l.expr) × (l.notes.places ≡ l.initial.notes.places)
     × (l.notes.numbers.ghost_name ≡ l.initial.notes.numbers.ghost_name)
+    × (length l.notes.numbers.now ≡ length l.initial.notes.numbers.now)
 
 abbrev pub decreases-union::union-branches : goal.decreases-union::union-branches
 decreases-union::union-branches l = length l.expr - l.place

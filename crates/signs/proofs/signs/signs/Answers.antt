@@ -34,6 +34,7 @@ loop-place-preserved c =
       c.sign.ensures.kind ∙ c.loop-place.invariant.2,
       one_more c.loop-place.invariant.3 o c.if-next-place.false,
       c.sign.ensures.same_buffer ∙ c.loop-place.invariant.4,
+      c.sign.ensures.same_length ∙ c.loop-place.invariant.5,
     )
 
 pub returns-then-next-place-clause-answer : goal.returns-then-next-place-clause-answer

@@ -12,6 +12,7 @@ invariant-loop-place l =
     × ((depth : ℕ) → Carries (syntax_of l.syntax) l.initial.notes.places starred l.expr depth l.begin l.initial.place
     l.initial.notes.count l.initial.notes.numbers.now l.place l.notes.count l.notes.numbers.now)
     × (l.notes.numbers.ghost_name ≡ l.initial.notes.numbers.ghost_name)
+    × (length l.notes.numbers.now ≡ length l.initial.notes.numbers.now)
 
 abbrev pub decreases-loop-place : goal.decreases-loop-place
 decreases-loop-place l = length l.expr - l.place

@@ -18,4 +18,5 @@ loop-preserved c =
       onward = omega (arith, c.loop.invariant.onward, a.onward, b.onward);
       kind = c.end_copy.ensures.kind ∙ kept;
       same_buffer = c.end_copy.ensures.same_buffer ∙ (c.copy_run.ensures.same_buffer ∙ c.loop.invariant.same_buffer);
+      same_length = c.end_copy.ensures.same_length ∙ (c.copy_run.ensures.same_length ∙ c.loop.invariant.same_length);
     }

@@ -1,5 +1,5 @@
 -- The loop's invariant: so many copies follow as the loop went round.
-use Rattle.std.proofs.Common.{◌++◌, ◌≤◌, ◌≡◌}
+use Rattle.std.proofs.Common.{◌++◌, ◌≤◌, ◌≡◌, length}
 use Rattle.repeats.specs.Labelled.{Copies, copy_end, copied}
 use Rattle.repeats.proofs.notes.Notes.follow.Given as goal
 
@@ -12,4 +12,5 @@ invariant-loop l =
       onward : l.initial.self.count ≤ l.self.count;
       kind : l.self.places ≡ l.initial.self.places;
       same_buffer : l.self.numbers.ghost_name ≡ l.initial.self.numbers.ghost_name;
+      same_length : length l.self.numbers.now ≡ length l.initial.self.numbers.now;
     }
