@@ -37,3 +37,26 @@ pub fn check_second(expr: &[u8]) -> Result<Counts, Refused>
 {
     check_by(expr, Syntax::Second)
 }
+
+#[cfg(test)]
+mod tests {
+    use super::*;
+    use std::test::Fail;
+
+    #[test]
+    fn counts_with_lent_notes(rt: HostRuntime) -> Result<(), Fail> {
+        let mut numbers = [0u16; MOST_LABELS];
+        let mut notes = Notes::new(&mut numbers, false);
+        let counts = Counts {
+            records: 5,
+            pieces: 1,
+            classes: 1,
+        };
+        assert_eq!(rt;
+            read_and_count(b"a.b", &mut notes, Syntax::Second),
+            Ok(counts)
+        );
+        assert_eq!(rt; notes.numbers.len(), MOST_LABELS);
+        Ok(())
+    }
+}
